@@ -1,0 +1,6 @@
+pub mod Sums
+pub mod Readings
+pub mod Sizes
+pub mod Fitting
+pub mod Seen
+pub mod Stacks

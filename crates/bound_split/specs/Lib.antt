@@ -1,0 +1,4 @@
+pub mod Lengths
+pub mod Decisions
+pub mod Leaves
+pub mod Squares

@@ -1,0 +1,15 @@
+pub mod Ring
+pub mod Floor
+pub mod Weights
+pub mod Sat
+pub mod Root
+pub mod Bounds
+pub mod Logs
+pub mod Exps
+pub mod Units
+pub mod Products
+pub mod Texts
+pub mod Mixes
+pub mod Blossoms
+pub mod Tensors
+pub mod Fits

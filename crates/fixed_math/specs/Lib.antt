@@ -1,0 +1,11 @@
+pub mod Whole
+pub mod Fixed
+pub mod Root
+pub mod Hash
+pub mod Sine
+pub mod Power
+pub mod Unit
+pub mod Axes
+pub mod Blossom
+pub mod Tensor
+pub mod formers

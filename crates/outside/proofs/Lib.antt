@@ -1,0 +1,9 @@
+pub mod Lookups
+pub mod Fetching
+pub mod Spans
+pub mod Texts
+pub mod Lines
+pub mod Puts
+pub mod Entries
+pub mod Saying
+pub mod Asking

@@ -1,0 +1,9 @@
+pub mod Rects
+pub mod Parts
+pub mod Lists
+pub mod Nets
+pub mod Slopes
+pub mod Boxes
+pub mod BoxLaws
+pub mod ListLaws
+pub mod Patches

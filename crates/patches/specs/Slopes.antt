@@ -1,0 +1,49 @@
+-- Partial derivatives of patches in Bernstein form, per unit of the parameter: each one floor of one exact fraction.
+-- That of degree n is n times the sum of the weights of degree n - 1 times the differences of neighbouring control numbers.
+use Rattle.std.specs.Prelude.{ℕ, ◌≤◌, ◌+◌, ℤ, pos, neg_ℤ, ◌-ℤ◌, List, [], ◌∷◌, unsigned_abs, slice_index_or, ◌≡◌, refl}
+use Rattle.fixed_math.specs.declared.vec3.Vec3.{Vec3}
+use Rattle.fixed_math.specs.declared.vec3.Axis.{Axis}
+use Rattle.fixed_math.specs.declared.vec3.Axis.TheVariants.{X, Y, Z}
+use Rattle.fixed_math.specs.Axes.{by_axes, origin}
+use Rattle.fixed_math.specs.Blossom.{unit}
+use Rattle.fixed_math.specs.Tensor.{weighted_net, weights_1}
+use Rattle.fixed_math.specs.Whole.{floor_by}
+use Rattle.patches.specs.Nets.{control}
+
+-- the differences of neighbours in a row and in a column
+abbrev pub steps_u : (ℕ → ℕ → ℤ) → ℕ → ℕ → ℤ
+steps_u c x y = c (x + 1) y -ℤ c x y
+
+abbrev pub steps_v : (ℕ → ℕ → ℤ) → ℕ → ℕ → ℤ
+steps_v c x y = c x (y + 1) -ℤ c x y
+
+-- the Bernstein weights of degree 0
+abbrev pub weights_0 : List ℕ
+weights_0 = 1 ∷ []
+
+-- a number for each axis
+abbrev pub triple : (Axis → ℤ) → List ℤ
+triple f = f X ∷ f Y ∷ f Z ∷ []
+
+abbrev pub bilinear_du : List Vec3 → ℕ → ℕ → List ℤ
+bilinear_du ps u v = triple (λ a. floor_by (weighted_net weights_0 (weights_1 v) (steps_u (control 2 ps a))) unit)
+
+abbrev pub bilinear_dv : List Vec3 → ℕ → ℕ → List ℤ
+bilinear_dv ps u v = triple (λ a. floor_by (weighted_net (weights_1 u) weights_0 (steps_v (control 2 ps a))) unit)
+
+-- each number has a magnitude of at most m
+abbrev pub AreBelow : ℕ → List ℤ → Type 0
+AreBelow m zs = (k : ℕ) → unsigned_abs (slice_index_or zs k (pos 0)) ≤ m
+
+-- worked values: only the corner at u = 1, v = 1 is raised, by 3
+abbrev raised : List Vec3
+raised = origin ∷ origin ∷ origin ∷ by_axes (λ _. pos 3) ∷ []
+
+du_of_raised : bilinear_du raised 4096 2048 ≡ triple (λ _. pos 1)
+du_of_raised = refl
+
+dv_of_raised : bilinear_dv raised 4096 2048 ≡ triple (λ _. pos 3)
+dv_of_raised = refl
+
+du_rounded_down : bilinear_du (origin ∷ origin ∷ origin ∷ by_axes (λ _. neg_ℤ (pos 3)) ∷ []) 0 2048 ≡ triple (λ _. neg_ℤ (pos 2))
+du_rounded_down = refl

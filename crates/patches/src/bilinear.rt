@@ -1,0 +1,181 @@
+ghost use Rattle.std.specs.Prelude.{◌≡◌, ◌≤◌, ◌<◌, ◌*◌, ◌^◌, ℕ, ℤ, List, [], ◌∷◌, length, unsigned_abs, slice_index_or};
+ghost use Rattle.fixed_math.specs.declared.vec3.Vec3.{Vec3};
+ghost use Rattle.fixed_math.specs.Axes.{AreWithin, part_of, origin};
+ghost use Rattle.fixed_math.specs.Blossom.{unit};
+ghost use Rattle.fixed_math.specs.Tensor.{blossom_net, weighted_net, weights_1};
+ghost use Rattle.fixed_math.specs.Whole.{floor_by as floor_of};
+ghost use Rattle.patches.specs.Boxes.{IsWithin};
+ghost use Rattle.patches.specs.BoxLaws.{bilinear_box, bilinear_inside, bilinear_parts, bilinear_rows};
+ghost use Rattle.patches.specs.Nets.{control, blossom_point, bilinear_point, bilinear_net};
+ghost use Rattle.patches.specs.Slopes.{bilinear_du, bilinear_dv, weights_0, steps_u, steps_v, AreBelow};
+
+use crate::boxes::box_of_points;
+use crate::mixing::{mix, slope};
+use crate::piece::{Dyadic, Piece, span_at};
+use crate::surface::Surface;
+use arrayvec::ArrayVec;
+use fixed_math::{Axis, Num, Vec3, floor_by};
+use std::marker::Model;
+
+/// The bilinear patch of four points (RenderMan Interface 3.2, section 5.2, `Patch "bilinear"`), in the order (0,0), (1,0), (0,1), (1,1)
+/// of u and v. Contracts see it as the list of its points.
+#[derive(Drop)]
+pub struct Bilinear {
+    points: [Vec3; 4],
+}
+
+impl Model for Bilinear {
+    ghost Value = { List Vec3 };
+
+    ghost view = { λ b. b.points };
+
+    ghost invariant = { λ b. AreWithin (2 ^ 30) b.points };
+}
+
+impl Bilinear {
+    /// The patch of these points, of raw coordinates with a magnitude of at most 2^30.
+    pub fn new(p: [Vec3; 4]) -> Bilinear
+        requires { AreWithin (2 ^ 30) p }
+        ensures { result ≡ p }
+    {
+        Bilinear { points: p }
+    }
+}
+
+/// A coordinate of control point `k`.
+fn control_at(points: &[Vec3; 4], axis: Axis, k: usize) -> i128
+    requires { k < 4 }
+    ensures value { result ≡ part_of axis (slice_index_or points.now k origin) }
+    ensures bound { unsigned_abs result ≤ 2 ^ 31 }
+{
+    points[k].part(axis).raw() as i128
+}
+
+/// The coordinate at `u` and `v`, times 4096 twice.
+fn exact(points: &[Vec3; 4], axis: Axis, u: u16, v: u16) -> i128
+    requires across { u ≤ 4096 }
+    requires up { v ≤ 4096 }
+    ensures value { result ≡ blossom_net (u ∷ []) (v ∷ []) (control 2 points.now axis) }
+    ensures bound { unsigned_abs result ≤ 2 ^ 55 }
+{
+    let a = control_at(points, axis, 0);
+    let b = control_at(points, axis, 1);
+    let c = control_at(points, axis, 2);
+    let d = control_at(points, axis, 3);
+    let bottom = mix(u, a, b);
+    let top = mix(u, c, d);
+    mix(v, bottom, top)
+}
+
+/// The coordinate at `u` and `v`, rounded down once.
+fn coordinate_at(points: &[Vec3; 4], axis: Axis, u: u16, v: u16) -> Num
+    requires small { AreWithin (2 ^ 30) points.now }
+    requires across { u ≤ 4096 }
+    requires up { v ≤ 4096 }
+    ensures { result ≡ floor_of (blossom_net (u ∷ []) (v ∷ []) (control 2 points.now axis)) (unit ^ 2) }
+{
+    Num::sat(floor_by(exact(points, axis, u, v), 1 << 24))
+}
+
+/// The point at `u` and `v`.
+fn point_at(points: &[Vec3; 4], u: u16, v: u16) -> Vec3
+    requires small { AreWithin (2 ^ 30) points.now }
+    requires across { u ≤ 4096 }
+    requires up { v ≤ 4096 }
+    ensures value { result ≡ blossom_point 2 (unit ^ 2) points.now (u ∷ []) (v ∷ []) }
+    ensures small { IsWithin (2 ^ 30) result }
+{
+    Vec3 {
+        x: coordinate_at(points, Axis::X, u, v),
+        y: coordinate_at(points, Axis::Y, u, v),
+        z: coordinate_at(points, Axis::Z, u, v),
+    }
+}
+
+/// The slope along u of a coordinate at `v`, rounded down once.
+fn slope_along_u(points: &[Vec3; 4], axis: Axis, v: u16) -> i64
+    requires { v ≤ 4096 }
+    ensures value { result ≡ floor_of (weighted_net weights_0 (weights_1 v) (steps_u (control 2 points.now axis))) unit }
+    ensures bound { unsigned_abs result ≤ 2 ^ 32 }
+{
+    let a = control_at(points, axis, 0);
+    let b = control_at(points, axis, 1);
+    let c = control_at(points, axis, 2);
+    let d = control_at(points, axis, 3);
+    slope(v, a, b, c, d)
+}
+
+/// The slope along v of a coordinate at `u`, rounded down once.
+fn slope_along_v(points: &[Vec3; 4], axis: Axis, u: u16) -> i64
+    requires { u ≤ 4096 }
+    ensures value { result ≡ floor_of (weighted_net (weights_1 u) weights_0 (steps_v (control 2 points.now axis))) unit }
+    ensures bound { unsigned_abs result ≤ 2 ^ 32 }
+{
+    let a = control_at(points, axis, 0);
+    let b = control_at(points, axis, 1);
+    let c = control_at(points, axis, 2);
+    let d = control_at(points, axis, 3);
+    slope(u, a, c, b, d)
+}
+
+impl Surface for Bilinear {
+    ghost point_of = { bilinear_point };
+
+    ghost du_of = { bilinear_du };
+
+    ghost dv_of = { bilinear_dv };
+
+    ghost net_of = { bilinear_net };
+
+    ghost width_of = { λ _. 2 };
+
+    ghost box_in = { bilinear_box };
+
+    ghost inside = { bilinear_inside };
+
+    ghost parts = { bilinear_parts };
+
+    ghost rows = { bilinear_rows };
+
+    fn point(&self, u: Dyadic, v: Dyadic) -> Vec3 {
+        point_at(&self.points, u.numerator(), v.numerator())
+    }
+
+    fn du_at(&self, _: Dyadic, v: Dyadic) -> [i64; 3] {
+        let v = v.numerator();
+        [
+            slope_along_u(&self.points, Axis::X, v),
+            slope_along_u(&self.points, Axis::Y, v),
+            slope_along_u(&self.points, Axis::Z, v),
+        ]
+    }
+
+    fn dv_at(&self, u: Dyadic, _: Dyadic) -> [i64; 3] {
+        let u = u.numerator();
+        [
+            slope_along_v(&self.points, Axis::X, u),
+            slope_along_v(&self.points, Axis::Y, u),
+            slope_along_v(&self.points, Axis::Z, u),
+        ]
+    }
+
+    fn net(&self, piece: &Piece) -> ArrayVec<Vec3, 16> {
+        let across = span_at(piece.a, piece.i);
+        let up = span_at(piece.b, piece.j);
+        let mut net = ArrayVec::new();
+        net.push(point_at(&self.points, across.low, up.low));
+        net.push(point_at(&self.points, across.high, up.low));
+        net.push(point_at(&self.points, across.low, up.high));
+        net.push(point_at(&self.points, across.high, up.high));
+        net
+    }
+
+    fn net_width(&self) -> usize {
+        2
+    }
+
+    fn box_of(&self, piece: &Piece) -> [Vec3; 2] {
+        let net = self.net(piece);
+        box_of_points(net.as_slice())
+    }
+}

@@ -1,0 +1,16 @@
+//! Parametric surfaces: points, derivatives, control nets and boxes at parameters that are whole numerators over 4096.
+#![tactic(auto)]
+
+mod bilinear;
+mod boxes;
+mod mixing;
+mod patch;
+mod piece;
+mod surface;
+#[cfg(test)]
+mod tests;
+
+pub use bilinear::Bilinear;
+pub use patch::Patch;
+pub use piece::{Dyadic, Piece};
+pub use surface::Surface;

@@ -1,0 +1,54 @@
+-- Numbers of corners and pixels, by rows.
+use Rattle.std.proofs.Common.{◌≡◌, ℕ, ◌+◌, ◌-◌, ◌*◌, ◌/◌, ◌%◌, ◌<◌, ◌≤◌, arith, ◌∙◌, ap}
+use Rattle.std.proofs.Math.Nat.{mod-lt, div-lt_iff_lt-mul, le-div_iff_mul-le, mul-le-mul_right, add-mul, mul_comm, mod-eq-sub-div-mul, div-eq_of_lt-le}
+use Rattle.picture.specs.Cells.{first_corner}
+
+-- the corners of a cell are points of the grid
+pub corner_inside : (columns rows i : ℕ) → 2 ≤ columns → 2 ≤ rows → i < (columns - 1) * (rows - 1) → first_corner columns i + columns + 1 < columns * rows
+corner_inside columns rows i hc hr h =
+    let m = columns - 1 in
+    let q = i / m in
+    let r = i % m in
+    let some : 0 < m = omega arith in
+    let low : r < m = mod-lt i some in
+    let turned : (columns - 1) * (rows - 1) ≡ (rows - 1) * m = mul_comm m (rows - 1) in
+    let high : q < rows - 1 = (div-lt_iff_lt-mul {k = m} {x = i} {y = rows - 1} some).1 (omega (arith, h, turned)) in
+    let two : q + 2 ≤ rows = omega (arith, high) in
+    let room : (q + 2) * columns ≤ rows * columns = mul-le-mul_right columns two in
+    let parts : (q + 2) * columns ≡ q * columns + 2 * columns = add-mul q 2 columns in
+    let whole : columns * rows ≡ rows * columns = mul_comm columns rows in
+    omega (arith, low, room, parts, whole)
+
+-- the samples before those of pixel a, and those from them on
+pub before_pixel : (n k a : ℕ) → 0 < k → n < a * k → n / k < a
+before_pixel n k a h l = (div-lt_iff_lt-mul {k = k} {x = n} {y = a} h).1 l
+
+pub from_pixel : (n k a : ℕ) → 0 < k → a * k ≤ n → a ≤ n / k
+from_pixel n k a h l = (le-div_iff_mul-le {k = k} {x = a} {y = n} h).1 l
+
+-- the row and the column of a pixel
+pub record IsAt (q w row column : ℕ) : Type 0 where
+  pub in_row : q / w ≡ row
+  pub in_column : q % w ≡ column
+
+pub row_of : (q w row : ℕ) → 0 < w → row * w ≤ q → q < row * w + w → IsAt q w row (q - row * w)
+row_of q w row some low high =
+    let wide : (row + 1) * w ≡ row * w + 1 * w = add-mul row (1) w in
+    let d : q / w ≡ row = div-eq_of_lt-le {k = row} w {m = q} low (omega (arith, high, wide)) in
+    let m : q % w ≡ q - q / w * w = mod-eq-sub-div-mul q w in
+    record { in_row = d; in_column = m ∙ ap (λ r. q - r * w) d }
+
+-- the end of a part of a row lies within the frame
+pub part_inside : (row w h column k : ℕ) → row < h → column ≤ w → (row * w + column) * k ≤ w * h * k
+part_inside row w h column k hr hc =
+    let wide : (row + 1) * w ≡ row * w + 1 * w = add-mul row (1) w in
+    let high : (row + 1) * w ≤ h * w = mul-le-mul_right w (omega arith) in
+    let turned : w * h ≡ h * w = mul_comm w h in
+    mul-le-mul_right k (omega (arith, wide, high, turned))
+
+-- the number of samples of a part of a row
+pub part_length : (row w left right k : ℕ) → right ≤ left + 17 → k ≤ 256 → (row * w + right) * k ≤ (row * w + left) * k + 4352
+part_length row w left right k h g =
+    let far : (row * w + right) * k ≤ (row * w + left + 17) * k = mul-le-mul_right k (omega arith) in
+    let parts : (row * w + left + 17) * k ≡ (row * w + left) * k + 17 * k = add-mul (row * w + left) 17 k in
+    omega (arith, far, parts)

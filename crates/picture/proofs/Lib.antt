@@ -1,0 +1,16 @@
+pub mod Small
+pub mod Around
+pub mod Depths
+pub mod Places
+pub mod Cuts
+pub mod Orders
+pub mod Means
+pub mod Filters
+pub mod Grids
+pub mod Sweeps
+pub mod Reaches
+pub mod Sights
+pub mod Outside
+pub mod InRows
+pub mod Within
+pub mod Pushes

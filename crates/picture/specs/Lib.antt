@@ -1,0 +1,12 @@
+pub mod Spots
+pub mod Coverage
+pub mod Fragments
+pub mod Composite
+pub mod Settings
+pub mod Weight
+pub mod Mean
+pub mod Levels
+pub mod Cells
+pub mod Film
+pub mod Window
+pub mod Bounding

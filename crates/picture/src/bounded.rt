@@ -1,0 +1,68 @@
+ghost use Rattle.std.specs.Prelude.{◌≡◌};
+ghost use Rattle.picture.specs.declared.quad.Quad.{Quad};
+ghost use Rattle.picture.specs.Bounding.{HoldsCorners};
+ghost use Rattle.picture.specs.Fragments.{fragment_of};
+
+use crate::bounds::{Bounds, greatest_of, least_of};
+use crate::fragment::Fragment;
+use crate::order::fragment_of;
+use crate::place::Place;
+use crate::quad::Quad;
+use std::marker::Model;
+
+/// A micropolygon with a box that holds its corners. Contracts see it as the micropolygon.
+#[derive(Drop)]
+pub struct BoundedQuad {
+    quad: Quad,
+    bounds: Bounds,
+}
+
+impl Model for BoundedQuad {
+    ghost Value = { Quad };
+
+    ghost view = { λ b. b.quad };
+
+    ghost invariant = { λ b. HoldsCorners b.bounds b.quad };
+}
+
+/// A box that holds the corners of the micropolygon.
+pub fn bounds_of(quad: &Quad) -> Bounds
+    ensures { HoldsCorners result quad.now }
+{
+    let [a, b, c, d] = [quad.a.place, quad.b.place, quad.c.place, quad.d.place];
+    Bounds {
+        left: least_of(a.x(), b.x(), c.x(), d.x()),
+        right: greatest_of(a.x(), b.x(), c.x(), d.x()),
+        top: least_of(a.y(), b.y(), c.y(), d.y()),
+        bottom: greatest_of(a.y(), b.y(), c.y(), d.y()),
+    }
+}
+
+impl BoundedQuad {
+    /// The micropolygon with its box.
+    pub fn new(quad: Quad) -> BoundedQuad
+        ensures { result ≡ quad }
+    {
+        let bounds = bounds_of(&quad);
+        BoundedQuad { quad, bounds }
+    }
+
+    /// What the micropolygon shows at the place `s`, where it covers it: `fragment_of`, after a look at the box.
+    pub fn fragment_at(&self, s: Place) -> Option<Fragment>
+        ensures { result ≡ fragment_of self.now s }
+    {
+        if s.x() < self.bounds.left {
+            return None;
+        }
+        if self.bounds.right < s.x() {
+            return None;
+        }
+        if s.y() < self.bounds.top {
+            return None;
+        }
+        if self.bounds.bottom < s.y() {
+            return None;
+        }
+        fragment_of(&self.quad, s)
+    }
+}

@@ -1,0 +1,40 @@
+-- The words of the command, as clap reads them.
+use Rattle.std.specs.Prelude.{List, [], ◌∷◌, codes, Option, Some, None, true, if◌then◌else◌}
+use Rattle.std.specs.Str.{bytes_eq}
+use Rattle.clap.specs.Faults.{fault_of}
+use Rattle.clap.specs.Simple.{App, matches_of, new_app, new_rule, with_rule}
+use Rattle.clap.specs.Walk.{Text, Row, Rule, first_of, is_empty}
+use Rattle.clap.specs.declared.builder.action.ArgAction.TheVariants.{SetTrue}
+use Rattle.clap.specs.declared.builder.value_parser.ValueParser.TheVariants.{Unsigned}
+
+abbrev pub action_rule : Rule
+action_rule = record (new_rule (codes "action")) { required = true }
+
+abbrev pub name_rule : Rule
+name_rule = record (new_rule (codes "name")) { required = true }
+
+abbrev pub bucket_rule : Rule
+bucket_rule = record (new_rule (codes "bucket")) { long = Some (codes "bucket"); parser = Some (Unsigned 4 64); defaults = codes "16" ∷ [] }
+
+abbrev pub grid_points_rule : Rule
+grid_points_rule = record (new_rule (codes "grid-points")) { long = Some (codes "grid-points"); parser = Some (Unsigned 289 1000000); defaults = codes "65536" ∷ [] }
+
+abbrev pub stats_rule : Rule
+stats_rule = record (new_rule (codes "stats")) { long = Some (codes "stats"); action = Some SetTrue }
+
+-- the command: reyes ACTION NAME [--bucket B] [--grid-points G] [--stats]
+abbrev pub reyes : App
+reyes = with_rule (with_rule (with_rule (with_rule (with_rule (new_app (codes "reyes")) action_rule) name_rule) bucket_rule) grid_points_rule) stats_rule
+
+-- the name, where the action is one that is built
+abbrev pub name_for : Option Text → Option Text → Option Text
+name_for None name = None
+name_for (Some action) None = None
+name_for (Some action) (Some name) = if bytes_eq action (codes "render") then Some name else None
+
+abbrev pub name_in : List Row → Option Text
+name_in rows = name_for (first_of (codes "action") rows) (first_of (codes "name") rows)
+
+-- the name of the scene in a command's words, where clap finds no fault in them; a call for help is a fault too
+abbrev pub name_of : List Text → Option Text
+name_of words = if is_empty (fault_of reyes words) then name_in (matches_of reyes words) else None

@@ -1,0 +1,46 @@
+//! The program `reyes`: the renderer over real files and standard error.
+#![tactic(auto)]
+
+use fixed_math::NoMemory;
+use outside::{FileLibrary, FileSink, StderrNotes};
+use render::run;
+use std::alloc::Global;
+use std::env;
+use std::process::ExitCode;
+use std::rt::Env;
+
+/// The words that the program was started with. A word that isn't text is left out, and the command is then refused.
+fn words<R: Env + AllocGlobal>(rt: &R) -> Result<Vec<String>, NoMemory> {
+    let mut words = Vec::new(rt.alloc());
+    if let Ok(args) = env::args(rt) {
+        for word in args {
+            words.push(word)?;
+        }
+    }
+    Ok(words)
+}
+
+/// The words as texts.
+fn texts(alloc: Global, words: &[String]) -> Result<Vec<&str>, NoMemory> {
+    let mut texts = Vec::new(alloc);
+    for word in words {
+        texts.push(word.as_str())?;
+    }
+    Ok(texts)
+}
+
+/// The status of a command for which there was no memory.
+const NO_MEMORY: u8 = 9;
+
+fn main(rt: HostRuntime) -> ExitCode {
+    let Ok(words) = words(&rt) else {
+        return ExitCode::from(NO_MEMORY);
+    };
+    let Ok(texts) = texts(rt.alloc(), &words) else {
+        return ExitCode::from(NO_MEMORY);
+    };
+    let mut library = FileLibrary::new(&rt);
+    let mut frames = FileSink::new(&rt);
+    let mut notes = StderrNotes::new(rt.stderr());
+    ExitCode::from(run(rt.alloc(), &texts, &mut library, &mut frames, &mut notes))
+}

@@ -1,0 +1,10 @@
+pub mod Bytes
+pub mod Decimal
+pub mod Strings
+pub mod StringAnswers
+pub mod Digits
+pub mod Numbers
+pub mod Found
+pub mod Tokens
+pub mod Joined
+pub mod Spelling

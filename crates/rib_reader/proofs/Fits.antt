@@ -1,0 +1,412 @@
+-- What it means for the arguments and the list of a request that no code stands in them.
+use Rattle.std.proofs.Common.{◌≡◌, ℕ, zero, suc, ◌∷◌, [], List, ℤ, pos, ◌≤ℤ◌, ◌<ℤ◌, Option, Some, None, length, Bool, true, false, not, ◌&&◌, ◌||◌, refl, sym, ap, ◌∙◌, nat_le, int_lt, cond, is_some, option_map, arith}
+use Rattle.std.proofs.lemmas.Int.{ints}
+use Rattle.std.specs.List.{slice_get}
+use Rattle.rib_lex.specs.declared.decimal.Decimal.{Decimal}
+use Rattle.rib_lex.specs.Decimal.{num, whole}
+use Rattle.rib_reader.specs.declared.args.Arg.{Arg}
+use Rattle.rib_reader.specs.declared.args.Arg.TheVariants.{Number, Str, Numbers, Strings}
+use Rattle.rib_reader.specs.declared.params.Param.{Param}
+use Rattle.rib_reader.specs.declared.req.Req.{Req}
+use Rattle.rib_reader.specs.declared.req.Req.TheVariants.{Quantize}
+use Rattle.rib_reader.specs.declared.table.Shape.{Shape}
+use Rattle.rib_reader.specs.declared.table.Shape.TheVariants as shapes
+use Rattle.rib_reader.specs.declared.table.Words.{Words}
+use Rattle.rib_reader.specs.declared.table.Rule.{Rule}
+use Rattle.rib_reader.specs.declared.table.Rule.TheVariants.{Within, AtLeast, Rising, OneOf, NoneOf, Levels}
+use Rattle.rib_reader.specs.declared.table.Words.TheVariants.{Modes, Bicubic}
+use Rattle.rib_reader.specs.declared.table.Tail.{Tail}
+use Rattle.rib_reader.specs.declared.table.Tail.TheVariants as tails
+use Rattle.rib_reader.specs.declared.follows.Follows.{Follows}
+use Rattle.rib_reader.specs.declared.follows.Follows.TheVariants as follows
+use Rattle.rib_reader.specs.declared.params.Kind.{Kind}
+use Rattle.rib_reader.specs.declared.params.Kind.TheVariants as kinds
+use Rattle.rib_reader.specs.declared.params.Values.{Values}
+use Rattle.rib_reader.specs.declared.params.Values.TheVariants as held
+use Rattle.rib_reader.specs.declared.faults.RibCode.{RibCode}
+use Rattle.rib_reader.specs.declared.faults.RibCode.TheVariants.{S2, S3}
+use Rattle.rib_reader.specs.Table.{row_of, shapes_of, rules_of, words_in}
+use Rattle.rib_reader.specs.Rules.{rank, lower, when, are_whole, fits, fit, word_in, word_at, number_in, raw_at, whole_in, whole_at, numbers_in, numbers_at, is_outside, is_below, is_not_less, is_among, is_one, is_none_of, rule_code, rules_from, args_code, levels_code, tail_with, follows_of}
+use Rattle.rib_reader.specs.Lists.{is_points, needed, is_as_needed, is_vertex, kind_code, has_points, is_geometry, numbers_held, points_from, points_in, is_of_kind, own_code, param_code, params_from, whole_code, params_code, request_code}
+
+some_either : (t : Bool) (a b : RibCode) → cond t (Some a) (Some b) ≡ None → ⊥
+some_either true a b e = cc
+some_either false a b e = cc
+
+pub lower_none : (a b : Option RibCode) → lower a b ≡ None → (a ≡ None) × (b ≡ None)
+lower_none None b e = (refl, e)
+lower_none (Some a) None e = (e, refl)
+lower_none (Some a) (Some b) e = absurd (some_either (nat_le (rank a) (rank b)) a b e)
+
+pub when_none : (t : Bool) (code : RibCode) → when t code ≡ None → t ≡ false
+when_none true code e = absurd cc
+when_none false code e = refl
+
+not_false : (t : Bool) → not t ≡ false → t ≡ true
+not_false true e = refl
+not_false false e = absurd cc
+
+and_left : (a b : Bool) → (a && b) ≡ true → a ≡ true
+and_left true b e = refl
+and_left false b e = absurd cc
+
+and_right : (a b : Bool) → (a && b) ≡ true → b ≡ true
+and_right true b e = e
+and_right false b e = absurd cc
+
+or_left : (a b : Bool) → (a || b) ≡ false → a ≡ false
+or_left true b e = absurd cc
+or_left false b e = refl
+
+or_right : (a b : Bool) → (a || b) ≡ false → b ≡ false
+or_right true b e = absurd cc
+or_right false b e = e
+
+same_rule : (q r : Rule) → Some q ≡ Some r → q ≡ r
+same_rule q r e = cc
+
+-- no code stands in the rules of a row: none was met before, and each of them holds
+rules_hold : (code : Option RibCode) (rs : List Rule) (args : List Arg) → rules_from code rs args ≡ None
+    → (code ≡ None) × ((k : ℕ) (r : Rule) → slice_get rs k ≡ Some r → rule_code r args ≡ None)
+rules_hold code [] args e = (e, λ k r there. absurd (nothing k r there))
+  where
+    nothing : (k : ℕ) (r : Rule) → slice_get [] k ≡ Some r → ⊥
+    nothing k r there = cc
+rules_hold code (q ∷ rs) args e =
+    let rest = rules_hold (lower code (rule_code q args)) rs args e in
+    let both = lower_none code (rule_code q args) rest.0 in
+    (both.0, at both.1 rest.1)
+  where
+    at : rule_code q args ≡ None → ((k : ℕ) (r : Rule) → slice_get rs k ≡ Some r → rule_code r args ≡ None)
+        → (k : ℕ) (r : Rule) → slice_get (q ∷ rs) k ≡ Some r → rule_code r args ≡ None
+    at first others zero r there = rw (same_rule q r there) at first
+    at first others (suc k) r there = others k r there
+
+args_stand : (name : Req) (args : List Arg) (params : List Param) → request_code name args params ≡ None
+    → (when (not (fit (shapes_of name) args)) S3 ≡ None) × ((k : ℕ) (r : Rule) → slice_get (rules_of name) k ≡ Some r → rule_code r args ≡ None)
+args_stand name args params e =
+    rules_hold (when (not (fit (shapes_of name) args)) S3) (rules_of name) args (lower_none (args_code name args) (params_code (follows_of name args) params) e).0
+
+-- each rule of the row holds
+pub rule_holds : (name : Req) (args : List Arg) (params : List Param) → request_code name args params ≡ None
+    → (k : ℕ) (r : Rule) → slice_get (rules_of name) k ≡ Some r → rule_code r args ≡ None
+rule_holds name args params e = (args_stand name args params e).1
+
+-- the arguments are of the row's kinds
+pub args_fit : (name : Req) (args : List Arg) (params : List Param) → request_code name args params ≡ None → fit (shapes_of name) args ≡ true
+args_fit name args params e =
+    not_false (fit (shapes_of name) args) (when_none (not (fit (shapes_of name) args)) S3 (args_stand name args params e).0)
+
+same_some : (s t : Shape) → Some s ≡ Some t → s ≡ t
+same_some s t e = cc
+
+-- an argument of its kind stands at each place of the row
+fit_at : (ss : List Shape) (args : List Arg) (n : ℕ) (s : Shape) → fit ss args ≡ true → slice_get ss n ≡ Some s
+    → (a : Arg) × (slice_get args n ≡ Some a) × (fits s a ≡ true)
+fit_at [] args n s f h = absurd cc
+fit_at (t ∷ ss) [] n s f h = absurd cc
+fit_at (t ∷ ss) (a ∷ rest) zero s f h = (a, refl, rw (sym (same_some t s h)) (and_left (fits t a) (fit ss rest) f))
+fit_at (t ∷ ss) (a ∷ rest) (suc n) s f h = fit_at ss rest n s (and_right (fits t a) (fit ss rest) f) h
+
+-- an argument stands at each place of a request's row
+pub arg_there : (name : Req) (args : List Arg) (params : List Param) (n : ℕ) (s : Shape) → request_code name args params ≡ None
+    → slice_get (shapes_of name) n ≡ Some s → (a : Arg) × (slice_get args n ≡ Some a) × (fits s a ≡ true)
+arg_there name args params n s e h = fit_at (shapes_of name) args n s (args_fit name args params e) h
+
+some_whole : (o : Option ℤ) → is_some o ≡ true → o ≡ None → ⊥
+some_whole (Some x) there none = cc
+some_whole None there none = cc
+
+no_word : (a : Arg) → fits shapes.Word a ≡ true → word_in (Some a) ≡ None → ⊥
+no_word (Number d) f e = cc
+no_word (Str t) f e = cc
+no_word (Numbers ds) f e = cc
+no_word (Strings ts) f e = cc
+
+no_number : (a : Arg) → fits shapes.Number a ≡ true → option_map num (number_in (Some a)) ≡ None → ⊥
+no_number (Number d) f e = cc
+no_number (Str t) f e = cc
+no_number (Numbers ds) f e = cc
+no_number (Strings ts) f e = cc
+
+no_whole : (a : Arg) → fits shapes.Whole a ≡ true → whole_in (number_in (Some a)) ≡ None → ⊥
+no_whole (Number d) f e = some_whole (whole d) f e
+no_whole (Str t) f e = cc
+no_whole (Numbers ds) f e = cc
+no_whole (Strings ts) f e = cc
+
+no_array : (n : ℕ) (a : Arg) → fits (shapes.Array n) a ≡ true → numbers_in (Some a) ≡ None → ⊥
+no_array n (Number d) f e = cc
+no_array n (Str t) f e = cc
+no_array n (Numbers ds) f e = cc
+no_array n (Strings ts) f e = cc
+
+no_wholes : (a : Arg) → fits shapes.Wholes a ≡ true → numbers_in (Some a) ≡ None → ⊥
+no_wholes (Number d) f e = cc
+no_wholes (Str t) f e = cc
+no_wholes (Numbers ds) f e = cc
+no_wholes (Strings ts) f e = cc
+
+pub word_stands : (name : Req) (args : List Arg) (params : List Param) (n : ℕ) → request_code name args params ≡ None
+    → slice_get (shapes_of name) n ≡ Some shapes.Word → word_at args n ≡ None → ⊥
+word_stands name args params n e h none =
+    let p = arg_there name args params n shapes.Word e h in
+    no_word p.0 p.2 (sym (ap word_in p.1) ∙ none)
+
+pub number_stands : (name : Req) (args : List Arg) (params : List Param) (n : ℕ) → request_code name args params ≡ None
+    → slice_get (shapes_of name) n ≡ Some shapes.Number → raw_at args n ≡ None → ⊥
+number_stands name args params n e h none =
+    let p = arg_there name args params n shapes.Number e h in
+    no_number p.0 p.2 (sym (ap (λ o. option_map num (number_in o)) p.1) ∙ none)
+
+pub whole_stands : (name : Req) (args : List Arg) (params : List Param) (n : ℕ) → request_code name args params ≡ None
+    → slice_get (shapes_of name) n ≡ Some shapes.Whole → whole_at args n ≡ None → ⊥
+whole_stands name args params n e h none =
+    let p = arg_there name args params n shapes.Whole e h in
+    no_whole p.0 p.2 (sym (ap (λ o. whole_in (number_in o)) p.1) ∙ none)
+
+pub array_stands : (name : Req) (args : List Arg) (params : List Param) (n len : ℕ) → request_code name args params ≡ None
+    → slice_get (shapes_of name) n ≡ Some (shapes.Array len) → numbers_at args n ≡ None → ⊥
+array_stands name args params n len e h none =
+    let p = arg_there name args params n (shapes.Array len) e h in
+    no_array len p.0 p.2 (sym (ap numbers_in p.1) ∙ none)
+
+pub wholes_stand : (name : Req) (args : List Arg) (params : List Param) (n : ℕ) → request_code name args params ≡ None
+    → slice_get (shapes_of name) n ≡ Some shapes.Wholes → numbers_at args n ≡ None → ⊥
+wholes_stand name args params n e h none =
+    let p = arg_there name args params n shapes.Wholes e h in
+    no_wholes p.0 p.2 (sym (ap numbers_in p.1) ∙ none)
+
+array_len : (n : ℕ) (a : Arg) (ds : List Decimal) → fits (shapes.Array n) a ≡ true → numbers_in (Some a) ≡ Some ds → length ds ≡ n
+array_len n (Number d) ds f e = absurd cc
+array_len n (Str t) ds f e = absurd cc
+array_len n (Numbers cs) ds f e = grind (arith, f, same cs ds e)
+  where
+    same : (cs ds : List Decimal) → Some cs ≡ Some ds → cs ≡ ds
+    same cs ds e = cc
+array_len n (Strings ts) ds f e = absurd cc
+
+-- the array of a row has the row's number of items
+pub array_has : (name : Req) (args : List Arg) (params : List Param) (n len : ℕ) (ds : List Decimal) → request_code name args params ≡ None
+    → slice_get (shapes_of name) n ≡ Some (shapes.Array len) → numbers_at args n ≡ Some ds → length ds ≡ len
+array_has name args params n len ds e h there =
+    let p = arg_there name args params n (shapes.Array len) e h in
+    array_len len p.0 ds p.2 (sym (ap numbers_in p.1) ∙ there)
+
+wholes_in : (a : Arg) (ds : List Decimal) → fits shapes.Wholes a ≡ true → numbers_in (Some a) ≡ Some ds → are_whole ds ≡ true
+wholes_in (Number d) ds f e = absurd cc
+wholes_in (Str t) ds f e = absurd cc
+wholes_in (Numbers cs) ds f e = rw (same cs ds e) at f
+  where
+    same : (cs ds : List Decimal) → Some cs ≡ Some ds → cs ≡ ds
+    same cs ds e = cc
+wholes_in (Strings ts) ds f e = absurd cc
+
+-- the items of an array of whole numbers are whole
+pub wholes_are : (name : Req) (args : List Arg) (params : List Param) (n : ℕ) (ds : List Decimal) → request_code name args params ≡ None
+    → slice_get (shapes_of name) n ≡ Some shapes.Wholes → numbers_at args n ≡ Some ds → are_whole ds ≡ true
+wholes_are name args params n ds e h there =
+    let p = arg_there name args params n shapes.Wholes e h in
+    wholes_in p.0 ds p.2 (sym (ap numbers_in p.1) ∙ there)
+
+not_less : (a b : ℤ) → int_lt a b ≡ false → b ≤ℤ a
+not_less a b e = omega (arith, ints)
+
+is_less_than : (a b : ℤ) → int_lt a b ≡ true → a <ℤ b
+is_less_than a b e = omega (arith, ints)
+
+-- a whole number lies within the limits of its row
+pub within_limits : (name : Req) (args : List Arg) (params : List Param) (place : ℕ) (x : ℤ) → request_code name args params ≡ None → whole_at args place ≡ Some x
+    → (k : ℕ) (least most : ℤ) → slice_get (rules_of name) k ≡ Some (Within place least most) → (least ≤ℤ x) × (x ≤ℤ most)
+within_limits name args params place x e there k least most h =
+    let holds = rule_holds name args params e k (Within place least most) h in
+    let inside = when_none (is_outside (whole_at args place) least most) S3 holds in
+    let here : (int_lt x least || int_lt most x) ≡ false = sym (ap (λ o. is_outside o least most) there) ∙ inside in
+    (not_less x least (or_left (int_lt x least) (int_lt most x) here), not_less most x (or_right (int_lt x least) (int_lt most x) here))
+
+-- a number is at least as great as its row says
+pub at_least : (name : Req) (args : List Arg) (params : List Param) (place : ℕ) (x : ℤ) → request_code name args params ≡ None → raw_at args place ≡ Some x
+    → (k : ℕ) (least : ℤ) → slice_get (rules_of name) k ≡ Some (AtLeast place least) → least ≤ℤ x
+at_least name args params place x e there k least h =
+    let holds = rule_holds name args params e k (AtLeast place least) h in
+    not_less x least (sym (ap (λ o. is_below o least) there) ∙ when_none (is_below (raw_at args place) least) S3 holds)
+
+-- a number is less than the one that its row says
+pub rising : (name : Req) (args : List Arg) (params : List Param) (place : ℕ) (x : ℤ) → request_code name args params ≡ None → raw_at args place ≡ Some x
+    → (k other : ℕ) (y : ℤ) → slice_get (rules_of name) k ≡ Some (Rising place other) → raw_at args other ≡ Some y → x <ℤ y
+rising name args params place x e there k other y h behind =
+    let holds = rule_holds name args params e k (Rising place other) h in
+    let less = when_none (is_not_less (raw_at args place) (raw_at args other)) S3 holds in
+    let here : not (int_lt x y) ≡ false = sym (ap (λ o. is_not_less o (Some y)) there) ∙ sym (ap (is_not_less (raw_at args place)) behind) ∙ less in
+    is_less_than x y (not_false (int_lt x y) here)
+
+-- a string is one of the words that its row has
+pub one_of : (name : Req) (args : List Arg) (params : List Param) (place : ℕ) (t : List ℕ) → request_code name args params ≡ None → word_at args place ≡ Some t
+    → (k : ℕ) (words : Words) (code : RibCode) → slice_get (rules_of name) k ≡ Some (OneOf place words code) → is_among (words_in words) t ≡ true
+one_of name args params place t e there k words code h =
+    let holds = rule_holds name args params e k (OneOf place words code) h in
+    let inside = when_none (is_none_of words (word_at args place)) code holds in
+    not_false (is_among (words_in words) t) (sym (ap (is_none_of words) there) ∙ inside)
+
+-- and none of those that it refuses
+pub none_of : (name : Req) (args : List Arg) (params : List Param) (place : ℕ) (t : List ℕ) → request_code name args params ≡ None → word_at args place ≡ Some t
+    → (k : ℕ) (words : Words) → slice_get (rules_of name) k ≡ Some (NoneOf place words) → is_among (words_in words) t ≡ false
+none_of name args params place t e there k words h =
+    let holds = rule_holds name args params e k (NoneOf place words) h in
+    sym (ap (is_one words) there) ∙ when_none (is_one words (word_at args place)) S2 holds
+
+same_param : (q p : Param) → Some q ≡ Some p → q ≡ p
+same_param q p e = cc
+
+params_hold : (follows : Follows) (code : Option RibCode) (ps : List Param) → params_from follows code ps ≡ None
+    → (code ≡ None) × ((k : ℕ) (p : Param) → slice_get ps k ≡ Some p → param_code follows p ≡ None)
+params_hold follows code [] e = (e, λ k p there. absurd (nothing k p there))
+  where
+    nothing : (k : ℕ) (p : Param) → slice_get [] k ≡ Some p → ⊥
+    nothing k p there = cc
+params_hold follows code (q ∷ ps) e =
+    let rest = params_hold follows (lower code (param_code follows q)) ps e in
+    let both = lower_none code (param_code follows q) rest.0 in
+    (both.0, at both.1 rest.1)
+  where
+    at : param_code follows q ≡ None → ((k : ℕ) (p : Param) → slice_get ps k ≡ Some p → param_code follows p ≡ None)
+        → (k : ℕ) (p : Param) → slice_get (q ∷ ps) k ≡ Some p → param_code follows p ≡ None
+    at first others zero p there = rw (same_param q p there) at first
+    at first others (suc k) p there = others k p there
+
+-- no code stands in the list: not in the whole of it, and in none of its variables
+pub list_holds : (name : Req) (args : List Arg) (params : List Param) → request_code name args params ≡ None
+    → (whole_code (follows_of name args) params ≡ None) × ((k : ℕ) (p : Param) → slice_get params k ≡ Some p → param_code (follows_of name args) p ≡ None)
+list_holds name args params e =
+    params_hold (follows_of name args) (whole_code (follows_of name args) params) params (lower_none (args_code name args) (params_code (follows_of name args) params) e).1
+
+-- the values of a variable are of its kind, and its list's own condition holds
+pub param_holds : (follows : Follows) (p : Param) → param_code follows p ≡ None → (is_of_kind p.kind p.values ≡ true) × (own_code follows p ≡ None)
+param_holds follows p e =
+    let both = lower_none (when (not (is_of_kind p.kind p.values)) S3) (own_code follows p) e in
+    (not_false (is_of_kind p.kind p.values) (when_none (not (is_of_kind p.kind p.values)) S3 both.0), both.1)
+
+-- the levels of a request
+pub record InRange (one least most : ℤ) : Type 0 where
+  pub some : pos 1 ≤ℤ one
+  pub small : one ≤ℤ pos 255
+  pub low : pos 0 ≤ℤ least
+  pub ordered : least ≤ℤ most
+  pub within : most ≤ℤ one
+
+in_range : (a b c : ℤ) → levels_code (Some a) (Some b) (Some c) ≡ None → InRange a b c
+in_range a b c e =
+    let both = lower_none (when (int_lt (pos 255) a) S2) (when (int_lt a (pos 1) || int_lt b (pos 0) || int_lt c b || int_lt a c) S3) e in
+    let wrong = when_none (int_lt a (pos 1) || int_lt b (pos 0) || int_lt c b || int_lt a c) S3 both.1 in
+    let three = or_left (int_lt a (pos 1) || int_lt b (pos 0) || int_lt c b) (int_lt a c) wrong in
+    let two = or_left (int_lt a (pos 1) || int_lt b (pos 0)) (int_lt c b) three in
+    record {
+      some = not_less a (pos 1) (or_left (int_lt a (pos 1)) (int_lt b (pos 0)) two);
+      small = not_less (pos 255) a (when_none (int_lt (pos 255) a) S2 both.0);
+      low = not_less b (pos 0) (or_right (int_lt a (pos 1)) (int_lt b (pos 0)) two);
+      ordered = not_less c b (or_right (int_lt a (pos 1) || int_lt b (pos 0)) (int_lt c b) three);
+      within = not_less a c (or_right (int_lt a (pos 1) || int_lt b (pos 0) || int_lt c b) (int_lt a c) wrong);
+    }
+
+-- the levels of `Quantize` are in order
+pub levels_stand : (args : List Arg) (params : List Param) (a b c : ℤ) → request_code Quantize args params ≡ None → is_one Modes (word_at args 0) ≡ true
+    → whole_at args 1 ≡ Some a → whole_at args 2 ≡ Some b → whole_at args 3 ≡ Some c → InRange a b c
+levels_stand args params a b c e mode one least most =
+    let holds = rule_holds Quantize args params e 0 Levels refl in
+    let here : levels_code (whole_at args 1) (whole_at args 2) (whole_at args 3) ≡ None =
+    sym (ap (λ m. cond m (levels_code (whole_at args 1) (whole_at args 2) (whole_at args 3)) None) mode) ∙ holds in
+    in_range a b c
+    (sym (ap (λ o. levels_code o (Some b) (Some c)) one)
+    ∙ sym (ap (λ o. levels_code (whole_at args 1) o (Some c)) least)
+    ∙ sym (ap (λ o. levels_code (whole_at args 1) (whole_at args 2) o) most)
+    ∙ here)
+
+-- the list of a primitive
+needs_points : Follows → Bool
+needs_points follows.Points = true
+needs_points follows.Variables = true
+needs_points follows.Bicubic = true
+needs_points _ = false
+
+either_bicubic : (b : Bool) → needs_points (cond b follows.Bicubic follows.Variables) ≡ true
+unfolding needs_points
+either_bicubic true = refl
+either_bicubic false = refl
+
+geometry_needs : (t : Tail) (word : Option (List ℕ)) → is_geometry t ≡ true → needs_points (tail_with t word) ≡ true
+unfolding needs_points
+geometry_needs tails.Empty word h = absurd cc
+geometry_needs tails.Anything word h = absurd cc
+geometry_needs tails.Free word h = absurd cc
+geometry_needs tails.Attribute word h = absurd cc
+geometry_needs tails.Parameters word h = absurd cc
+geometry_needs tails.Points word h = refl
+geometry_needs tails.Variables word h = either_bicubic (is_one Bicubic word)
+
+-- a primitive's points are there
+points_there : (f : Follows) (ps : List Param) → needs_points f ≡ true → whole_code f ps ≡ None → has_points ps ≡ true
+unfolding needs_points
+points_there follows.Points ps n e = not_false (has_points ps) (when_none (not (has_points ps)) S3 e)
+points_there follows.Variables ps n e = not_false (has_points ps) (when_none (not (has_points ps)) S3 e)
+points_there follows.Bicubic ps n e = not_false (has_points ps) (when_none (not (has_points ps)) S3 e)
+points_there follows.Nothing ps n e = absurd cc
+points_there follows.Anything ps n e = absurd cc
+points_there follows.Free ps n e = absurd cc
+points_there follows.Bound ps n e = absurd cc
+points_there follows.Parameters ps n e = absurd cc
+
+-- each variable is of the kind that its name needs
+kind_stands : (f : Follows) (p : Param) → needs_points f ≡ true → own_code f p ≡ None → kind_code p ≡ None
+unfolding needs_points
+kind_stands follows.Points p n e = (lower_none (kind_code p) (when (not (is_points p.name)) S2) e).0
+kind_stands follows.Variables p n e = e
+kind_stands follows.Bicubic p n e = (lower_none (kind_code p) (when (is_vertex p.class && not (is_points p.name)) S2) e).0
+kind_stands follows.Nothing p n e = absurd cc
+kind_stands follows.Anything p n e = absurd cc
+kind_stands follows.Free p n e = absurd cc
+kind_stands follows.Bound p n e = absurd cc
+kind_stands follows.Parameters p n e = absurd cc
+
+numbers_of_points : (k : Kind) (v : Values) → is_as_needed (Some kinds.Point) k ≡ true → is_of_kind k v ≡ true → is_some (numbers_held v) ≡ true
+numbers_of_points k (held.Numbers xs) a b = refl
+numbers_of_points kinds.Point (held.Strings ts) a b = absurd cc
+numbers_of_points kinds.Float (held.Strings ts) a b = absurd cc
+numbers_of_points kinds.Color (held.Strings ts) a b = absurd cc
+numbers_of_points kinds.Vector (held.Strings ts) a b = absurd cc
+numbers_of_points kinds.Normal (held.Strings ts) a b = absurd cc
+numbers_of_points kinds.Str (held.Strings ts) a b = absurd cc
+numbers_of_points kinds.Pair (held.Strings ts) a b = absurd cc
+
+points_needed : (name : List ℕ) (rest : Option Kind) → is_points name ≡ true → cond (is_points name) (Some kinds.Point) rest ≡ Some kinds.Point
+points_needed name rest h = ap (λ b. cond b (Some kinds.Point) rest) h
+
+-- the P of a primitive has numbers
+point_numbers : (f : Follows) (p : Param) → needs_points f ≡ true → param_code f p ≡ None → is_points p.name ≡ true → is_some (numbers_held p.values) ≡ true
+point_numbers f p n e named =
+    let both = param_holds f p e in
+    let kind = not_false (is_as_needed (needed p.name) p.kind) (when_none (not (is_as_needed (needed p.name) p.kind)) S3 (kind_stands f p n both.1)) in
+    let point : is_as_needed (Some kinds.Point) p.kind ≡ true = sym (ap (λ o. is_as_needed o p.kind) (points_needed p.name _ named)) ∙ kind in
+    numbers_of_points p.kind p.values point both.0
+
+last_stands : (f : Follows) (found : Option (List ℤ)) (ps : List Param) → ((k : ℕ) (p : Param) → slice_get ps k ≡ Some p → is_points p.name ≡ true → is_some (numbers_held p.values) ≡ true)
+    → (is_some found || has_points ps) ≡ true → is_some (points_from found ps) ≡ true
+last_stands f (Some xs) [] each h = refl
+last_stands f None [] each h = h
+last_stands f found (p ∷ ps) each h = last_stands f (cond (is_points p.name) (numbers_held p.values) found) ps (λ k q there. each (suc k) q there) (either (is_points p.name) refl)
+  where
+    either : (b : Bool) → is_points p.name ≡ b → (is_some (cond b (numbers_held p.values) found) || has_points ps) ≡ true
+    either true is = ap (λ s. s || has_points ps) (each zero p refl is)
+    either false is = ap (λ b. is_some found || (b || has_points ps)) (sym is) ∙ h
+
+-- the points of a primitive stand in its list
+pub points_stand : (name : Req) (args : List Arg) (params : List Param) → request_code name args params ≡ None → is_geometry (row_of name).tail ≡ true → points_in params ≡ None → ⊥
+points_stand name args params e h none =
+    let f : Follows = follows_of name args in
+    let needs : needs_points f ≡ true = geometry_needs (row_of name).tail (word_at args 0) h in
+    let list = list_holds name args params e in
+    let stands = last_stands f None params (λ k p there named. point_numbers f p needs (list.1 k p there) named) (points_there f params needs list.0) in
+    empty_is (points_in params) stands none
+  where
+    empty_is : (o : Option (List ℤ)) → is_some o ≡ true → o ≡ None → ⊥
+    empty_is (Some xs) a b = cc
+    empty_is None a b = cc

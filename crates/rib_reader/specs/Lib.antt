@@ -1,0 +1,11 @@
+pub mod Entries
+pub mod Names
+pub mod Words
+pub mod Values
+pub mod Table
+pub mod Answers
+pub mod Rules
+pub mod Lists
+pub mod Reading
+pub mod Laws
+pub mod Levels

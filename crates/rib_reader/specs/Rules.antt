@@ -1,0 +1,214 @@
+-- What a row of the table says of a request's arguments. Each condition is looked at by itself, whatever else is wrong, and
+-- the lowest code that stands is the request's.
+use Rattle.std.specs.Prelude.{ℕ, ℤ, pos, Bool, true, false, not, ◌||◌, ◌&&◌, ◌==◌, nat_le, int_lt, is_some, List, [], ◌∷◌, ◌++◌, Option, Some, None, Result, Ok, Err, if◌then◌else◌, length, option_map}
+use Rattle.std.specs.List.{slice_get}
+use Rattle.std.specs.Str.{bytes_eq}
+use Rattle.rib_lex.specs.declared.decimal.Decimal.{Decimal}
+use Rattle.rib_lex.specs.Decimal.{num, whole}
+use Rattle.rib_reader.specs.declared.args.Arg.{Arg}
+use Rattle.rib_reader.specs.declared.args.Arg.TheVariants.{Number, Str, Numbers, Strings}
+use Rattle.rib_reader.specs.declared.req.Req.{Req}
+use Rattle.rib_reader.specs.declared.req.Req.TheVariants as reqs
+use Rattle.rib_reader.specs.declared.table.Shape.{Shape}
+use Rattle.rib_reader.specs.declared.table.Shape.TheVariants as shapes
+use Rattle.rib_reader.specs.declared.table.Words.{Words}
+use Rattle.rib_reader.specs.declared.table.Words.TheVariants.{Modes, Bicubic, Bounds}
+use Rattle.rib_reader.specs.declared.table.Rule.{Rule}
+use Rattle.rib_reader.specs.declared.table.Rule.TheVariants.{Within, AtLeast, Rising, Only, OneOf, NoneOf, NoArray, Levels, Declaration, Unsupported}
+use Rattle.rib_reader.specs.declared.table.Tail.{Tail}
+use Rattle.rib_reader.specs.declared.table.Tail.TheVariants as tails
+use Rattle.rib_reader.specs.declared.follows.Follows.{Follows}
+use Rattle.rib_reader.specs.declared.follows.Follows.TheVariants as follows
+use Rattle.rib_reader.specs.declared.faults.RibCode.{RibCode}
+use Rattle.rib_reader.specs.declared.faults.RibCode.TheVariants.{S1, S2, S3, S4, S5}
+use Rattle.rib_reader.specs.declared.declared.Declared.{Declared}
+use Rattle.rib_reader.specs.Words.{words_of, declared_as}
+use Rattle.rib_reader.specs.Table.{words_in, row_of, shapes_of, rules_of}
+
+abbrev pub rank : RibCode → ℕ
+rank S1 = 1
+rank S2 = 2
+rank S3 = 3
+rank S4 = 4
+rank S5 = 5
+
+-- the lower code of two conditions
+abbrev pub lower : Option RibCode → Option RibCode → Option RibCode
+lower None b = b
+lower (Some a) None = Some a
+lower (Some a) (Some b) = if nat_le (rank a) (rank b) then Some a else Some b
+
+abbrev pub when : Bool → RibCode → Option RibCode
+when true code = Some code
+when false code = None
+
+abbrev pub are_whole : List Decimal → Bool
+are_whole [] = true
+are_whole (d ∷ ds) = is_some (whole d) && are_whole ds
+
+-- an argument is of that kind
+abbrev pub fits : Shape → Arg → Bool
+fits shapes.Whole (Number d) = is_some (whole d)
+fits shapes.Number (Number d) = true
+fits shapes.Word (Str t) = true
+fits (shapes.Array n) (Numbers ds) = length ds == n
+fits shapes.Wholes (Numbers ds) = are_whole ds
+fits _ _ = false
+
+-- the arguments are of those kinds, one by one
+abbrev pub fit : List Shape → List Arg → Bool
+fit [] args = length args == 0
+fit (s ∷ ss) [] = false
+fit (s ∷ ss) (a ∷ rest) = fits s a && fit ss rest
+
+abbrev pub word_in : Option Arg → Option (List ℕ)
+word_in (Some (Str t)) = Some t
+word_in _ = None
+
+-- the string at a place, where one is there
+abbrev pub word_at : List Arg → ℕ → Option (List ℕ)
+word_at args n = word_in (slice_get args n)
+
+abbrev pub number_in : Option Arg → Option Decimal
+number_in (Some (Number d)) = Some d
+number_in _ = None
+
+-- the number at a place, where one is there
+abbrev pub number_at : List Arg → ℕ → Option Decimal
+number_at args n = number_in (slice_get args n)
+
+-- its raw
+abbrev pub raw_at : List Arg → ℕ → Option ℤ
+raw_at args n = option_map num (number_at args n)
+
+abbrev pub whole_in : Option Decimal → Option ℤ
+whole_in (Some d) = whole d
+whole_in None = None
+
+-- the whole number at a place, where one is there
+abbrev pub whole_at : List Arg → ℕ → Option ℤ
+whole_at args n = whole_in (number_at args n)
+
+abbrev pub numbers_in : Option Arg → Option (List Decimal)
+numbers_in (Some (Numbers ds)) = Some ds
+numbers_in _ = None
+
+-- the array of numbers at a place, where one is there
+abbrev pub numbers_at : List Arg → ℕ → Option (List Decimal)
+numbers_at args n = numbers_in (slice_get args n)
+
+-- it is there, and doesn't lie between these
+abbrev pub is_outside : Option ℤ → ℤ → ℤ → Bool
+is_outside (Some x) least most = int_lt x least || int_lt most x
+is_outside None least most = false
+
+-- it is there, and is less
+abbrev pub is_below : Option ℤ → ℤ → Bool
+is_below (Some x) least = int_lt x least
+is_below None least = false
+
+-- both are there, and the first is less
+abbrev pub is_less : Option ℤ → Option ℤ → Bool
+is_less (Some a) (Some b) = int_lt a b
+is_less _ _ = false
+
+-- both are there, and the first isn't less
+abbrev pub is_not_less : Option ℤ → Option ℤ → Bool
+is_not_less (Some a) (Some b) = not (int_lt a b)
+is_not_less _ _ = false
+
+abbrev pub is_among : List (List ℕ) → List ℕ → Bool
+is_among [] text = false
+is_among (w ∷ ws) text = bytes_eq text w || is_among ws text
+
+-- it is there, and is one of these words
+abbrev pub is_one : Words → Option (List ℕ) → Bool
+is_one words (Some t) = is_among (words_in words) t
+is_one words None = false
+
+-- it is there, and is none of these words
+abbrev pub is_none_of : Words → Option (List ℕ) → Bool
+is_none_of words (Some t) = not (is_among (words_in words) t)
+is_none_of words None = false
+
+abbrev pub is_array : Arg → Bool
+is_array (Numbers ds) = true
+is_array (Strings ts) = true
+is_array _ = false
+
+abbrev pub has_array : List Arg → Bool
+has_array [] = false
+has_array (a ∷ rest) = is_array a || has_array rest
+
+-- the greatest level, and the range that is written
+abbrev pub levels_code : Option ℤ → Option ℤ → Option ℤ → Option RibCode
+levels_code one low high = lower
+    (when (is_less (Some (pos 255)) one) S2)
+    (when (is_below one (pos 1) || is_below low (pos 0) || is_less high low || is_less one high) S3)
+
+abbrev pub code_in : Result Declared RibCode → Option RibCode
+code_in (Ok d) = None
+code_in (Err code) = Some code
+
+abbrev pub declare_code : Option (List ℕ) → Option (List ℕ) → Option RibCode
+declare_code (Some name) (Some text) = code_in (declared_as name (words_of text))
+declare_code _ _ = None
+
+-- the code of a rule that doesn't hold
+abbrev pub rule_code : Rule → List Arg → Option RibCode
+rule_code (Within place least most) args = when (is_outside (whole_at args place) least most) S3
+rule_code (AtLeast place raw) args = when (is_below (raw_at args place) raw) S3
+rule_code (Rising first second) args = when (is_not_less (raw_at args first) (raw_at args second)) S3
+rule_code (Only place raw) args = when (is_outside (raw_at args place) raw raw) S2
+rule_code (OneOf place words code) args = when (is_none_of words (word_at args place)) code
+rule_code (NoneOf place words) args = when (is_one words (word_at args place)) S2
+rule_code NoArray args = when (has_array args) S2
+rule_code Levels args = if is_one Modes (word_at args 0) then levels_code (whole_at args 1) (whole_at args 2) (whole_at args 3) else None
+rule_code Declaration args = declare_code (word_at args 0) (word_at args 1)
+rule_code Unsupported args = Some S2
+
+-- the lowest code of these rules, beside one that was met before
+abbrev pub rules_from : Option RibCode → List Rule → List Arg → Option RibCode
+rules_from code [] args = code
+rules_from code (r ∷ rs) args = rules_from (lower code (rule_code r args)) rs args
+
+-- the lowest code that stands in the arguments
+abbrev pub args_code : Req → List Arg → Option RibCode
+args_code name args = rules_from (when (not (fit (shapes_of name) args)) S3) (rules_of name) args
+
+-- a patch or mesh of that name is bicubic, and the attribute of that name a bound
+abbrev pub tail_with : Tail → Option (List ℕ) → Follows
+tail_with tails.Empty word = follows.Nothing
+tail_with tails.Anything word = follows.Anything
+tail_with tails.Free word = follows.Free
+tail_with tails.Attribute word = if is_one Bounds word then follows.Bound else follows.Free
+tail_with tails.Parameters word = follows.Parameters
+tail_with tails.Points word = follows.Points
+tail_with tails.Variables word = if is_one Bicubic word then follows.Bicubic else follows.Variables
+
+-- what follows the arguments
+abbrev pub follows_of : Req → List Arg → Follows
+follows_of name args = tail_with (row_of name).tail (word_at args 0)
+
+-- three numbers of a colour stand for their array
+abbrev pub three_as_one : List Arg → List Arg
+three_as_one (Number a ∷ Number b ∷ Number c ∷ []) = Numbers (a ∷ b ∷ c ∷ []) ∷ []
+three_as_one values = values
+
+abbrev pub joined : Req → List Arg → List Arg
+joined reqs.Color values = three_as_one values
+joined reqs.Opacity values = three_as_one values
+joined _ values = values
+
+-- the names that are declared behind a request
+abbrev pub with_declared : List Declared → Result Declared RibCode → List Declared
+with_declared dict (Ok d) = dict ++ d ∷ []
+with_declared dict (Err code) = dict
+
+abbrev pub with_words : List Declared → Option (List ℕ) → Option (List ℕ) → List Declared
+with_words dict (Some name) (Some text) = with_declared dict (declared_as name (words_of text))
+with_words dict _ _ = dict
+
+abbrev pub dict_after : List Declared → Req → List Arg → List Declared
+dict_after dict reqs.Declare args = with_words dict (word_at args 0) (word_at args 1)
+dict_after dict _ args = dict

@@ -1,0 +1,12 @@
+use fixed_math::{List, Text};
+use rib_lex::Decimal;
+
+/// A value behind a request's name.
+#[derive(Drop)]
+pub enum Arg {
+    Number(Decimal),
+    Str(Text),
+    /// An array of numbers. The array without items is one of these.
+    Numbers(List<Decimal>),
+    Strings(List<Text>),
+}

@@ -1,0 +1,224 @@
+ghost use Rattle.std.specs.Prelude.{◌≡◌, ◌≤◌, IfOk, OnOk, length, take, drop};
+ghost use Rattle.std.specs.List.{prefix_len};
+ghost use Rattle.rib_reader.specs.Values.{scan_of};
+ghost use Rattle.rib_reader.specs.Rules.{joined, three_as_one, dict_after};
+ghost use Rattle.rib_reader.specs.Laws.{JoinLaw, SpellLaw, ReadLaw};
+ghost use Rattle.rib_reader.specs.Reading.{is_value, list_in, checked, of_values, of_scan, of_group, requests_of, GivesOne, GivesAll};
+
+use crate::args::Arg;
+use crate::arguments::word;
+use crate::codes::{code_when, lower_of};
+use crate::declarations::{Meaning, declare};
+use crate::declared::Declared;
+use crate::faults::{RibCode, RibFault};
+use crate::list_faults::request_fault;
+use crate::listing::Listing;
+use crate::names::{Named, request_named};
+use crate::pairs::list;
+use crate::params::Param;
+use crate::req::Req;
+use crate::request::Request;
+use crate::rows::row;
+use crate::rules::following;
+use crate::scans::scan;
+use fixed_math::{List, NoMemory};
+use rib_lex::{Token, TokenKind};
+use std::alloc::Global;
+
+// Three numbers are one array.
+fn join_three(alloc: Global, values: List<Arg>) -> Result<List<Arg>, NoMemory>
+    ensures { IfOk result (λ r. r ≡ three_as_one values) }
+{
+    if let [Arg::Number(a), Arg::Number(b), Arg::Number(c)] = values.0.as_slice() {
+        let mut numbers = Vec::new(alloc);
+        numbers.push(*a)?;
+        numbers.push(*b)?;
+        numbers.push(*c)?;
+        let mut joined = Vec::new(alloc);
+        joined.push(Arg::Numbers(List(numbers)))?;
+        return Ok(List(joined));
+    }
+    Ok(values)
+}
+
+fn join(alloc: Global, name: Req, values: List<Arg>) -> Result<List<Arg>, NoMemory>
+    ensures { IfOk result (λ r. r ≡ joined name values) }
+{
+    match name {
+        Req::Color | Req::Opacity => join_three(alloc, values),
+        _ => Ok(values),
+    }
+}
+
+// The first so many values, and those behind them.
+fn split(values: &[Arg], n: usize) -> (&[Arg], &[Arg])
+    ensures front { result.0.now ≡ take n values.now }
+    ensures back { result.1.now ≡ drop n values.now }
+{
+    if n <= values.len() {
+        values.split_at(n)
+    } else {
+        (values, &[])
+    }
+}
+
+// What is read of the values behind the arguments.
+fn listing(
+    alloc: Global,
+    declarations: &[Declared],
+    name: Req,
+    values: &[Arg],
+) -> Result<Listing, NoMemory>
+    ensures { IfOk result (λ l. l ≡ list_in declarations.now name values.now) }
+{
+    let (args, rest) = split(values, row(name).shapes.len());
+    list(alloc, following(name, args), declarations, rest)
+}
+
+// A request in which no code stands, beside what was met before.
+fn check(
+    alloc: Global,
+    before: Option<RibCode>,
+    name: Req,
+    args: List<Arg>,
+    params: List<Param>,
+    line: u32,
+) -> Result<Request, RibFault>
+    ensures { GivesOne result (checked before record { name = name; args = args; params = params; line = line }) }
+{
+    let own = request_fault(alloc, name, &args.0, &params.0)?;
+    match lower_of(before, own) {
+        Some(code) => Err(RibFault::At { code, line }),
+        None => Ok(Request {
+            name,
+            args,
+            params,
+            line,
+        }),
+    }
+}
+
+fn read_values(
+    alloc: Global,
+    declarations: &[Declared],
+    name: Req,
+    broken: bool,
+    values: List<Arg>,
+    line: u32,
+) -> Result<Request, RibFault>
+    ensures { GivesOne result (of_values declarations.now name broken values line) }
+{
+    let listing = listing(alloc, declarations, name, &values.0)?;
+    let before = lower_of(code_when(broken, RibCode::S3), listing.fault);
+    let mut args = values;
+    args.0.truncate(row(name).shapes.len());
+    check(alloc, before, name, args, listing.params, line)
+}
+
+fn read_known(
+    alloc: Global,
+    declarations: &[Declared],
+    name: Req,
+    body: &[Token],
+    line: u32,
+) -> Result<Request, RibFault>
+    ensures { GivesOne result (of_scan declarations.now name (scan_of body.now) line) }
+{
+    let scan = scan(alloc, body)?;
+    let values = join(alloc, name, scan.values)?;
+    read_values(alloc, declarations, name, scan.broken, values, line)
+}
+
+// The request of a token with those behind it.
+fn read_group(
+    alloc: Global,
+    declarations: &[Declared],
+    kind: &TokenKind,
+    line: u32,
+    body: &[Token],
+) -> Result<Request, RibFault>
+    ensures { GivesOne result (of_group declarations.now kind.now line body.now) }
+{
+    let TokenKind::Name(text) = kind else {
+        return Err(RibFault::At {
+            code: RibCode::S3,
+            line,
+        });
+    };
+    match request_named(text.as_str()) {
+        Some(Named::Known(name)) => read_known(alloc, declarations, name, body, line),
+        Some(Named::LeftOut) => Err(RibFault::At {
+            code: RibCode::S2,
+            line,
+        }),
+        None => Err(RibFault::At {
+            code: RibCode::S1,
+            line,
+        }),
+    }
+}
+
+// What a request declares holds from here on.
+fn note_declared(
+    alloc: Global,
+    declarations: &mut Vec<Declared>,
+    name: Req,
+    args: &[Arg],
+) -> Result<(), NoMemory>
+    ensures { OnOk result (declarations.new.items ≡ dict_after declarations.old.items name args.now) }
+{
+    if !matches!(name, Req::Declare) {
+        return Ok(());
+    }
+    if let (Some(name), Some(text)) = (word(args, 0), word(args, 1)) {
+        if let Meaning::Is(declared) = declare(alloc, name, text)? {
+            declarations.push(declared)?;
+        }
+    }
+    Ok(())
+}
+
+fn inner(token: &Token) -> bool
+    ensures { result ≡ is_value token.now }
+{
+    !matches!(token.kind, TokenKind::Name(_))
+}
+
+// How many tokens stand before the next name.
+fn body_len(tokens: &[Token]) -> usize
+    ensures within { result ≤ length tokens.now }
+    ensures len { result ≡ prefix_len is_value tokens.now }
+{
+    tokens.iter().take_while(|t| inner(*t)).count()
+}
+
+// The requests one after another, each with its tokens up to the next name.
+fn read_all(alloc: Global, tokens: &[Token]) -> Result<Vec<Request>, RibFault>
+    ensures { GivesAll result (requests_of tokens.now) }
+{
+    let mut done = Vec::new(alloc);
+    let mut declarations = Vec::new(alloc);
+    let mut rest = tokens;
+    while let Some((head, behind)) = rest.split_first() {
+        let (body, after) = behind.split_at(body_len(behind));
+        let request = read_group(alloc, &declarations, &head.kind, head.line, body)?;
+        note_declared(alloc, &mut declarations, request.name, &request.args.0)?;
+        done.push(request)?;
+        rest = after;
+    }
+    Ok(done)
+}
+
+/// The requests of a scene's tokens, in order, or its first fault with the line of the request's name; want of memory aside.
+///
+/// A request is a name, its arguments, and where the table says so pairs of a token and a value (RenderMan Interface 3.2,
+/// appendix C). In one request the lowest code comes. Tokens before the first name are S3 with their own line.
+#[tactic(auto, using(crate::proofs::Joining::join_law, crate::proofs::Spelling::spell_law, crate::proofs::Spelling::read_law))]
+pub fn requests(alloc: Global, tokens: &[Token]) -> Result<Vec<Request>, RibFault>
+    ensures gives { GivesAll result (requests_of tokens.now) }
+    ensures joins { JoinLaw }
+    ensures spells { SpellLaw }
+    ensures reads { ReadLaw }
+{
+    read_all(alloc, tokens)
+}

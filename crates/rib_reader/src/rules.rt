@@ -1,0 +1,182 @@
+ghost use Rattle.std.specs.Prelude.{◌≡◌, IfOk};
+ghost use Rattle.rib_reader.specs.Rules.{is_outside, is_below, is_less, is_not_less, is_one, is_none_of, word_at, levels_code, declare_code, rule_code, rules_from, args_code, follows_of};
+
+use crate::args::Arg;
+use crate::arguments::{has_array, raw, shapes_fit, whole, word};
+use crate::codes::{code_when, lower_of};
+use crate::declarations::{Meaning, declare};
+use crate::faults::RibCode;
+use crate::follows::Follows;
+use crate::req::Req;
+use crate::rows::row;
+use crate::table::{Rule, Tail, Words};
+use crate::words::is_in;
+use fixed_math::NoMemory;
+use std::alloc::Global;
+
+fn is_outside(number: Option<i64>, least: i64, most: i64) -> bool
+    ensures { result ≡ is_outside number least most }
+{
+    match number {
+        Some(number) => number < least || most < number,
+        None => false,
+    }
+}
+
+fn is_below(number: Option<i64>, least: i64) -> bool
+    ensures { result ≡ is_below number least }
+{
+    match number {
+        Some(number) => number < least,
+        None => false,
+    }
+}
+
+fn is_less(a: Option<i64>, b: Option<i64>) -> bool
+    ensures { result ≡ is_less a b }
+{
+    match (a, b) {
+        (Some(a), Some(b)) => a < b,
+        _ => false,
+    }
+}
+
+fn is_not_less(a: Option<i64>, b: Option<i64>) -> bool
+    ensures { result ≡ is_not_less a b }
+{
+    match (a, b) {
+        (Some(a), Some(b)) => !(a < b),
+        _ => false,
+    }
+}
+
+/// Whether a string stands at that place and is a word of the set.
+pub fn is_one(words: Words, args: &[Arg], place: usize) -> bool
+    ensures { result ≡ is_one words (word_at args.now place) }
+{
+    match word(args, place) {
+        Some(text) => is_in(words, text),
+        None => false,
+    }
+}
+
+fn is_none_of(words: Words, args: &[Arg], place: usize) -> bool
+    ensures { result ≡ is_none_of words (word_at args.now place) }
+{
+    match word(args, place) {
+        Some(text) => !is_in(words, text),
+        None => false,
+    }
+}
+
+// What is said of the greatest level and of the range that is written.
+fn levels(one: Option<i64>, low: Option<i64>, high: Option<i64>) -> Option<RibCode>
+    ensures { result ≡ levels_code one low high }
+{
+    lower_of(
+        code_when(is_less(Some(255), one), RibCode::S2),
+        code_when(
+            is_below(one, 1) || is_below(low, 0) || is_less(high, low) || is_less(one, high),
+            RibCode::S3,
+        ),
+    )
+}
+
+fn declaration(alloc: Global, args: &[Arg]) -> Result<Option<RibCode>, NoMemory>
+    ensures { IfOk result (λ r. r ≡ declare_code (word_at args.now 0) (word_at args.now 1)) }
+{
+    match (word(args, 0), word(args, 1)) {
+        (Some(name), Some(text)) => match declare(alloc, name, text)? {
+            Meaning::Is(_) => Ok(None),
+            Meaning::Not(code) => Ok(Some(code)),
+        },
+        _ => Ok(None),
+    }
+}
+
+// The code of the rule, where it doesn't hold.
+fn rule_fault(alloc: Global, rule: Rule, args: &[Arg]) -> Result<Option<RibCode>, NoMemory>
+    ensures { IfOk result (λ r. r ≡ rule_code rule args.now) }
+{
+    Ok(match rule {
+        Rule::Within { place, least, most } => {
+            code_when(is_outside(whole(args, place), least, most), RibCode::S3)
+        }
+        Rule::AtLeast { place, raw: least } => {
+            code_when(is_below(raw(args, place), least), RibCode::S3)
+        }
+        Rule::Rising { first, second } => {
+            code_when(
+                is_not_less(raw(args, first), raw(args, second)),
+                RibCode::S3,
+            )
+        }
+        Rule::Only { place, raw: same } => {
+            code_when(is_outside(raw(args, place), same, same), RibCode::S2)
+        }
+        Rule::OneOf { place, words, code } => code_when(is_none_of(words, args, place), code),
+        Rule::NoneOf { place, words } => code_when(is_one(words, args, place), RibCode::S2),
+        Rule::NoArray => code_when(has_array(args), RibCode::S2),
+        Rule::Levels => {
+            if is_one(Words::Modes, args, 0) {
+                levels(whole(args, 1), whole(args, 2), whole(args, 3))
+            } else {
+                None
+            }
+        }
+        Rule::Declaration => declaration(alloc, args)?,
+        Rule::Unsupported => Some(RibCode::S2),
+    })
+}
+
+// The lowest code of these rules and of what was met before.
+fn rules_fault(
+    alloc: Global,
+    before: Option<RibCode>,
+    rules: &[Rule],
+    args: &[Arg],
+) -> Result<Option<RibCode>, NoMemory>
+    ensures { IfOk result (λ r. r ≡ rules_from before rules.now args.now) }
+{
+    let mut fault = before;
+    for rule in rules {
+        fault = lower_of(fault, rule_fault(alloc, *rule, args)?);
+    }
+    Ok(fault)
+}
+
+/// The lowest code that stands in the arguments.
+pub fn args_fault(alloc: Global, name: Req, args: &[Arg]) -> Result<Option<RibCode>, NoMemory>
+    ensures { IfOk result (λ r. r ≡ args_code name args.now) }
+{
+    let row = row(name);
+    let unfit = code_when(!shapes_fit(row.shapes, args), RibCode::S3);
+    rules_fault(alloc, unfit, row.rules, args)
+}
+
+/// What follows the arguments.
+pub fn following(name: Req, args: &[Arg]) -> Follows
+    ensures { result ≡ follows_of name args.now }
+{
+    match row(name).tail {
+        Tail::Empty => Follows::Nothing,
+        Tail::Anything => Follows::Anything,
+        Tail::Free => Follows::Free,
+        Tail::Attribute => {
+            if is_one(Words::Bounds, args, 0) {
+                Follows::Bound
+            } else {
+                Follows::Free
+            }
+        }
+        Tail::Parameters => Follows::Parameters,
+        Tail::Points => Follows::Points,
+        Tail::Variables => {
+            if is_one(Words::Bicubic, args, 0) {
+                Follows::Bicubic
+            } else {
+                Follows::Variables
+            }
+        }
+    }
+}

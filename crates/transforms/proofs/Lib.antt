@@ -1,0 +1,6 @@
+pub mod Scales
+pub mod Signs
+pub mod Orders
+pub mod Products
+pub mod Quarters
+pub mod Adjugate

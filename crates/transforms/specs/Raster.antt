@@ -1,0 +1,46 @@
+-- Places on the raster, in 1/256 pixel from the left and from the top.
+use Rattle.std.specs.Prelude.{ℕ, ◌*◌, ◌^◌, ℤ, pos, neg_ℤ, ◌-ℤ◌, ◌*ℤ◌, ◌≤ℤ◌, unsigned_abs, Option, Some, None, ◌≡◌, refl}
+use Rattle.fixed_math.specs.Whole.{floor_by, clamp}
+use Rattle.fixed_math.specs.declared.vec3.Vec3.{Vec3}
+use Rattle.transforms.specs.declared.view.View.{View}
+use Rattle.transforms.specs.Field.{left, right, bottom, top, scale_of}
+
+-- a place put into -2^28 to 2^28
+abbrev pub clamped : ℤ → ℤ
+clamped x = clamp (neg_ℤ (pos 268435456)) (pos 268435456) x
+
+-- the place of x in a window from l to r over w pixels, at the depth z with the tangent t where there is perspective
+abbrev pub x_place : Option ℕ → ℕ → ℤ → ℤ → ℤ → ℕ → ℤ
+x_place None w l r x z = floor_by (pos (256 * w) *ℤ (x -ℤ l)) (unsigned_abs (r -ℤ l))
+x_place (Some t) w l r x z =
+    floor_by (pos (256 * w) *ℤ (pos (2 ^ 32) *ℤ x -ℤ pos (z * t) *ℤ l)) (z * t * unsigned_abs (r -ℤ l))
+
+-- the place of y in a window from b to u over h pixels, down from the top
+abbrev pub y_place : Option ℕ → ℕ → ℤ → ℤ → ℤ → ℕ → ℤ
+y_place None h b u y z = floor_by (pos (256 * h) *ℤ (u -ℤ y)) (unsigned_abs (u -ℤ b))
+y_place (Some t) h b u y z =
+    floor_by (pos (256 * h) *ℤ (pos (z * t) *ℤ u -ℤ pos (2 ^ 32) *ℤ y)) (z * t * unsigned_abs (u -ℤ b))
+
+abbrev pub raster_x : View → Vec3 → ℤ
+raster_x v p = clamped (x_place (scale_of v) v.width (left v) (right v) p.x (unsigned_abs p.z))
+
+abbrev pub raster_y : View → Vec3 → ℤ
+raster_y v p = clamped (y_place (scale_of v) v.height (bottom v) (top v) p.y (unsigned_abs p.z))
+
+-- no point further right than p lies further left on the raster
+abbrev pub GoesRight : View → Vec3 → Vec3 → Type 0
+GoesRight v p q = p.x ≤ℤ q.x → raster_x v p ≤ℤ raster_x v q
+
+-- and none higher than p lies further down
+abbrev pub GoesUp : View → Vec3 → Vec3 → Type 0
+GoesUp v p q = p.y ≤ℤ q.y → raster_y v q ≤ℤ raster_y v p
+
+-- worked values: a point one to the right and one up at a distance of two, in two pixels that show -1 to 1
+across_at_two : clamped (x_place (Some 65536) 2 (neg_ℤ (pos 65536)) (pos 65536) (pos 65536) 131072) ≡ pos 384
+across_at_two = refl
+
+down_at_two : clamped (y_place (Some 65536) 2 (neg_ℤ (pos 65536)) (pos 65536) (pos 65536) 131072) ≡ pos 128
+down_at_two = refl
+
+across_when_flat : clamped (x_place None 2 (neg_ℤ (pos 65536)) (pos 65536) (pos 65536) 131072) ≡ pos 512
+across_when_flat = refl
