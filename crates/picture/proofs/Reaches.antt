@@ -5,7 +5,7 @@ use Rattle.std.proofs.lemmas.Int.{ints}
 use Rattle.std.proofs.Math.Nat.{mod-lt, mul_comm, mul-le-mul_right}
 use Rattle.sample_pattern.specs.Pattern.{place_x, place_y}
 use Rattle.sample_pattern.proofs.Inside.{place_x-low, place_x-high, place_y-low, place_y-high}
-use Rattle.picture.specs.Settings.{OptionValues}
+use Rattle.scene_state.specs.Settings.{OptionValues}
 use Rattle.picture.specs.Weight.{counts, weight}
 use Rattle.picture.specs.Film.{FilmValues, sample_of, sample_count, spot_of, spot_at, per_pixel, weight_at}
 use Rattle.picture.specs.Window.{reach, IsWindow}

@@ -8,7 +8,7 @@ use Rattle.std.proofs.Math.Seq.{take-add}
 use Rattle.picture.specs.declared.sample.Sample.{Sample}
 use Rattle.std.proofs.lemmas.List.{length-append, length-take}
 use Rattle.std.proofs.Math.Nat.{mul-le-mul_right, add-mul, mul_comm}
-use Rattle.picture.specs.Settings.{OptionValues}
+use Rattle.scene_state.specs.Settings.{OptionValues}
 use Rattle.picture.specs.Mean.{Totals, nothing, with_colour, mean}
 use Rattle.picture.specs.Window.{AddsSamples}
 use Rattle.picture.specs.Film.{FilmValues, sample_of, samples, sample_count, per_pixel, sum_of, weight_at, mean_about}

@@ -6,7 +6,7 @@ use Rattle.sample_pattern.specs.Pattern.{place_x, place_y}
 use Rattle.picture.specs.declared.quad.Quad.{Quad}
 use Rattle.picture.specs.declared.sample.Sample.{Sample}
 use Rattle.picture.specs.Spots.{Spot}
-use Rattle.picture.specs.Settings.{OptionValues}
+use Rattle.scene_state.specs.Settings.{OptionValues}
 use Rattle.picture.specs.Fragments.{fragments}
 use Rattle.picture.specs.Composite.{composite}
 use Rattle.picture.specs.Weight.{weight}

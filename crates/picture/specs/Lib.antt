@@ -2,7 +2,6 @@ pub mod Spots
 pub mod Coverage
 pub mod Fragments
 pub mod Composite
-pub mod Settings
 pub mod Weight
 pub mod Mean
 pub mod Levels

@@ -2,7 +2,7 @@
 use Rattle.std.specs.Prelude.{ℕ, ◌+◌, ◌-◌, ◌*◌, ◌/◌, ◌≤◌, ◌≡◌, min, ◌+ℤ◌, ◌*ℤ◌, List, length}
 use Rattle.picture.specs.declared.sample.Sample.{Sample}
 use Rattle.picture.specs.declared.reach.Window.{Window}
-use Rattle.picture.specs.Settings.{OptionValues}
+use Rattle.scene_state.specs.Settings.{OptionValues}
 use Rattle.picture.specs.Mean.{Totals}
 use Rattle.picture.specs.Film.{FilmValues, weight_at, sum_of}
 

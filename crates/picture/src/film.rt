@@ -1,9 +1,9 @@
 ghost use Rattle.std.specs.Prelude.{◌≡◌, ◌≤◌};
 ghost use Rattle.picture.specs.Film.{FilmValues, IsFilm};
 
-use crate::options::Options;
 use crate::quad::Quad;
 use fixed_math::List;
+use scene_state::Options;
 use std::marker::Model;
 
 /// A frame: its size in pixels, 1 to 4,096 each way, its options, and all its micropolygons in the order of the scene.

@@ -1,8 +1,8 @@
 ghost use Rattle.std.specs.Prelude.{◌≡◌, ◌≤◌, ◌<◌, ◌*◌, pos};
 ghost use Rattle.picture.specs.Levels.{exposed_part, exposed, level, limited, quantized, levels};
 
-use crate::options::Options;
 use fixed_math::{Num, Vec3, floor_by, plus, times};
+use scene_state::Options;
 
 #[tactic(auto, unfolding(crate::specs::Levels::exposed_part))]
 fn expose_part(o: &Options, v: Num) -> Num

@@ -1,8 +1,8 @@
 ghost use Rattle.std.specs.Prelude.{◌≡◌, ◌≤◌, ◌++◌, All, OnOk, IfOk};
 ghost use Rattle.picture.specs.Levels.{header, band};
 
-use crate::options::Options;
 use fixed_math::NoMemory;
+use scene_state::Options;
 use std::alloc::Global;
 
 /// The header of a picture in the format PPM (P6): `P6`, the width and the height, and `one`.

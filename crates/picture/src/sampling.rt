@@ -7,13 +7,13 @@ use crate::bounded::BoundedQuad;
 use crate::compositing::composite;
 use crate::film::Film;
 use crate::fragment::Fragment;
-use crate::options::Options;
 use crate::order::fragments_at;
 use crate::place::Place;
 use crate::row::quads_in_row;
 use crate::sample::Sample;
 use fixed_math::NoMemory;
 use sample_pattern::position;
+use scene_state::Options;
 use std::alloc::Global;
 
 /// The number of samples of a pixel.

@@ -1,9 +1,8 @@
 ghost use Rattle.std.specs.Prelude.{◌≡◌, ◌≤◌, ◌≤ℤ◌, ◌*ℤ◌, ◌*◌, pos, true, unsigned_abs};
 ghost use Rattle.picture.specs.Weight.{counts, slope, across, bell, by_filter, weight};
 
-use crate::filter::Filter;
-use crate::options::Options;
 use fixed_math::{Num, floor_by, minus, times};
+use scene_state::{Filter, Options};
 
 /// Whether the place `d` lies within a filter of width `width`.
 fn is_within(width: u32, d: i64) -> bool

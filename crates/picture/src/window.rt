@@ -5,12 +5,12 @@ ghost use Rattle.std.specs.List.{slice_range};
 ghost use Rattle.picture.specs.Window.{AddsSamples};
 
 use crate::film::Film;
-use crate::options::Options;
 use crate::reach::window_of;
 use crate::sample::Sample;
 use crate::sums::Sums;
 use crate::weights::weight;
 use fixed_math::{Num, Vec3};
+use scene_state::Options;
 
 /// A place less the middle of a pixel.
 fn from_middle(place: i64, pixel: u32) -> i64

@@ -5,18 +5,18 @@ use Rattle.outside.specs.Library.{Files}
 use Rattle.outside.specs.Sink.{Written}
 use Rattle.outside.specs.Frames.{Picture, AddsFront}
 use Rattle.outside.proofs.Entries.{adds_front-none, adds_front-whole}
-use Rattle.render.specs.Flat.{frames_of}
 use Rattle.render.specs.Verdict.{Verdict, pictures_of}
 use Rattle.render.specs.Answers.{Agrees, ComesBefore}
 use Rattle.render.specs.declared.program.Answer.{Answer}
-use Rattle.render.specs.declared.program.Answer.TheVariants.{Done, Usage, Refused, WriteFault}
+use Rattle.render.specs.declared.program.Answer.TheVariants.{Done, Usage, Refused, WriteFault, Exhausted}
 
 nothing_new : (ps : List Picture) (old new : Option (List Written)) → new ≡ old → AddsFront ps old new
 nothing_new ps old new same = subst (λ n. AddsFront ps old n) (sym same) (adds_front-none ps old)
 
 leaves : (a : Answer) (v : Verdict) (old new : Option (List Written)) → Agrees a v old new → (ComesBefore a → new ≡ old) → AddsFront (pictures_of v) old new
-leaves Done v old new agrees before = subst (λ u. AddsFront (pictures_of u) old new) (sym agrees.1) (adds_front-whole (frames_of agrees.0) old new agrees.2)
-leaves WriteFault v old new agrees before = subst (λ u. AddsFront (pictures_of u) old new) (sym agrees.1) agrees.2
+leaves Done v old new agrees before = adds_front-whole (pictures_of v) old new agrees.1
+leaves WriteFault v old new agrees before = agrees.1
+leaves Exhausted v old new agrees before = agrees
 leaves Usage v old new agrees before = nothing_new (pictures_of v) old new (before tt)
 leaves (Refused r) v old new agrees before = nothing_new (pictures_of v) old new (before tt)
 

@@ -1,6 +1,5 @@
-pub mod Cutting
-pub mod Forms
 pub mod Writing
 pub mod Left
+pub mod Completing
 pub mod Drawing
 pub mod Commands

@@ -2,16 +2,12 @@
 use Rattle.std.specs.Prelude.{◌≡◌, ◌<◌, ℕ, List, Option, ◌⊎◌, map}
 use Rattle.outside.specs.Sink.{Written}
 use Rattle.outside.specs.Frames.{whole, Adds}
-use Rattle.render.specs.Flat.{frames_of}
-use Rattle.render.specs.Verdict.{Verdict, Usage, Missing, TooLong, NotBuilt, Accepted}
+use Rattle.render.specs.Answers.{IsAccepted}
+use Rattle.render.specs.Verdict.{Verdict, pictures_of}
 
--- the frames of the accepted scene were added, each whole and ended
+-- the frames of the accepted scene were added, each whole and ended, and nothing where it was only to be checked
 abbrev pub IsDone : Verdict → Option (List Written) → Option (List Written) → Type 0
-IsDone (Accepted scene) old new = Adds (map whole (frames_of scene)) old new
-IsDone Usage old new = ⊥
-IsDone (Missing name) old new = ⊥
-IsDone TooLong old new = ⊥
-IsDone NotBuilt old new = ⊥
+IsDone v old new = IsAccepted v × Adds (map whole (pictures_of v)) old new
 
 -- where the library didn't fail, a refused verdict is answered by its status; where the sink didn't either, so is an accepted one
 abbrev pub IsComplete : ℕ → ℕ → Type 0 → Type 0 → Type 0

@@ -1,13 +1,8 @@
 pub mod Texts
-pub mod Runs
-pub mod Words
-pub mod Numerals
-pub mod FirstForm
-pub mod Turns
-pub mod Heads
-pub mod Flat
 pub mod Codes
 pub mod Command
+pub mod Pictures
+pub mod Drawn
 pub mod Verdict
 pub mod Answers
 pub mod Done

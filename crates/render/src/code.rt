@@ -1,12 +1,68 @@
 // The codes of refused scenes.
 ghost use Rattle.std.specs.Prelude.{◌≡◌};
-ghost use Rattle.render.specs.Codes.{text_of};
+ghost use Rattle.render.specs.Codes.{text_of, status_of_code, of_lex, of_request, of_state};
 
-/// The code of a refused scene.
+use rib_lex::LexCode;
+use rib_reader::RibCode;
+use scene_state::StateCode;
+
+/// The code of a refused scene, as notes have it.
 #[derive(Debug, Clone, Copy, PartialEq, Eq)]
 pub enum Code {
-    /// Not built yet: the scene isn't in the form that this renderer reads so far.
+    /// A byte that can't stand here.
+    L1,
+    /// A string without its closing quote.
+    L2,
+    /// A backslash before a byte that it can't escape.
+    L3,
+    /// A number without its digits, or with something directly behind it.
+    L4,
+    /// No request has this name.
+    S1,
+    /// It isn't supported.
+    S2,
+    /// Arguments or brackets that the request doesn't take.
+    S3,
+    /// A token that is neither declared nor an inline declaration.
+    S4,
+    /// A wrong number of numbers or strings.
+    S5,
+    /// A block begins where it may not stand, or an end isn't that of the innermost block.
+    N1,
+    /// An option in a world.
+    N2,
+    /// A number that no light has.
+    N3,
+    /// Blocks are open at the end.
+    N4,
+    /// A primitive outside a world.
+    N5,
+    /// Not built yet: the scene is right, and this renderer doesn't draw it so far.
     U0,
+    /// A transformation that has no inverse.
+    G1,
+    /// An entry of a transformation out of range.
+    G2,
+    /// A field of view that isn't above 0 and below 180 degrees.
+    G3,
+    /// A matrix whose fourth column isn't 0, 0, 0, 1.
+    G4,
+    /// A primitive with another number of points than it has.
+    G5,
+    /// More than 64 blocks open at once.
+    M1,
+    /// More than 1,000 frames.
+    M2,
+    /// More than 65,536 patches in one frame.
+    M3,
+    /// More than 64 lights made since the last world, or since the start.
+    M4,
+    /// More than 4,096 pixels in a direction.
+    M5,
+    /// More than 16 samples in a direction of a pixel, or a filter wider or higher than 16 pixels.
+    M6,
+    /// A point whose raw coordinate in camera space passes 2^30.
+    M7,
     /// The scene file is longer than 16,777,216 bytes.
     M10,
 }
@@ -17,8 +73,96 @@ impl Code {
         ensures { result.now ≡ text_of self }
     {
         match self {
+            Code::L1 => "L1",
+            Code::L2 => "L2",
+            Code::L3 => "L3",
+            Code::L4 => "L4",
+            Code::S1 => "S1",
+            Code::S2 => "S2",
+            Code::S3 => "S3",
+            Code::S4 => "S4",
+            Code::S5 => "S5",
+            Code::N1 => "N1",
+            Code::N2 => "N2",
+            Code::N3 => "N3",
+            Code::N4 => "N4",
+            Code::N5 => "N5",
             Code::U0 => "U0",
+            Code::G1 => "G1",
+            Code::G2 => "G2",
+            Code::G3 => "G3",
+            Code::G4 => "G4",
+            Code::G5 => "G5",
+            Code::M1 => "M1",
+            Code::M2 => "M2",
+            Code::M3 => "M3",
+            Code::M4 => "M4",
+            Code::M5 => "M5",
+            Code::M6 => "M6",
+            Code::M7 => "M7",
             Code::M10 => "M10",
         }
+    }
+
+    /// The status of a run that is refused by this code.
+    pub fn status(self) -> u8
+        ensures { result ≡ status_of_code self }
+    {
+        match self {
+            Code::G1 | Code::G2 | Code::G3 | Code::G4 | Code::G5 => 5,
+            Code::M1 | Code::M2 | Code::M3 | Code::M4 | Code::M5 | Code::M6 | Code::M7 => 5,
+            Code::M10 => 5,
+            _ => 3,
+        }
+    }
+}
+
+/// The code of a lexical fault.
+pub(crate) fn of_lex(code: LexCode) -> Code
+    ensures { result ≡ of_lex code }
+{
+    match code {
+        LexCode::L1 => Code::L1,
+        LexCode::L2 => Code::L2,
+        LexCode::L3 => Code::L3,
+        LexCode::L4 => Code::L4,
+    }
+}
+
+/// The code of a request's fault.
+pub(crate) fn of_request(code: RibCode) -> Code
+    ensures { result ≡ of_request code }
+{
+    match code {
+        RibCode::S1 => Code::S1,
+        RibCode::S2 => Code::S2,
+        RibCode::S3 => Code::S3,
+        RibCode::S4 => Code::S4,
+        RibCode::S5 => Code::S5,
+    }
+}
+
+/// The code of a fault of the graphics state.
+pub(crate) fn of_state(code: StateCode) -> Code
+    ensures { result ≡ of_state code }
+{
+    match code {
+        StateCode::N1 => Code::N1,
+        StateCode::N2 => Code::N2,
+        StateCode::N3 => Code::N3,
+        StateCode::N4 => Code::N4,
+        StateCode::N5 => Code::N5,
+        StateCode::G1 => Code::G1,
+        StateCode::G2 => Code::G2,
+        StateCode::G3 => Code::G3,
+        StateCode::G4 => Code::G4,
+        StateCode::G5 => Code::G5,
+        StateCode::M1 => Code::M1,
+        StateCode::M2 => Code::M2,
+        StateCode::M3 => Code::M3,
+        StateCode::M4 => Code::M4,
+        StateCode::M5 => Code::M5,
+        StateCode::M6 => Code::M6,
+        StateCode::M7 => Code::M7,
     }
 }

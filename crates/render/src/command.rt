@@ -3,7 +3,7 @@ ghost use Rattle.std.specs.Prelude.{◌≡◌, false, IfOk, option_map, codes};
 ghost use Rattle.clap.specs.Matches.{found_of, first_value};
 ghost use Rattle.clap.specs.Simple.{app_of};
 ghost use Rattle.clap.specs.Walk.{rule_of};
-ghost use Rattle.render.specs.Command.{reyes, action_rule, name_rule, bucket_rule, grid_points_rule, stats_rule, name_for, name_of};
+ghost use Rattle.render.specs.Command.{reyes, action_rule, name_rule, bucket_rule, grid_points_rule, stats_rule, action_named, command_for, command_of, found};
 ghost use Rattle.render.specs.Texts.{texts};
 
 use clap::builder::ValueParser;
@@ -11,6 +11,15 @@ use clap::error::ErrorKind;
 use clap::{Arg, ArgAction, ArgMatches, Command};
 use fixed_math::NoMemory;
 use std::alloc::{AllocError, Global};
+
+/// What is done with a scene.
+#[derive(Debug, Clone, Copy, PartialEq, Eq)]
+pub(crate) enum Action {
+    /// Its frames are drawn.
+    Render,
+    /// It is read to its end, and nothing is written.
+    Check,
+}
 
 fn action_arg<'a>(alloc: Global) -> Arg<'a>
     ensures rule { rule_of result ≡ action_rule }
@@ -69,27 +78,39 @@ fn command<'a>(alloc: Global) -> Result<Command<'a>, AllocError>
         .arg(stats_arg(alloc))
 }
 
-// The name among the words that clap found, where the action is one that is built.
-fn name_found<'a>(matches: &ArgMatches<'a>) -> Option<&'a str>
-    ensures { option_map (λ n. n.now) result ≡ name_for (first_value (found_of matches.now) (codes "action")) (first_value (found_of matches.now) (codes "name")) }
+fn action_named(action: &str) -> Option<Action>
+    ensures { result ≡ action_named action.now }
+{
+    if action == "render" {
+        Some(Action::Render)
+    } else if action == "check" {
+        Some(Action::Check)
+    } else {
+        None
+    }
+}
+
+// The command among the words that clap found, where the action is one that is built.
+fn command_found<'a>(matches: &ArgMatches<'a>) -> Option<(Action, &'a str)>
+    ensures { option_map found result ≡ command_for (first_value (found_of matches.now) (codes "action")) (first_value (found_of matches.now) (codes "name")) }
 {
     let action = matches.get_str("action")?;
     let name = matches.get_str("name")?;
-    if action == "render" { Some(name) } else { None }
+    Some((action_named(action)?, name))
 }
 
-/// The name of the scene that a command asks for, where its words are in order.
-pub(crate) fn scene_name<'a>(
+/// What a command asks for, and the name of its scene, where its words are in order.
+pub(crate) fn scene_command<'a>(
     alloc: Global,
     words: &'a [&'a str],
-) -> Result<Option<&'a str>, NoMemory>
-    ensures { IfOk result (λ n. option_map (λ t. t.now) n ≡ name_of (texts words.now)) }
+) -> Result<Option<(Action, &'a str)>, NoMemory>
+    ensures { IfOk result (λ n. option_map found n ≡ command_of (texts words.now)) }
 {
     let Ok(command) = command(alloc) else {
         return Err(NoMemory);
     };
     match command.try_get_matches_from(words) {
-        Ok(matches) => Ok(name_found(&matches)),
+        Ok(matches) => Ok(command_found(&matches)),
         Err(error) if error.kind() == ErrorKind::OutOfMemory => Err(NoMemory),
         Err(_) => Ok(None),
     }

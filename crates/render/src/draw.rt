@@ -1,23 +1,19 @@
-// The picture of a flat scene, by the plain program: all cells of all patches, looked through at each sample.
-ghost use Rattle.std.specs.Prelude.{◌≡◌, ◌≤◌, ◌<◌, ◌+◌, ◌++◌, ◌∷◌, [], false, ℕ, pos, None, List, replicate, length, IfOk, slice_index_or};
+// The picture of a frame, by the plain program: all cells of all primitives, looked through at each sample.
+ghost use Rattle.std.specs.Prelude.{◌≡◌, ◌≤◌, ◌++◌, ◌∷◌, [], IfOk, IfSome, MatchOption};
+ghost use Rattle.bound_split.specs.Leaves.{pending};
 ghost use Rattle.std.specs.List.{flat_map};
-ghost use Rattle.fixed_math.specs.Axes.{by_axes};
-ghost use Rattle.patches.specs.Parts.{IsPart};
 ghost use Rattle.bound_split.specs.declared.splits.Decision.TheVariants.{Dice};
 ghost use Rattle.picture.specs.Cells.{quads_of};
-ghost use Rattle.render.specs.FirstForm.{AreSizes};
-ghost use Rattle.render.specs.Flat.{window_by, view_of, options, decide, leaf_cells, leaf_quads, patch_quads, film_of, picture_bytes, point_count};
+ghost use Rattle.render.specs.Pictures.{decide, leaf_cells, prim_quads, film_of, picture_bytes};
 
-use crate::flat::{FlatPatch, FlatScene};
+use crate::drawn::whole_patch;
 use bound_split::{Leaf, Walk};
 use dice::positions;
-use fixed_math::{List, NoMemory, Num, Vec3};
-use patches::Piece;
-use picture::{
-    Cell, Film, Filter, Options, Quad, band_bytes, cells_of_grid, header, pixels, quad_of,
-};
+use fixed_math::{List, NoMemory};
+use picture::{Cell, Film, Quad, band_bytes, cells_of_grid, header, pixels, quad_of};
+use scene_state::{Frame, Prim};
 use std::alloc::Global;
-use transforms::{Camera, View};
+use transforms::Camera;
 
 /// The bytes of a picture: its header, and its pixels by rows.
 #[derive(Drop)]
@@ -26,146 +22,108 @@ pub(crate) struct Drawn {
     pub(crate) band: Vec<u8>,
 }
 
-// The screen window of a format whose sides have this ratio.
-fn window(ratio: Num) -> [Num; 4]
-    ensures { result ≡ window_by ratio }
-{
-    let one = Num::sat(65536);
-    if ratio.raw() >= 65536 {
-        [ratio.neg(), ratio, one.neg(), one]
-    } else {
-        let half = one.div(ratio);
-        [one.neg(), one, half.neg(), half]
-    }
-}
-
-// The orthographic view of a format.
-fn view(width: u32, height: u32) -> View
-    requires { AreSizes width height }
-    ensures { result ≡ view_of width height }
-{
-    View {
-        fov: None,
-        window: window(Num::sat((65536 * width / height) as i128)),
-        width,
-        height,
-        near: Num::sat(64),
-        far: Num::sat(2147418112),
-    }
-}
-
-// One sample a pixel, a box filter of one pixel, and bytes from 0 to 255.
-fn plain_options() -> Options
-    ensures { result ≡ options }
-{
-    Options {
-        xs: 1,
-        ys: 1,
-        filter: Filter::Box,
-        wx: 256,
-        wy: 256,
-        gain: Num::sat(65536),
-        gamma: Num::sat(65536),
-        one: 255,
-        min: 0,
-        max: 255,
-    }
-}
-
 // The micropolygons of a leaf.
-fn cells_in(alloc: Global, flat: &FlatPatch, leaf: &Leaf) -> Result<Vec<Cell>, NoMemory>
+fn cells_in(alloc: Global, prim: &Prim, leaf: &Leaf) -> Result<Vec<Cell>, NoMemory>
     requires p { leaf.now.p ≤ 4 }
     requires q { leaf.now.q ≤ 4 }
-    ensures { IfOk result (λ cells. cells.items ≡ leaf_cells (Dice leaf.now.p leaf.now.q) flat.now leaf.now.piece) }
+    ensures { IfOk result (λ cells. cells.items ≡ leaf_cells (Dice leaf.now.p leaf.now.q) prim.now leaf.now.piece) }
 {
-    let points = positions(alloc, &flat.patch, &leaf.piece, leaf.p, leaf.q)?;
+    let points = positions(alloc, &prim.patch, &leaf.piece, leaf.p, leaf.q)?;
     let columns = (1 << leaf.p) + 1;
     let rows = (1 << leaf.q) + 1;
-    let one = Num::sat(65536);
-    let colours = vec![in alloc; flat.colour; columns * rows]?;
-    let opacities = vec![in alloc; Vec3 {
-        x: one,
-        y: one,
-        z: one
-    }; columns * rows]?;
+    let colours = vec![in alloc; prim.cs; columns * rows]?;
+    let opacities = vec![in alloc; prim.os; columns * rows]?;
     cells_of_grid(alloc, columns, rows, &points, &colours, &opacities)
 }
 
-// Appends what the camera sees of a micropolygon.
-fn push_quad(camera: &Camera, cell: &Cell, quads: &mut Vec<Quad>) -> Result<(), NoMemory>
-    ensures { IfOk result (λ _. quads.new.items ≡ quads.old.items ++ quads_of camera.now false false (cell.now ∷ [])) }
+// Appends what the camera sees of a micropolygon of a primitive.
+fn push_quad(
+    camera: &Camera,
+    prim: &Prim,
+    cell: &Cell,
+    quads: &mut Vec<Quad>,
+) -> Result<(), NoMemory>
+    ensures { IfOk result (λ _. quads.new.items ≡ quads.old.items ++ quads_of camera.now prim.now.one_sided prim.now.flip (cell.now ∷ [])) }
 {
-    if let Some(quad) = quad_of(camera, cell, false, false) {
+    if let Some(quad) = quad_of(camera, cell, prim.one_sided, prim.flip) {
         quads.push(quad)?;
     }
     Ok(())
 }
 
-// Appends what the camera sees of micropolygons.
-fn push_quads(camera: &Camera, cells: &[Cell], quads: &mut Vec<Quad>) -> Result<(), NoMemory>
-    ensures { IfOk result (λ _. quads.new.items ≡ quads.old.items ++ quads_of camera.now false false cells.now) }
-{
-    for cell in cells {
-        push_quad(camera, cell, quads)?;
-    }
-    Ok(())
-}
-
-// Appends what the camera sees of a patch, leaf by leaf.
-fn push_patch(
-    alloc: Global,
+// Appends what the camera sees of micropolygons of a primitive.
+fn push_quads(
     camera: &Camera,
-    flat: &FlatPatch,
+    prim: &Prim,
+    cells: &[Cell],
     quads: &mut Vec<Quad>,
 ) -> Result<(), NoMemory>
-    ensures { IfOk result (λ _. quads.new.items ≡ quads.old.items ++ patch_quads camera.now flat.now) }
+    ensures { IfOk result (λ _. quads.new.items ≡ quads.old.items ++ quads_of camera.now prim.now.one_sided prim.now.flip cells.now) }
 {
-    let rate = Num::sat(65536);
-    let bound = Num::sat(0);
-    let mut walk = Walk::new(Piece {
-        prim: 0,
-        a: 0,
-        i: 0,
-        b: 0,
-        j: 0,
-    });
-    while let Some(leaf) = walk.next(&flat.patch, camera, rate, bound) {
-        let cells = cells_in(alloc, flat, &leaf)?;
-        push_quads(camera, &cells, quads)?;
+    for cell in cells {
+        push_quad(camera, prim, cell, quads)?;
     }
     Ok(())
 }
 
-// What the camera sees of all patches.
-fn quads_in(alloc: Global, camera: &Camera, patches: &[FlatPatch]) -> Result<Vec<Quad>, NoMemory>
-    ensures { IfOk result (λ quads. quads.items ≡ flat_map (patch_quads camera.now) patches.now) }
+// The next leaf of a primitive.
+fn next_leaf(walk: &mut Walk, camera: &Camera, prim: &Prim) -> Option<Leaf>
+    ensures leaf { let decides = decide camera.now prim.now in
+        MatchOption result (pending decides walk.old ≡ []) (λ leaf. pending decides walk.old ≡ leaf.piece ∷ pending decides walk.new) }
+    ensures sizes { IfSome result (λ leaf. decide camera.now prim.now leaf.piece ≡ Dice leaf.p leaf.q) }
+    ensures small { IfSome result (λ leaf. (leaf.p ≤ 4) × (leaf.q ≤ 4)) }
+{
+    walk.next(&prim.patch, camera, prim.rate, prim.bound)
+}
+
+// Appends what the camera sees of a primitive, leaf by leaf.
+fn push_prim(
+    alloc: Global,
+    camera: &Camera,
+    prim: &Prim,
+    quads: &mut Vec<Quad>,
+) -> Result<(), NoMemory>
+    ensures { IfOk result (λ _. quads.new.items ≡ quads.old.items ++ prim_quads camera.now prim.now) }
+{
+    let mut walk = Walk::new(whole_patch());
+    while let Some(leaf) = next_leaf(&mut walk, camera, prim) {
+        let cells = cells_in(alloc, prim, &leaf)?;
+        push_quads(camera, prim, &cells, quads)?;
+    }
+    Ok(())
+}
+
+// What the camera sees of all primitives.
+fn quads_in(alloc: Global, camera: &Camera, prims: &[Prim]) -> Result<Vec<Quad>, NoMemory>
+    ensures { IfOk result (λ quads. quads.items ≡ flat_map (prim_quads camera.now) prims.now) }
 {
     let mut quads = Vec::new(alloc);
-    for flat in patches {
-        push_patch(alloc, camera, flat, &mut quads)?;
+    for prim in prims {
+        push_prim(alloc, camera, prim, &mut quads)?;
     }
     Ok(quads)
 }
 
-/// The picture of a scene.
-#[tactic(auto, unfolding(crate::specs::Flat::picture_bytes))]
-pub(crate) fn draw(alloc: Global, scene: &FlatScene) -> Result<Drawn, NoMemory>
-    requires { AreSizes scene.now.width scene.now.height }
-    ensures { IfOk result (λ d. d.header.items ++ d.band.items ≡ picture_bytes scene.now) }
+/// The picture of a frame.
+#[tactic(auto, unfolding(crate::specs::Pictures::picture_bytes))]
+pub(crate) fn draw(alloc: Global, frame: &Frame) -> Result<Drawn, NoMemory>
+    ensures { IfOk result (λ d. d.header.items ++ d.band.items ≡ picture_bytes frame.now) }
 {
-    let Ok(camera) = Camera::new(view(scene.width, scene.height)) else {
-        unreachable!()
-    };
-    let quads = quads_in(alloc, &camera, scene.patches.as_slice())?;
+    let view = frame.camera.view();
+    let (width, height) = (view.width, view.height);
+    let options = frame.options;
+    // here is told that all options are in order
+    let _limits = options.limits();
+    let quads = quads_in(alloc, &frame.camera, frame.prims.as_slice())?;
     let film = Film {
-        width: scene.width,
-        height: scene.height,
-        options: plain_options(),
+        width,
+        height,
+        options,
         quads: List(quads),
     };
     let pixels = pixels(alloc, &film)?;
     Ok(Drawn {
-        header: header(alloc, scene.width, scene.height, &film.options)?,
+        header: header(alloc, width, height, &film.options)?,
         band: band_bytes(alloc, &film.options, &pixels)?,
     })
 }

@@ -4,13 +4,10 @@
 mod code;
 mod command;
 mod draw;
-mod flat;
-mod form;
+mod drawn;
 mod load;
-mod numerals;
 mod program;
 mod refusal;
-mod words;
 mod write;
 
 pub use code::Code;

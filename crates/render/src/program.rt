@@ -4,19 +4,17 @@ ghost use Rattle.outside.specs.Causes.{Rose, Told};
 ghost use Rattle.outside.specs.Frames.{AddsFront};
 ghost use Rattle.outside.specs.Asked.{AsksFront};
 ghost use Rattle.render.specs.Texts.{texts};
-ghost use Rattle.render.specs.Command.{name_of};
+ghost use Rattle.render.specs.Command.{command_of};
 ghost use Rattle.render.specs.Verdict.{verdict, status_of, pictures_of, asked_of};
 ghost use Rattle.render.specs.Done.{IsDone, IsComplete};
-ghost use Rattle.render.specs.Answers.{Agrees, ComesBefore, number_of};
-ghost use Rattle.render.specs.declared.program.Answer.TheVariants.{Done, Usage, Refused, WriteFault};
+ghost use Rattle.render.specs.Answers.{Agrees, IsToRender, ComesBefore, number_of};
+ghost use Rattle.render.specs.declared.program.Answer.TheVariants.{Done, Usage, Refused, WriteFault, Exhausted};
 ghost use Rattle.render.specs.declared.refusal.Refusal.TheVariants.{ReadFault, NoMemory};
 
-use crate::code::Code;
-use crate::command::scene_name;
-use crate::draw::draw;
+use crate::command::{Action, scene_command};
 use crate::load::load;
 use crate::refusal::Refusal;
-use crate::write::write_picture;
+use crate::write::{Stop, write_frames};
 use outside::{FrameSink, Library, Notes};
 use std::alloc::Global;
 
@@ -25,8 +23,11 @@ use std::alloc::Global;
 enum Answer {
     Done,
     Usage,
+    /// No frame was begun.
     Refused(Refusal),
     WriteFault,
+    /// Memory ran out behind some first frames.
+    Exhausted,
 }
 
 // All but the note.
@@ -37,8 +38,8 @@ fn answered<L: Library, O: FrameSink>(
     frames: &mut O,
 ) -> Answer
     requires { O.is_open frames.old ≡ false }
-    ensures usage { result ≡ Usage → name_of (texts words.now) ≡ None }
-    ensures usage_known { name_of (texts words.now) ≡ None → (result ≡ Usage) ⊎ (result ≡ Refused NoMemory) }
+    ensures usage { result ≡ Usage → command_of (texts words.now) ≡ None }
+    ensures usage_known { command_of (texts words.now) ≡ None → (result ≡ Usage) ⊎ (result ≡ Refused NoMemory) }
     ensures verdict { Told (L.held library.old) (λ files. Agrees result (verdict (texts words.now) files) (O.written frames.old) (O.written frames.new)) }
     ensures before { ComesBefore result → O.written frames.new ≡ O.written frames.old }
     ensures closed { result ≢ WriteFault → O.is_open frames.new ≡ false }
@@ -48,21 +49,22 @@ fn answered<L: Library, O: FrameSink>(
     ensures read { result ≡ Refused ReadFault → Rose (L.faults library.old) (L.faults library.new) }
     ensures write { result ≡ WriteFault → Rose (O.faults frames.old) (O.faults frames.new) }
 {
-    let name = match scene_name(alloc, words) {
-        Ok(Some(name)) => name,
+    let (action, name) = match scene_command(alloc, words) {
+        Ok(Some(command)) => command,
         Ok(None) => return Answer::Usage,
         Err(_) => return Answer::Refused(Refusal::NoMemory),
     };
-    let scene = match load(alloc, library, name) {
+    let scene = match load(alloc, library, action, name) {
         Ok(scene) => scene,
         Err(refusal) => return Answer::Refused(refusal),
     };
-    let Ok(drawn) = draw(alloc, &scene) else {
-        return Answer::Refused(Refusal::NoMemory);
-    };
-    match write_picture(frames, scene.name.as_str(), &drawn) {
-        Ok(()) => Answer::Done,
-        Err(_) => Answer::WriteFault,
+    match action {
+        Action::Check => Answer::Done,
+        Action::Render => match write_frames(alloc, frames, scene.frames.as_slice()) {
+            Ok(()) => Answer::Done,
+            Err(Stop::Stopped) => Answer::WriteFault,
+            Err(Stop::NoMemory) => Answer::Exhausted,
+        },
     }
 }
 
@@ -73,12 +75,11 @@ fn status(answer: &Answer) -> u8
     match answer {
         Answer::Done => 0,
         Answer::Usage => 2,
-        Answer::Refused(Refusal::At(Code::U0, _)) => 3,
-        Answer::Refused(Refusal::At(Code::M10, _)) => 5,
+        Answer::Refused(Refusal::At { code, .. }) => code.status(),
         Answer::Refused(Refusal::Missing(_)) => 6,
         Answer::Refused(Refusal::ReadFault) => 7,
         Answer::WriteFault => 8,
-        Answer::Refused(Refusal::NoMemory) => 9,
+        Answer::Refused(Refusal::NoMemory) | Answer::Exhausted => 9,
     }
 }
 
@@ -87,22 +88,23 @@ fn note(answer: &Answer) -> Option<&str> {
     match answer {
         Answer::Done => None,
         Answer::Usage => Some("usage\n"),
-        Answer::Refused(Refusal::At(_, note)) => Some(note.as_str()),
+        Answer::Refused(Refusal::At { note, .. }) => Some(note.as_str()),
         Answer::Refused(Refusal::Missing(note)) => Some(note.as_str()),
         Answer::Refused(Refusal::ReadFault) => Some("read fault\n"),
         Answer::WriteFault => Some("write fault\n"),
-        Answer::Refused(Refusal::NoMemory) => Some("no memory\n"),
+        Answer::Refused(Refusal::NoMemory) | Answer::Exhausted => Some("no memory\n"),
     }
 }
 
-/// Runs a command: its words are `reyes ACTION NAME [--bucket B] [--grid-points G] [--stats]` as `clap` reads them, with
-/// the action `render`, which is the one that is built, and the name of a scene file; B is 4 to 64 and G is 289 to
-/// 1,000,000, and the three options have no effect yet. The scene is asked of the library, and its frames go to the sink.
-/// No frame of the sink may be open.
+/// Runs a command: its words are `reyes ACTION NAME [--bucket B] [--grid-points G] [--stats]` as `clap` reads them, where the
+/// action is `render` or `check` and NAME names a scene file; B is 4 to 64 and G is 289 to 1,000,000, and the three options have
+/// no effect yet. The scene is asked of the library and read to its end. With `render` its frames then go to the sink, each
+/// drawn whole before it is begun; with `check` nothing is written. No frame of the sink may be open.
 ///
-/// The answer is a status: 0 done; 2 the words are no command, or they ask for help; 3 the scene isn't in the form that is read so far; 5 its
-/// file is too long; 6 the library lacks it; 7 the library failed; 8 the sink failed; 9 want of memory. With each but 0 a
-/// line goes to the notes, which changes no status.
+/// The answer is a status: 0 done; 2 the words are no command, or they ask for help; 3 the scene has a fault of syntax or
+/// nesting, or it is to be rendered and has what isn't drawn so far; 5 it has a fault of geometry or passes a limit; 6 the library
+/// lacks it; 7 the library failed; 8 the sink failed; 9 want of memory. With each but 0 a line goes to the notes, which changes
+/// no status.
 pub fn run<'a, L: Library, O: FrameSink, N: Notes>(
     alloc: Global,
     words: &'a [&'a str],
@@ -112,7 +114,7 @@ pub fn run<'a, L: Library, O: FrameSink, N: Notes>(
 ) -> u8
     requires { O.is_open frames.old ≡ false }
 
-    // 0: the entries added are exactly the frames of the accepted scene, each whole and ended.
+    // 0: the entries added are exactly the frames of the accepted scene, each whole and ended; none where it was to be checked.
     ensures done { result ≡ 0 → Told (L.held library.old) (λ files. IsDone (verdict (texts words.now) files) (O.written frames.old) (O.written frames.new)) }
 
     // Every answer leaves a prefix of the frames, and one before the first frame leaves nothing new.
@@ -121,12 +123,12 @@ pub fn run<'a, L: Library, O: FrameSink, N: Notes>(
     ensures closed { result ≢ 8 → O.is_open frames.new ≡ false }
 
     // Each answer but want of memory has its cause.
-    ensures usage { result ≡ 2 → name_of (texts words.now) ≡ None }
-    ensures usage_known { name_of (texts words.now) ≡ None → (result ≡ 2) ⊎ (result ≡ 9) }
+    ensures usage { result ≡ 2 → command_of (texts words.now) ≡ None }
+    ensures usage_known { command_of (texts words.now) ≡ None → (result ≡ 2) ⊎ (result ≡ 9) }
     ensures verdict { result ≤ 6 → Told (L.held library.old) (λ files. status_of (verdict (texts words.now) files) ≡ result) }
     ensures read { result ≡ 7 → Rose (L.faults library.old) (L.faults library.new) }
     ensures write { result ≡ 8 → Rose (O.faults frames.old) (O.faults frames.new) }
-    ensures write_accepted { result ≡ 8 → Told (L.held library.old) (λ files. status_of (verdict (texts words.now) files) ≡ 0) }
+    ensures write_accepted { result ≡ 8 → Told (L.held library.old) (λ files. IsToRender (verdict (texts words.now) files)) }
 
     // Where nothing failed, the answer is the verdict's or want of memory.
     ensures complete { Told (L.held library.old) (λ files. IsComplete (status_of (verdict (texts words.now) files)) result (Rose (L.faults library.old) (L.faults library.new)) (Rose (O.faults frames.old) (O.faults frames.new))) }

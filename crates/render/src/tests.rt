@@ -152,26 +152,105 @@ fn blanks(alloc: Global) -> Result<Vec<u8>, AllocError> {
 }
 
 #[test]
-fn scenes_out_of_form_or_too_long_are_refused(rt: HostRuntime) -> Result<(), Fail> {
+fn scenes_with_faults_are_refused_at_their_lines(rt: HostRuntime) -> Result<(), Fail> {
     let alloc = rt.alloc();
-    let outcome = rendered(alloc, scene(alloc, "Torus 1")?.as_str(), 1000, 1000, 0)?;
+    let rows: [(&str, u8, &[u8]); 8] = [
+        ("$", 3, b"s.rib:6: L1\n"),
+        ("Torus 1", 3, b"s.rib:6: S2\n"),
+        ("\nFoo 1", 3, b"s.rib:7: S1\n"),
+        ("Exposure 1 1", 3, b"s.rib:6: N2\n"),
+        ("AttributeBegin", 3, b"s.rib:7: N1\n"),
+        ("Opacity [.5 1 1]", 0, b""),
+        ("Scale 0 1 1", 5, b"s.rib:6: G1\n"),
+        ("Illuminate 1 0", 3, b"s.rib:6: N3\n"),
+    ];
+    for (world, status, note) in rows {
+        let outcome = rendered(alloc, scene(alloc, world)?.as_str(), 1000, 1000, 0)?;
+        assert_eq!(rt; outcome.status, status);
+        assert_eq!(rt; outcome.notes.as_slice(), note);
+    }
+    Ok(())
+}
+
+#[test]
+fn scenes_that_are_not_drawn_yet_are_checked(rt: HostRuntime) -> Result<(), Fail> {
+    let alloc = rt.alloc();
+    let rows = [
+        "Opacity [.5 1 1] ",
+        "Surface \"matte\" ",
+        "Displacement \"bumpy\" ",
+        "Atmosphere \"fog\" ",
+        "LightSource \"ambientlight\" 1 ",
+        "ShadingRate .00001 ",
+    ];
+    for row in rows {
+        let world = format!(in alloc; "{row}{RED}")?;
+        let outcome = rendered(alloc, scene(alloc, world.as_str())?.as_str(), 1000, 1000, 0)?;
+        assert_eq!(rt; (outcome.status, outcome.entries), (3, 0));
+        assert_eq!(rt; outcome.notes.as_slice(), b"s.rib:1: U0\n".as_slice());
+        assert_eq!(rt; checked(alloc, world.as_str())?, 0);
+    }
+    Ok(())
+}
+
+/// The status of checking a scene with these requests in its world.
+fn checked(alloc: Global, world: &str) -> Result<u8, Fail> {
+    let mut library = MemoryLibrary::new(alloc);
+    let text = scene(alloc, world)?;
+    library.add("s.rib", text.as_bytes()).or(Err("memory"))?;
+    let mut sink = MemorySink::new(alloc, 1000, 1000).or(Err("memory"))?;
+    let mut notes = MemoryNotes::new(alloc, 100).or(Err("memory"))?;
+    let words = ["reyes", "check", "s.rib"];
+    let status = run(alloc, &words, &mut library, &mut sink, &mut notes);
+    if sink.entries() != 0 {
+        return Err(Fail::from("a frame was written"));
+    }
+    Ok(status)
+}
+
+#[test]
+fn frames_are_written_in_order(rt: HostRuntime) -> Result<(), Fail> {
+    let alloc = rt.alloc();
+    let frame = scene(alloc, RED)?;
+    let mut library = MemoryLibrary::new(alloc);
+    let text = format!(in alloc; "FrameBegin 1\n{frame}FrameEnd\nFrameBegin 2\n{frame}FrameEnd\n")?;
+    library.add("s.rib", text.as_bytes()).or(Err("memory"))?;
+    let mut sink = MemorySink::new(alloc, 1000, 1000).or(Err("memory"))?;
+    // two calls for the bytes of a frame, its begin and its end: the second frame's end fails
+    sink.fail_call(8);
+    let mut notes = MemoryNotes::new(alloc, 100).or(Err("memory"))?;
+    let words = ["reyes", "render", "s.rib"];
+    assert_eq!(rt; run(alloc, &words, &mut library, &mut sink, &mut notes), 8);
+    assert_eq!(rt; sink.entries(), 2);
+    if sink.entries() == 2 {
+        assert!(rt; sink.entry(0).ended);
+        assert!(rt; !sink.entry(1).ended);
+        assert_eq!(rt; sink.entry(1).bytes.len(), 23);
+    }
+    Ok(())
+}
+
+#[test]
+fn a_scene_is_read_to_its_end_before_a_frame_is_begun(rt: HostRuntime) -> Result<(), Fail> {
+    let alloc = rt.alloc();
+    let frame = scene(alloc, RED)?;
+    let text = format!(in alloc; "FrameBegin 1\n{frame}FrameEnd\n\n\nFoo 1\n")?;
+    let outcome = rendered(alloc, text.as_str(), 1000, 1000, 0)?;
     assert_eq!(rt; (outcome.status, outcome.entries), (3, 0));
-    assert_eq!(rt; outcome.notes.as_slice(), b"s.rib:1: U0\n".as_slice());
+    assert_eq!(rt; outcome.notes.as_slice(), b"s.rib:12: S1\n".as_slice());
+    Ok(())
+}
+
+#[test]
+fn a_file_that_is_too_long_is_refused(rt: HostRuntime) -> Result<(), Fail> {
+    let alloc = rt.alloc();
     let mut library = MemoryLibrary::new(alloc);
     let long = blanks(alloc)?;
     library.add("s.rib", &long).or(Err("memory"))?;
     let mut sink = MemorySink::new(alloc, 100, 8).or(Err("memory"))?;
     let mut notes = MemoryNotes::new(alloc, 100).or(Err("memory"))?;
-    assert_eq!(rt;
-        run(
-            alloc,
-            &["reyes", "render", "s.rib"],
-            &mut library,
-            &mut sink,
-            &mut notes
-        ),
-        5
-    );
+    let words = ["reyes", "render", "s.rib"];
+    assert_eq!(rt; run(alloc, &words, &mut library, &mut sink, &mut notes), 5);
     assert_eq!(rt; notes.text(), b"s.rib:1: M10\n".as_slice());
     Ok(())
 }
@@ -189,8 +268,10 @@ fn commanded(alloc: Global, words: &[&str]) -> Result<u8, Fail> {
 #[test]
 fn words_are_read_as_a_command(rt: HostRuntime) -> Result<(), Fail> {
     let alloc = rt.alloc();
-    let rows: [(&[&str], u8); 20] = [
+    let rows: [(&[&str], u8); 22] = [
         (&["reyes", "render", "s.rib"], 0),
+        (&["reyes", "check", "s.rib"], 0),
+        (&["reyes", "check", "--stats", "s.rib"], 0),
         (&["reyes", "render", "s.rib", "--bucket", "4"], 0),
         (&["reyes", "--bucket=64", "render", "s.rib"], 0),
         (&["reyes", "render", "--grid-points", "289", "s.rib"], 0),

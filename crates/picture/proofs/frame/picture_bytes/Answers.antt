@@ -1,6 +1,6 @@
 use Rattle.std.proofs.Common.{◌≡◌, ◌∙◌, ◌≤◌, ap, sym, subst, ℕ, List}
 use Rattle.std.specs.Prelude.{All}
-use Rattle.picture.specs.Settings.{OptionValues, AreOptions}
+use Rattle.scene_state.specs.Settings.{OptionValues, AreOptions}
 use Rattle.picture.specs.Film.{FilmValues, pixels}
 use Rattle.picture.proofs.Within.{pixels_within}
 use Rattle.picture.proofs.frame.picture_bytes.Goals as goal

@@ -2,7 +2,7 @@ use Rattle.std.proofs.Common.{◌∙◌, ◌++◌, [], ◌∷◌, ℕ, List, ap,
 use Rattle.std.specs.List.{concat}
 use Rattle.std.proofs.lemmas.List.{take_more, append-nil}
 use Rattle.std.proofs.lemmas.List.Folds.{concat-append}
-use Rattle.picture.specs.Settings.{OptionValues}
+use Rattle.scene_state.specs.Settings.{OptionValues}
 use Rattle.picture.proofs.ppm.band_bytes.Goals as goal
 
 pub push_levels-requires : goal.push_levels-requires

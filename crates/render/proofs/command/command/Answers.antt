@@ -1,7 +1,7 @@
-use Rattle.std.proofs.Common.{rules, ap, ap₂, refl, codes, true, List, Some, [], ◌∷◌, ◌≡◌, ◌∙◌}
+use Rattle.std.proofs.Common.{ap₂, codes, ◌≡◌, ◌∙◌}
 use Rattle.std.proofs.lemmas.Result.{IfOk-weaker}
-use Rattle.clap.specs.Simple.{App, app_of, new_app, with_rule}
-use Rattle.render.specs.Command.{action_rule, name_rule, bucket_rule, grid_points_rule, stats_rule, reyes}
+use Rattle.clap.specs.Simple.{app_of, new_app, with_rule}
+use Rattle.render.specs.Command.{action_rule, name_rule}
 use Rattle.render.proofs.command.command.Goals as goal
 
 pub returns : goal.returns

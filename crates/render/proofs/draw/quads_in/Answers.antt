@@ -1,7 +1,7 @@
-use Rattle.render.proofs.Drawing.{patches-next}
+use Rattle.render.proofs.Drawing.{prims-next}
 use Rattle.render.proofs.draw.quads_in.Goals as goal
 
-pub loop-flat-preserved : goal.loop-flat-preserved
-loop-flat-preserved c =
-    patches-next c.args.camera.now c.args.patches.now c.loop-flat.flat-index c.flat-item.result c.loop-flat.quads.items c.push_patch.new.quads.items
-    c.loop-flat-test.true c.flat-item.is c.loop-flat.invariant c.in_ok-push_patch.ensures
+pub loop-prim-preserved : goal.loop-prim-preserved
+loop-prim-preserved c =
+    prims-next c.args.camera.now c.args.prims.now c.loop-prim.prim-index c.prim-item.result c.loop-prim.quads.items c.push_prim.new.quads.items
+    c.loop-prim-test.true c.prim-item.is c.loop-prim.invariant c.in_ok-push_prim.ensures

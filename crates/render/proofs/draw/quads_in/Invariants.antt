@@ -1,7 +1,7 @@
 use Rattle.std.proofs.Common.{◌≡◌, take}
 use Rattle.std.specs.List.{flat_map}
-use Rattle.render.specs.Flat.{patch_quads}
+use Rattle.render.specs.Pictures.{prim_quads}
 use Rattle.render.proofs.draw.quads_in.Given as goal
 
-abbrev pub invariant-loop-flat : goal.invariant-loop-flat
-invariant-loop-flat l = l.quads.items ≡ flat_map (patch_quads l.camera) (take l.flat-index l.patches)
+abbrev pub invariant-loop-prim : goal.invariant-loop-prim
+invariant-loop-prim l = l.quads.items ≡ flat_map (prim_quads l.camera) (take l.prim-index l.prims)

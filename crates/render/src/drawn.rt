@@ -1,0 +1,130 @@
+// The scenes that are drawn so far.
+ghost use Rattle.std.specs.Prelude.{◌≡◌, slice_get};
+ghost use Rattle.std.specs.List.{list_all};
+ghost use Rattle.patches.specs.Parts.{whole_of};
+ghost use Rattle.render.specs.Pictures.{decide};
+ghost use Rattle.render.specs.Drawn.{is_one, is_opaque, is_constant, is_dice, is_plain, is_prim_drawn, is_sampled_once, is_in_bytes, is_frame_drawn, is_drawn};
+
+use bound_split::{Decision, decide};
+use fixed_math::{Num, Vec3};
+use patches::Piece;
+use scene_state::{Filter, Frame, Options, Prim, Scene, ShaderUse};
+use transforms::Camera;
+
+/// A patch as one piece.
+pub(crate) fn whole_patch() -> Piece
+    ensures { result ≡ whole_of 0 }
+{
+    Piece {
+        prim: 0,
+        a: 0,
+        i: 0,
+        b: 0,
+        j: 0,
+    }
+}
+
+fn is_one(number: Num) -> bool
+    ensures { result ≡ is_one number }
+{
+    number.raw() == 65536
+}
+
+fn is_opaque(opacity: &Vec3) -> bool
+    ensures { result ≡ is_opaque opacity.now }
+{
+    is_one(opacity.x) && is_one(opacity.y) && is_one(opacity.z)
+}
+
+// Whether the use at that place is of the surface `constant`.
+fn is_constant(uses: &[ShaderUse], place: usize) -> bool
+    ensures { result ≡ is_constant (slice_get uses.now place) }
+{
+    match uses.get(place) {
+        Some(shader) => shader.name.as_str() == "constant",
+        None => false,
+    }
+}
+
+// Whether a primitive has the surface `constant` and no other shader.
+fn is_plain(uses: &[ShaderUse], prim: &Prim) -> bool
+    ensures { result ≡ is_plain uses.now prim.now }
+{
+    is_constant(uses, prim.surface as usize)
+        && prim.displacement.is_none()
+        && prim.atmosphere.is_none()
+        && prim.lights.len() == 0
+}
+
+// Whether the whole patch of a primitive is diced.
+fn is_diced(camera: &Camera, prim: &Prim) -> bool
+    ensures { result ≡ is_dice (decide camera.now prim.now (whole_of 0)) }
+{
+    match decide(&prim.patch, &whole_patch(), camera, prim.rate, prim.bound) {
+        Decision::Dice { .. } => true,
+        Decision::SplitU | Decision::SplitV => false,
+    }
+}
+
+fn is_prim_drawn(uses: &[ShaderUse], camera: &Camera, prim: &Prim) -> bool
+    ensures { result ≡ is_prim_drawn uses.now camera.now prim.now }
+{
+    is_opaque(&prim.os) && is_plain(uses, prim) && is_diced(camera, prim)
+}
+
+fn are_prims_drawn(uses: &[ShaderUse], camera: &Camera, prims: &[Prim]) -> bool
+    ensures { result ≡ list_all (is_prim_drawn uses.now camera.now) prims.now }
+{
+    for prim in prims {
+        if !is_prim_drawn(uses, camera, prim) {
+            return false;
+        }
+    }
+    true
+}
+
+fn is_sampled_once(options: &Options) -> bool
+    ensures { result ≡ is_sampled_once options.now }
+{
+    options.xs == 1
+        && options.ys == 1
+        && options.filter == Filter::Box
+        && options.wx == 256
+        && options.wy == 256
+}
+
+fn is_in_bytes(options: &Options) -> bool
+    ensures { result ≡ is_in_bytes options.now }
+{
+    is_one(options.gain)
+        && is_one(options.gamma)
+        && options.one == 255
+        && options.min == 0
+        && options.max == 255
+}
+
+fn is_frame_drawn(uses: &[ShaderUse], frame: &Frame) -> bool
+    ensures { result ≡ is_frame_drawn uses.now frame.now }
+{
+    is_sampled_once(&frame.options)
+        && is_in_bytes(&frame.options)
+        && are_prims_drawn(uses, &frame.camera, frame.prims.as_slice())
+}
+
+fn are_frames_drawn(uses: &[ShaderUse], frames: &[Frame]) -> bool
+    ensures { result ≡ list_all (is_frame_drawn uses.now) frames.now }
+{
+    for frame in frames {
+        if !is_frame_drawn(uses, frame) {
+            return false;
+        }
+    }
+    true
+}
+
+/// Whether all frames of a scene are of the kind that is drawn so far.
+pub(crate) fn is_drawn(scene: &Scene) -> bool
+    ensures { result ≡ is_drawn scene.now }
+{
+    are_frames_drawn(scene.uses.as_slice(), scene.frames.as_slice())
+}

@@ -1,0 +1,572 @@
+-- The shaders that attributes, lights' numbers and primitives name stay there, and keep their kinds.
+use Rattle.std.proofs.Common.{◌≡◌, refl, subst, ℕ, zero, suc, ◌-◌, ℤ, Bool, true, false, List, [], ◌∷◌, ◌++◌, length, set, Option, Some, None, Result, Ok, Err, All, slice_get, slice_index_or, if◌then◌else◌, arith, not, is_some, nat_le, ◌==◌}
+use Rattle.std.specs.Ordering.{int_eq}
+use Rattle.std.proofs.lemmas.List.Elements.{All-append, All-take, All-filter}
+use Rattle.rib_reader.specs.declared.req.Req.{Req}
+use Rattle.rib_reader.specs.declared.req.Req.TheVariants as reqs
+use Rattle.rib_reader.specs.Reading.{Read}
+use Rattle.rib_reader.specs.Rules.{word_at, raw_at, whole_at, numbers_at}
+use Rattle.rib_reader.specs.Lists.{points_in}
+use Rattle.transforms.specs.Map.{Map, identity, before_of}
+use Rattle.transforms.specs.Field.{camera_of}
+use Rattle.transforms.specs.declared.view.View.{View}
+use Rattle.transforms.specs.declared.fault.FormFault.{FormFault}
+use Rattle.fixed_math.specs.declared.vec3.Vec3.{Vec3}
+use Rattle.patches.specs.declared.patch.Patch.{Patch}
+use Rattle.patches.specs.declared.patch.Patch.TheVariants.{Bilinear}
+use Rattle.scene_state.specs.Scene.{PrimValue, FrameValue, IsUse, IsSomeUse, HasUses, most_prims}
+use Rattle.scene_state.specs.Choices.{ChoiceValues, chosen, view_of}
+use Rattle.scene_state.specs.Looks.{look_after, is_single}
+use Rattle.scene_state.specs.Shaders.{with_request, placed_in, placed, some_placed, all_placed, light_of, with_light, without_light, is_among}
+use Rattle.scene_state.specs.State.{most_blocks, most_frames, most_lights, with_frame, name_or, moved, scaled, turned, of_rows, points_of, near_points, prim_of, Stepped, first_state, closed, opened, innermost, frame_ended, attributes_ended, transform_ended, world_with, frame_made, frame_of, world_ended, with_choices, option_set, display_set, with_current, with_before, space_of, use_of, next_shader, with_shader, light_added, light_made, handle_for, illuminated_by, light_named, with_prim, patch_near, patch_with, patch_of_numbers, patch_in, patch_set}
+use Rattle.scene_state.specs.Steps.{with_surface, with_displacement, with_atmosphere, look_set, step, after, and_then, Placed, state_from}
+use Rattle.scene_state.specs.declared.fault.StateCode.{StateCode}
+use Rattle.scene_state.specs.declared.fault.StateCode.TheVariants.{N1, N2, N5, M1, M2, M3, M4}
+use Rattle.scene_state.specs.declared.uses.ShaderKind.{ShaderKind}
+use Rattle.scene_state.specs.declared.uses.ShaderKind.TheVariants as kinds
+use Rattle.scene_state.specs.declared.uses.ShaderUse.{ShaderUse}
+use Rattle.scene_state.specs.declared.attributes.Attributes.{Attributes}
+use Rattle.scene_state.specs.declared.shaders.Slot.{Slot}
+use Rattle.scene_state.specs.declared.shaders.Slot.TheVariants.{Waiting, Used}
+use Rattle.scene_state.specs.declared.shaders.Shaders.{Shaders}
+use Rattle.scene_state.specs.declared.shaders.Handle.{Handle}
+use Rattle.scene_state.specs.declared.state.Block.{Block}
+use Rattle.scene_state.specs.declared.state.Block.TheVariants.{InFrame, InWorld, InAttributes, InTransform}
+use Rattle.scene_state.specs.declared.state.World.{World}
+use Rattle.scene_state.specs.declared.state.State.{State}
+
+-- ---- lists
+
+abbrev pub Of : {A : Type 0} → (A → Type 0) → Option A → Type 0
+Of P None = Unit {0}
+Of P (Some x) = P x
+
+pub all_none : {A : Type 0} (P : A → Type 0) → All P []
+all_none P k d h = absurd (omega (arith, h))
+
+pub all_one : {A : Type 0} (P : A → Type 0) (x : A) → P x → All P (x ∷ [])
+all_one P x p zero d h = p
+all_one P x p (suc k) d h = absurd (omega (arith, h))
+
+pub all_more : {A : Type 0} (P : A → Type 0) (xs : List A) (x : A) → All P xs → P x → All P (xs ++ x ∷ [])
+all_more P xs x all p = All-append P xs (x ∷ []) all (all_one P x p)
+
+pub all_of : {A : Type 0} (P : A → Type 0) (xs : List A) (n : ℕ) → All P xs → Of P (slice_get xs n)
+all_of P [] n all = tt
+all_of P (x ∷ xs) zero all = all 0 x (omega arith)
+all_of P (x ∷ xs) (suc n) all = all_of P xs n (λ k d h. all (suc k) d (omega (arith, h)))
+
+pub all_then : {A : Type 0} (P Q : A → Type 0) (xs : List A) → ((x : A) → P x → Q x) → All P xs → All Q xs
+all_then P Q xs f all k d h = f (slice_index_or xs k d) (all k d h)
+
+pub all_either : {A : Type 0} (P : A → Type 0) (b : Bool) (xs ys : List A) → All P xs → All P ys → All P (if b then xs else ys)
+all_either P true xs ys p q = p
+all_either P false xs ys p q = q
+
+-- ---- shader requests
+
+-- a request of that kind
+abbrev pub SlotIs : List ShaderUse → ShaderKind → Option Slot → Type 0
+SlotIs uses kind None = ⊥
+SlotIs uses kind (Some (Waiting u)) = u.kind ≡ kind
+SlotIs uses kind (Some (Used n)) = IsUse uses kind n
+
+abbrev pub IsShader : Shaders → ShaderKind → ℕ → Type 0
+IsShader s kind k = SlotIs s.uses kind (slice_get s.slots k)
+
+abbrev pub IsSomeShader : Shaders → ShaderKind → Option ℕ → Type 0
+IsSomeShader s kind None = Unit {0}
+IsSomeShader s kind (Some k) = IsShader s kind k
+
+-- whatever is named stays named
+pub record Keeps (s t : Shaders) : Type 0 where
+  pub shaders : (kind : ShaderKind) (k : ℕ) → IsShader s kind k → IsShader t kind k
+  pub uses : (kind : ShaderKind) (n : ℕ) → IsUse s.uses kind n → IsUse t.uses kind n
+
+pub keeps_same : (s : Shaders) → Keeps s s
+keeps_same s = record { shaders = λ kind k h. h; uses = λ kind n h. h }
+
+pub keeps_both : (s t u : Shaders) → Keeps s t → Keeps t u → Keeps s u
+keeps_both s t u f g = record {
+  shaders = λ kind k h. g.shaders kind k (f.shaders kind k h);
+  uses = λ kind n h. g.uses kind n (f.uses kind n h);
+}
+
+pub some_keeps : (s t : Shaders) (kind : ShaderKind) (o : Option ℕ) → Keeps s t → IsSomeShader s kind o → IsSomeShader t kind o
+some_keeps s t kind None f h = tt
+some_keeps s t kind (Some k) f h = f.shaders kind k h
+
+use_more : (uses : List ShaderUse) (u : ShaderUse) (kind : ShaderKind) (n : ℕ) → IsUse uses kind n → IsUse (uses ++ u ∷ []) kind n
+use_more [] u kind n h = absurd h
+use_more (x ∷ xs) u kind zero h = h
+use_more (x ∷ xs) u kind (suc n) h = use_more xs u kind n h
+
+use_last : (uses : List ShaderUse) (u : ShaderUse) (kind : ShaderKind) → u.kind ≡ kind → IsUse (uses ++ u ∷ []) kind (length uses)
+use_last [] u kind h = h
+use_last (x ∷ xs) u kind h = use_last xs u kind h
+
+slot_more : (uses : List ShaderUse) (slots : List Slot) (w : Slot) (kind : ShaderKind) (k : ℕ) → SlotIs uses kind (slice_get slots k) → SlotIs uses kind (slice_get (slots ++ w ∷ []) k)
+slot_more uses [] w kind k h = absurd h
+slot_more uses (x ∷ xs) w kind zero h = h
+slot_more uses (x ∷ xs) w kind (suc k) h = slot_more uses xs w kind k h
+
+slot_last : (uses : List ShaderUse) (slots : List Slot) (u : ShaderUse) → SlotIs uses u.kind (slice_get (slots ++ Waiting u ∷ []) (length slots))
+slot_last uses [] u = refl
+slot_last uses (x ∷ xs) u = slot_last uses xs u
+
+slot_keeps : (uses more : List ShaderUse) (kind : ShaderKind) (o : Option Slot) → ((n : ℕ) → IsUse uses kind n → IsUse more kind n) → SlotIs uses kind o → SlotIs more kind o
+slot_keeps uses more kind None f h = h
+slot_keeps uses more kind (Some (Waiting u)) f h = h
+slot_keeps uses more kind (Some (Used n)) f h = f n h
+
+-- a request that waits at place k becomes use m
+slot_set : (uses more : List ShaderUse) (kind : ShaderKind) (slots : List Slot) (u : ShaderUse) (m k j : ℕ)
+    → ((n : ℕ) → IsUse uses kind n → IsUse more kind n) → (u.kind ≡ kind → IsUse more kind m) → slice_get slots k ≡ Some (Waiting u)
+    → SlotIs uses kind (slice_get slots j) → SlotIs more kind (slice_get (set slots k (Used m)) j)
+slot_set uses more kind [] u m k j f g at h = absurd h
+slot_set uses more kind (x ∷ xs) u m zero zero f g at h = g (subst (SlotIs uses kind) at h)
+slot_set uses more kind (x ∷ xs) u m zero (suc j) f g at h = slot_keeps uses more kind (slice_get xs j) f h
+slot_set uses more kind (x ∷ xs) u m (suc k) zero f g at h = slot_keeps uses more kind (Some x) f h
+slot_set uses more kind (x ∷ xs) u m (suc k) (suc j) f g at h = slot_set uses more kind xs u m k j f g at h
+
+pub keeps_request : (s : Shaders) (u : ShaderUse) → Keeps s (with_request s u)
+keeps_request s u = record { shaders = λ kind k h. slot_more s.uses s.slots (Waiting u) kind k h; uses = λ kind n h. h }
+
+pub request_is : (s : Shaders) (u : ShaderUse) → IsShader (with_request s u) u.kind (length s.slots)
+request_is s u = slot_last s.uses s.slots u
+
+placed_keeps_in : (s : Shaders) (k : ℕ) (o : Option Slot) → slice_get s.slots k ≡ o → Keeps s (placed_in s k o).0
+placed_keeps_in s k None at = keeps_same s
+placed_keeps_in s k (Some (Used n)) at = keeps_same s
+placed_keeps_in s k (Some (Waiting u)) at = record {
+  shaders = λ kind j h. slot_set s.uses (s.uses ++ u ∷ []) kind s.slots u (length s.uses) k j (use_more s.uses u kind) (use_last s.uses u kind) at h;
+  uses = λ kind n h. use_more s.uses u kind n h;
+}
+
+pub placed_keeps : (s : Shaders) (k : ℕ) → Keeps s (placed s k).0
+placed_keeps s k = placed_keeps_in s k (slice_get s.slots k) refl
+
+placed_is_in : (s : Shaders) (kind : ShaderKind) (k : ℕ) (o : Option Slot) → SlotIs s.uses kind o → IsUse (placed_in s k o).0.uses kind (placed_in s k o).1
+placed_is_in s kind k None h = absurd h
+placed_is_in s kind k (Some (Used n)) h = h
+placed_is_in s kind k (Some (Waiting u)) h = use_last s.uses u kind h
+
+pub placed_is : (s : Shaders) (kind : ShaderKind) (k : ℕ) → IsShader s kind k → IsUse (placed s k).0.uses kind (placed s k).1
+placed_is s kind k h = placed_is_in s kind k (slice_get s.slots k) h
+
+pub some_placed_keeps : (s : Shaders) (o : Option ℕ) → Keeps s (some_placed s o).0
+some_placed_keeps s None = keeps_same s
+some_placed_keeps s (Some k) = placed_keeps s k
+
+pub some_placed_is : (s : Shaders) (kind : ShaderKind) (o : Option ℕ) → IsSomeShader s kind o → IsSomeUse (some_placed s o).0.uses kind (some_placed s o).1
+some_placed_is s kind None h = tt
+some_placed_is s kind (Some k) h = placed_is s kind k h
+
+some_use_keeps : (s t : Shaders) (kind : ShaderKind) (o : Option ℕ) → Keeps s t → IsSomeUse s.uses kind o → IsSomeUse t.uses kind o
+some_use_keeps s t kind None f h = tt
+some_use_keeps s t kind (Some n) f h = f.uses kind n h
+
+pub all_placed_keeps : (s : Shaders) (done ks : List ℕ) → Keeps s (all_placed s done ks).0
+all_placed_keeps s done [] = keeps_same s
+all_placed_keeps s done (k ∷ ks) =
+    let p = placed s k in
+    keeps_both s p.0 (all_placed p.0 (done ++ p.1 ∷ []) ks).0 (placed_keeps s k) (all_placed_keeps p.0 (done ++ p.1 ∷ []) ks)
+
+pub all_placed_are : (s : Shaders) (kind : ShaderKind) (done ks : List ℕ) → All (IsUse s.uses kind) done → All (IsShader s kind) ks
+    → All (IsUse (all_placed s done ks).0.uses kind) (all_placed s done ks).1
+all_placed_are s kind done [] before all = before
+all_placed_are s kind done (k ∷ ks) before all =
+    let p = placed s k in
+    let keeps = placed_keeps s k in
+    all_placed_are p.0 kind (done ++ p.1 ∷ []) ks
+    (all_more (IsUse p.0.uses kind) done p.1 (all_then (IsUse s.uses kind) (IsUse p.0.uses kind) done (keeps.uses kind) before) (placed_is s kind k (all 0 k (omega arith))))
+    (λ j d h. keeps.shaders kind (slice_index_or ks j d) (all (suc j) d (omega (arith, h))))
+
+-- ---- states
+
+pub record Wears (s : Shaders) (a : Attributes) : Type 0 where
+  pub surface : IsShader s kinds.Surface a.surface
+  pub displacement : IsSomeShader s kinds.Displacement a.displacement
+  pub atmosphere : IsSomeShader s kinds.Volume a.atmosphere
+  pub lights : All (IsShader s kinds.Light) a.lights
+
+abbrev pub BlockWears : Shaders → Block → Type 0
+BlockWears s (InFrame a m c name) = Wears s a
+BlockWears s (InWorld a m) = Wears s a
+BlockWears s (InAttributes a m) = Wears s a
+BlockWears s (InTransform m) = Unit {0}
+
+abbrev pub IsHandle : Shaders → Handle → Type 0
+IsHandle s h = IsShader s kinds.Light h.light
+
+abbrev pub FrameHasUses : List ShaderUse → FrameValue → Type 0
+FrameHasUses uses f = All (HasUses uses) f.prims
+
+pub record IsGood (s : State) : Type 0 where
+  pub attributes : Wears s.shaders s.attributes
+  pub blocks : All (BlockWears s.shaders) s.blocks
+  pub handles : All (IsHandle s.shaders) s.handles
+  pub prims : All (HasUses s.shaders.uses) s.prims
+  pub frames : All (FrameHasUses s.shaders.uses) s.frames
+
+wears_keeps : (s t : Shaders) (a : Attributes) → Keeps s t → Wears s a → Wears t a
+wears_keeps s t a f w = record {
+  surface = f.shaders kinds.Surface a.surface w.surface;
+  displacement = some_keeps s t kinds.Displacement a.displacement f w.displacement;
+  atmosphere = some_keeps s t kinds.Volume a.atmosphere f w.atmosphere;
+  lights = all_then (IsShader s kinds.Light) (IsShader t kinds.Light) a.lights (f.shaders kinds.Light) w.lights;
+}
+
+block_keeps : (s t : Shaders) → Keeps s t → (b : Block) → BlockWears s b → BlockWears t b
+block_keeps s t f (InFrame a m c name) w = wears_keeps s t a f w
+block_keeps s t f (InWorld a m) w = wears_keeps s t a f w
+block_keeps s t f (InAttributes a m) w = wears_keeps s t a f w
+block_keeps s t f (InTransform m) w = tt
+
+prim_keeps : (s t : Shaders) → Keeps s t → (p : PrimValue) → HasUses s.uses p → HasUses t.uses p
+prim_keeps s t f p h = record {
+  surface = f.uses kinds.Surface p.surface h.surface;
+  displacement = some_use_keeps s t kinds.Displacement p.displacement f h.displacement;
+  atmosphere = some_use_keeps s t kinds.Volume p.atmosphere f h.atmosphere;
+  lights = all_then (IsUse s.uses kinds.Light) (IsUse t.uses kinds.Light) p.lights (f.uses kinds.Light) h.lights;
+}
+
+prims_keep : (s t : Shaders) → Keeps s t → (ps : List PrimValue) → All (HasUses s.uses) ps → All (HasUses t.uses) ps
+prims_keep s t f ps all = all_then (HasUses s.uses) (HasUses t.uses) ps (prim_keeps s t f) all
+
+-- a state with other shaders that keep what is named
+pub state_keeps : (s : State) (t : Shaders) → Keeps s.shaders t → IsGood s → IsGood (record s { shaders = t })
+state_keeps s t f g = record {
+  attributes = wears_keeps s.shaders t s.attributes f g.attributes;
+  blocks = all_then (BlockWears s.shaders) (BlockWears t) s.blocks (block_keeps s.shaders t f) g.blocks;
+  handles = all_then (IsHandle s.shaders) (IsHandle t) s.handles (λ h. f.shaders kinds.Light h.light) g.handles;
+  prims = prims_keep s.shaders t f s.prims g.prims;
+  frames = all_then (FrameHasUses s.shaders.uses) (FrameHasUses t.uses) s.frames (λ x. prims_keep s.shaders t f x.prims) g.frames;
+}
+
+-- with other attributes
+worn : (s : State) (a : Attributes) → Wears s.shaders a → IsGood s → IsGood (record s { attributes = a })
+worn s a w g = record { attributes = w; blocks = g.blocks; handles = g.handles; prims = g.prims; frames = g.frames }
+
+-- ---- requests
+
+abbrev pub GoodStep : Stepped → Type 0
+GoodStep (Ok s) = IsGood s
+GoodStep (Err code) = Unit {0}
+
+either : (b : Bool) (x y : Stepped) → GoodStep x → GoodStep y → GoodStep (if b then x else y)
+either true x y p q = p
+either false x y p q = q
+
+good_opened : (b : Block) (s : State) → BlockWears s.shaders b → IsGood s → GoodStep (opened b s)
+good_opened b s w g = either (nat_le most_blocks (length s.blocks)) (Err M1) (Ok (record s { blocks = s.blocks ++ b ∷ [] })) tt record {
+  attributes = g.attributes;
+  blocks = all_more (BlockWears s.shaders) s.blocks b g.blocks w;
+  handles = g.handles;
+  prims = g.prims;
+  frames = g.frames;
+}
+
+good_closed : (s : State) → IsGood s → IsGood (closed s)
+good_closed s g = record {
+  attributes = g.attributes;
+  blocks = All-take (BlockWears s.shaders) (length s.blocks - 1) s.blocks g.blocks;
+  handles = g.handles;
+  prims = g.prims;
+  frames = g.frames;
+}
+
+good_innermost : (s : State) → IsGood s → Of (BlockWears s.shaders) (innermost s.blocks)
+good_innermost s g = all_of (BlockWears s.shaders) s.blocks (length s.blocks - 1) g.blocks
+
+-- with a current transformation, options and name of the picture of any kind
+changed : (s : State) (c : ChoiceValues) (name : List ℕ) (m : Map) (w : Option World) → IsGood s
+    → IsGood (record s { choices = c; name = name; current = m; world = w })
+changed s c name m w g = record { attributes = g.attributes; blocks = g.blocks; handles = g.handles; prims = g.prims; frames = g.frames }
+
+good_frame_end : (o : Option Block) (s : State) → Of (BlockWears s.shaders) o → IsGood s → GoodStep (frame_ended o s)
+good_frame_end None s w g = tt
+good_frame_end (Some (InFrame a m c name)) s w g = changed (record (closed s) { attributes = a }) c name m s.world (worn (closed s) a w (good_closed s g))
+good_frame_end (Some (InWorld a m)) s w g = tt
+good_frame_end (Some (InAttributes a m)) s w g = tt
+good_frame_end (Some (InTransform m)) s w g = tt
+
+good_attributes_end : (o : Option Block) (s : State) → Of (BlockWears s.shaders) o → IsGood s → GoodStep (attributes_ended o s)
+good_attributes_end None s w g = tt
+good_attributes_end (Some (InFrame a m c name)) s w g = tt
+good_attributes_end (Some (InWorld a m)) s w g = tt
+good_attributes_end (Some (InAttributes a m)) s w g = changed (record (closed s) { attributes = a }) s.choices s.name m s.world (worn (closed s) a w (good_closed s g))
+good_attributes_end (Some (InTransform m)) s w g = tt
+
+good_transform_end : (o : Option Block) (s : State) → IsGood s → GoodStep (transform_ended o s)
+good_transform_end None s g = tt
+good_transform_end (Some (InFrame a m c name)) s g = tt
+good_transform_end (Some (InWorld a m)) s g = tt
+good_transform_end (Some (InAttributes a m)) s g = tt
+good_transform_end (Some (InTransform m)) s g = changed (closed s) s.choices s.name m s.world (good_closed s g)
+
+good_world_with : (v : Result View FormFault) (s : State) → IsGood s → GoodStep (world_with v s)
+good_world_with (Err e) s g = tt
+good_world_with (Ok camera) s g =
+    let world = Some (record { camera = camera; to_camera = s.current }) in
+    good_opened (InWorld s.attributes s.current) (record s { world = world; current = identity }) g.attributes (changed s s.choices s.name identity world g)
+
+good_frame : (o : Option World) (a : Attributes) (m : Map) (s : State) → Wears s.shaders a → IsGood s → GoodStep (frame_made o a m s)
+good_frame None a m s w g = tt
+good_frame (Some world) a m s w g = either (nat_le most_frames (length s.frames)) (Err M2) (Ok (with_frame world a m s)) tt record {
+  attributes = record { surface = w.surface; displacement = w.displacement; atmosphere = w.atmosphere; lights = all_none (IsShader s.shaders kinds.Light) };
+  blocks = g.blocks;
+  handles = all_none (IsHandle s.shaders);
+  prims = all_none (HasUses s.shaders.uses);
+  frames = all_more (FrameHasUses s.shaders.uses) s.frames (frame_of world s) g.frames g.prims;
+}
+
+good_world_end : (o : Option Block) (s : State) → Of (BlockWears s.shaders) o → IsGood s → GoodStep (world_ended o s)
+good_world_end None s w g = tt
+good_world_end (Some (InFrame a m c name)) s w g = tt
+good_world_end (Some (InWorld a m)) s w g = good_frame s.world a m (closed s) w (good_closed s g)
+good_world_end (Some (InAttributes a m)) s w g = tt
+good_world_end (Some (InTransform m)) s w g = tt
+
+good_choices : (c : Result ChoiceValues StateCode) (s : State) → IsGood s → GoodStep (with_choices c s)
+good_choices (Ok c) s g = changed s c s.name s.current s.world g
+good_choices (Err code) s g = tt
+
+good_option : (r : Read) (s : State) → IsGood s → GoodStep (option_set r s)
+good_option r s g = either (is_some s.world) (Err N2) (with_choices (chosen r s.choices) s) tt (good_choices (chosen r s.choices) s g)
+
+good_display : (r : Read) (s : State) → IsGood s → GoodStep (display_set r s)
+good_display r s g =
+    let name = name_or (word_at r.args 0) s.name in
+    either (is_some s.world) (Err N2) (Ok (record s { name = name })) tt (changed s s.choices name s.current s.world g)
+
+good_current : (m : Result Map FormFault) (s : State) → IsGood s → GoodStep (with_current m s)
+good_current (Ok m) s g = changed s s.choices s.name m s.world g
+good_current (Err e) s g = tt
+
+good_before : (m : Result Map FormFault) (s : State) → IsGood s → GoodStep (with_before m s)
+good_before (Ok m) s g = good_current (before_of s.current m) s g
+good_before (Err e) s g = tt
+
+good_look : (r : Read) (s : State) → IsGood s → GoodStep (look_set r s)
+good_look r s g =
+    let w = g.attributes in
+    worn s (record s.attributes { look = look_after r.name r.args r.params s.attributes.look })
+    (record { surface = w.surface; displacement = w.displacement; atmosphere = w.atmosphere; lights = w.lights }) g
+
+-- the state with one shader request more, and what its attributes wear
+good_request : (s : State) (u : ShaderUse) → IsGood s → IsGood (record s { shaders = with_request s.shaders u })
+good_request s u g = state_keeps s (with_request s.shaders u) (keeps_request s.shaders u) g
+
+good_surface : (m : Result Map FormFault) (r : Read) (s : State) → IsGood s → GoodStep (with_shader kinds.Surface r with_surface m s)
+good_surface (Err e) r s g = tt
+good_surface (Ok m) r s g =
+    let u = use_of kinds.Surface r m in
+    let h = good_request s u g in
+    worn (record s { shaders = with_request s.shaders u }) (with_surface (next_shader s) s.attributes)
+    (record { surface = request_is s.shaders u; displacement = h.attributes.displacement; atmosphere = h.attributes.atmosphere; lights = h.attributes.lights }) h
+
+good_displacement : (m : Result Map FormFault) (r : Read) (s : State) → IsGood s → GoodStep (with_shader kinds.Displacement r with_displacement m s)
+good_displacement (Err e) r s g = tt
+good_displacement (Ok m) r s g =
+    let u = use_of kinds.Displacement r m in
+    let h = good_request s u g in
+    worn (record s { shaders = with_request s.shaders u }) (with_displacement (next_shader s) s.attributes)
+    (record { surface = h.attributes.surface; displacement = request_is s.shaders u; atmosphere = h.attributes.atmosphere; lights = h.attributes.lights }) h
+
+good_atmosphere : (m : Result Map FormFault) (r : Read) (s : State) → IsGood s → GoodStep (with_shader kinds.Volume r with_atmosphere m s)
+good_atmosphere (Err e) r s g = tt
+good_atmosphere (Ok m) r s g =
+    let u = use_of kinds.Volume r m in
+    let h = good_request s u g in
+    worn (record s { shaders = with_request s.shaders u }) (with_atmosphere (next_shader s) s.attributes)
+    (record { surface = h.attributes.surface; displacement = h.attributes.displacement; atmosphere = request_is s.shaders u; lights = h.attributes.lights }) h
+
+handles_more : (s : Shaders) (hs : List Handle) (number : Option ℤ) (k : ℕ) → IsShader s kinds.Light k → All (IsHandle s) hs → All (IsHandle s) (hs ++ handle_for number k)
+handles_more s hs None k is all = All-append (IsHandle s) hs [] all (all_none (IsHandle s))
+handles_more s hs (Some number) k is all = all_more (IsHandle s) hs (record { number = number; light = k }) all is
+
+lit : (s : State) (lights : List ℕ) → All (IsShader s.shaders kinds.Light) lights → Wears s.shaders s.attributes → Wears s.shaders (record s.attributes { lights = lights })
+lit s lights all w = record { surface = w.surface; displacement = w.displacement; atmosphere = w.atmosphere; lights = all }
+
+good_added : (k : ℕ) (number : Option ℤ) (s : State) → IsShader s.shaders kinds.Light k → IsGood s → IsGood (light_added k number s)
+good_added k number s is g = record {
+  attributes = lit s (s.attributes.lights ++ k ∷ []) (all_more (IsShader s.shaders kinds.Light) s.attributes.lights k g.attributes.lights is) g.attributes;
+  blocks = g.blocks;
+  handles = handles_more s.shaders s.handles number k is g.handles;
+  prims = g.prims;
+  frames = g.frames;
+}
+
+good_light : (m : Result Map FormFault) (r : Read) (s : State) → IsGood s → GoodStep (light_made r m s)
+good_light (Err e) r s g = tt
+good_light (Ok m) r s g =
+    let u = use_of kinds.Light r m in
+    let t = record s { shaders = with_request s.shaders u } in
+    either (nat_le most_lights (length s.handles)) (Err M4) (Ok (light_added (next_shader s) (whole_at r.args 1) t)) tt
+    (good_added (next_shader s) (whole_at r.args 1) t (request_is s.shaders u) (good_request s u g))
+
+some_either : (s : Shaders) (b : Bool) (x y : Option ℕ) → IsSomeShader s kinds.Light x → IsSomeShader s kinds.Light y → IsSomeShader s kinds.Light (if b then x else y)
+some_either s true x y p q = p
+some_either s false x y p q = q
+
+found_is : (s : Shaders) (hs : List Handle) (number : ℤ) (found : Option ℕ) → All (IsHandle s) hs → IsSomeShader s kinds.Light found → IsSomeShader s kinds.Light (light_of hs number found)
+found_is s [] number found all before = before
+found_is s (h ∷ hs) number found all before =
+    found_is s hs number (if int_eq h.number number then Some h.light else found) (λ k d l. all (suc k) d (omega (arith, l)))
+    (some_either s (int_eq h.number number) (Some h.light) found (all 0 h (omega arith)) before)
+
+named_is : (s : Shaders) (number : Option ℤ) (hs : List Handle) → All (IsHandle s) hs → IsSomeShader s kinds.Light (light_named number hs)
+named_is s None hs all = tt
+named_is s (Some number) hs all = found_is s hs number None all tt
+
+with_light_are : (s : Shaders) (k : ℕ) (lights : List ℕ) → IsShader s kinds.Light k → All (IsShader s kinds.Light) lights → All (IsShader s kinds.Light) (with_light k lights)
+with_light_are s k lights is all = all_either (IsShader s kinds.Light) (is_among k lights) lights (lights ++ k ∷ []) all (all_more (IsShader s kinds.Light) lights k all is)
+
+without_light_are : (s : Shaders) (k : ℕ) (lights : List ℕ) → All (IsShader s kinds.Light) lights → All (IsShader s kinds.Light) (without_light k lights)
+without_light_are s k lights all = All-filter (λ n. not (n == k)) (IsShader s kinds.Light) lights all
+
+good_illuminated : (o : Option ℕ) (on : Option ℤ) (s : State) → IsSomeShader s.shaders kinds.Light o → IsGood s → GoodStep (illuminated_by o on s)
+good_illuminated None on s is g = tt
+good_illuminated (Some k) on s is g =
+    let w = g.attributes in
+    let put = with_light k s.attributes.lights in
+    let taken = without_light k s.attributes.lights in
+    let lights = if is_single on then put else taken in
+    worn s (record s.attributes { lights = lights })
+    (lit s lights (all_either (IsShader s.shaders kinds.Light) (is_single on) put taken (with_light_are s.shaders k s.attributes.lights is w.lights) (without_light_are s.shaders k s.attributes.lights w.lights)) w) g
+
+-- ---- primitives
+
+good_prim : (r : Read) (object : Map) (patch : Patch) (s : State) → IsGood s → IsGood (with_prim r object patch s)
+good_prim r object patch s g =
+    let a = s.attributes in
+    let w = g.attributes in
+    let d = some_placed s.shaders a.displacement in
+    let f = placed d.0 a.surface in
+    let v = some_placed f.0 a.atmosphere in
+    let l = all_placed v.0 [] a.lights in
+    let to_d = some_placed_keeps s.shaders a.displacement in
+    let d_f = placed_keeps d.0 a.surface in
+    let f_v = some_placed_keeps f.0 a.atmosphere in
+    let v_l = all_placed_keeps v.0 [] a.lights in
+    let f_l = keeps_both f.0 v.0 l.0 f_v v_l in
+    let d_l = keeps_both d.0 f.0 l.0 d_f f_l in
+    let to_f = keeps_both s.shaders d.0 f.0 to_d d_f in
+    let to_v = keeps_both s.shaders f.0 v.0 to_f f_v in
+    let h = state_keeps s l.0 (keeps_both s.shaders v.0 l.0 to_v v_l) g in
+    record {
+      attributes = h.attributes;
+      blocks = h.blocks;
+      handles = h.handles;
+      prims = all_more (HasUses l.0.uses) s.prims (prim_of r object patch a.look f.1 d.1 v.1 l.1) h.prims record {
+        surface = f_l.uses kinds.Surface f.1 (placed_is d.0 kinds.Surface a.surface (to_d.shaders kinds.Surface a.surface w.surface));
+        displacement = some_use_keeps d.0 l.0 kinds.Displacement d.1 d_l (some_placed_is s.shaders kinds.Displacement a.displacement w.displacement);
+        atmosphere = some_use_keeps v.0 l.0 kinds.Volume v.1 v_l (some_placed_is f.0 kinds.Volume a.atmosphere (some_keeps s.shaders f.0 kinds.Volume a.atmosphere to_f w.atmosphere));
+        lights = all_placed_are v.0 kinds.Light [] a.lights (all_none (IsUse v.0.uses kinds.Light)) (all_then (IsShader s.shaders kinds.Light) (IsShader v.0 kinds.Light) a.lights (to_v.shaders kinds.Light) w.lights);
+      };
+      frames = h.frames;
+    }
+
+good_near : (r : Read) (object : Map) (o : Option (List Vec3)) (s : State) → IsGood s → GoodStep (patch_near r object o s)
+good_near r object None s g = tt
+good_near r object (Some ps) s g = good_prim r object (Bilinear ps) s g
+
+good_patch_with : (r : Read) (object : Map) (o : Option (List Vec3)) (s : State) → IsGood s → GoodStep (patch_with r object o s)
+good_patch_with r object None s g = tt
+good_patch_with r object (Some ps) s g =
+    either (nat_le most_prims (length s.prims)) (Err M3) (patch_near r object (near_points object ps) s) tt (good_near r object (near_points object ps) s g)
+
+good_numbers : (r : Read) (object : Map) (o : Option (List ℤ)) (s : State) → IsGood s → GoodStep (patch_of_numbers r object o s)
+good_numbers r object None s g = tt
+good_numbers r object (Some xs) s g = good_patch_with r object (points_of xs) s g
+
+good_patch_in : (r : Read) (m : Result Map FormFault) (s : State) → IsGood s → GoodStep (patch_in r m s)
+good_patch_in r (Err e) s g = tt
+good_patch_in r (Ok object) s g = good_numbers r object (points_in r.params) s g
+
+good_patch : (r : Read) (s : State) → IsGood s → GoodStep (patch_set r s)
+good_patch r s g = either (is_some s.world) (patch_in r (space_of s) s) (Err N5) (good_patch_in r (space_of s) s g) tt
+
+-- ---- the whole list
+
+good_step : (name : Req) (r : Read) (s : State) → IsGood s → GoodStep (step name r s)
+good_step reqs.FrameBegin r s g = either (length s.blocks == 0) (opened (InFrame s.attributes s.current s.choices s.name) s) (Err N1) (good_opened (InFrame s.attributes s.current s.choices s.name) s g.attributes g) tt
+good_step reqs.FrameEnd r s g = good_frame_end (innermost s.blocks) s (good_innermost s g) g
+good_step reqs.WorldBegin r s g = either (is_some s.world) (Err N1) (world_with (camera_of (view_of s.choices)) s) tt (good_world_with (camera_of (view_of s.choices)) s g)
+good_step reqs.WorldEnd r s g = good_world_end (innermost s.blocks) s (good_innermost s g) g
+good_step reqs.AttributeBegin r s g = good_opened (InAttributes s.attributes s.current) s g.attributes g
+good_step reqs.AttributeEnd r s g = good_attributes_end (innermost s.blocks) s (good_innermost s g) g
+good_step reqs.TransformBegin r s g = good_opened (InTransform s.current) s tt g
+good_step reqs.TransformEnd r s g = good_transform_end (innermost s.blocks) s g
+good_step reqs.Identity r s g = changed s s.choices s.name identity s.world g
+good_step reqs.ReverseOrientation r s g = good_look r s g
+good_step reqs.Declare r s g = g
+good_step reqs.Format r s g = good_option r s g
+good_step reqs.FrameAspectRatio r s g = good_option r s g
+good_step reqs.ScreenWindow r s g = good_option r s g
+good_step reqs.CropWindow r s g = good_option r s g
+good_step reqs.Clipping r s g = good_option r s g
+good_step reqs.Projection r s g = good_option r s g
+good_step reqs.PixelSamples r s g = good_option r s g
+good_step reqs.PixelFilter r s g = good_option r s g
+good_step reqs.Exposure r s g = good_option r s g
+good_step reqs.Quantize r s g = good_option r s g
+good_step reqs.Display r s g = good_display r s g
+good_step reqs.Color r s g = good_look r s g
+good_step reqs.Opacity r s g = good_look r s g
+good_step reqs.ShadingRate r s g = good_look r s g
+good_step reqs.ShadingInterpolation r s g = g
+good_step reqs.Sides r s g = good_look r s g
+good_step reqs.Orientation r s g = good_look r s g
+good_step reqs.Surface r s g = good_surface (space_of s) r s g
+good_step reqs.Displacement r s g = good_displacement (space_of s) r s g
+good_step reqs.Atmosphere r s g = good_atmosphere (space_of s) r s g
+good_step reqs.LightSource r s g = good_light (space_of s) r s g
+good_step reqs.Illuminate r s g = good_illuminated (light_named (whole_at r.args 0) s.handles) (whole_at r.args 1) s (named_is s.shaders (whole_at r.args 0) s.handles g.handles) g
+good_step reqs.Attribute r s g = good_look r s g
+good_step reqs.Basis r s g = g
+good_step reqs.Translate r s g = good_before (moved (raw_at r.args 0) (raw_at r.args 1) (raw_at r.args 2)) s g
+good_step reqs.Scale r s g = good_before (scaled (raw_at r.args 0) (raw_at r.args 1) (raw_at r.args 2)) s g
+good_step reqs.Rotate r s g = good_before (turned (raw_at r.args 0) (raw_at r.args 1) (raw_at r.args 2) (raw_at r.args 3)) s g
+good_step reqs.Transform r s g = good_current (of_rows (numbers_at r.args 0)) s g
+good_step reqs.ConcatTransform r s g = good_before (of_rows (numbers_at r.args 0)) s g
+good_step reqs.Patch r s g = good_patch r s g
+good_step reqs.PatchMesh r s g = g
+good_step reqs.Polygon r s g = g
+good_step reqs.PointsPolygons r s g = g
+good_step reqs.Version r s g = g
+good_step reqs.ErrorHandler r s g = g
+good_step reqs.Hider r s g = g
+good_step reqs.Shutter r s g = g
+good_step reqs.RelativeDetail r s g = g
+good_step reqs.GeometricApproximation r s g = g
+good_step reqs.PixelVariance r s g = g
+good_step reqs.Bound r s g = g
+good_step reqs.CoordinateSystem r s g = g
+good_step reqs.Option r s g = g
+
+abbrev pub GoodPlaced : Result State Placed → Type 0
+GoodPlaced (Ok s) = IsGood s
+GoodPlaced (Err e) = Unit {0}
+
+good_then : (t : Stepped) (line : ℕ) (go : State → Result State Placed) → GoodStep t → ((s : State) → IsGood s → GoodPlaced (go s)) → GoodPlaced (and_then t line go)
+good_then (Ok s) line go g f = f s g
+good_then (Err code) line go g f = tt
+
+good_from : (s : State) (rs : List Read) → IsGood s → GoodPlaced (state_from s rs)
+good_from s [] g = g
+good_from s (r ∷ rs) g = good_then (after r s) r.line (λ t. state_from t rs) (good_step r.name r s g) (λ t h. good_from t rs h)
+
+first_good : IsGood first_state
+first_good = record {
+  attributes = record { surface = refl; displacement = tt; atmosphere = tt; lights = all_none (IsShader first_state.shaders kinds.Light) };
+  blocks = all_none (BlockWears first_state.shaders);
+  handles = all_none (IsHandle first_state.shaders);
+  prims = all_none (HasUses first_state.shaders.uses);
+  frames = all_none (FrameHasUses first_state.shaders.uses);
+}
+
+-- the frames behind a list of requests name uses of the right kinds
+pub state_is_scene : (rs : List Read) (s : State) → state_from first_state rs ≡ Ok s → All (FrameHasUses s.shaders.uses) s.frames
+state_is_scene rs s e = (subst GoodPlaced e (good_from first_state rs first_good)).frames

@@ -1,0 +1,68 @@
+-- Shader requests, and lights by their numbers (RenderMan Interface 3.2, sections 4.2.3 to 4.2.6).
+use Rattle.std.specs.Prelude.{ℕ, ◌==◌, ℤ, Bool, false, not, ◌||◌, List, [], ◌∷◌, ◌++◌, length, filter, Option, Some, None, if◌then◌else◌, codes, set}
+use Rattle.std.specs.List.{slice_get}
+use Rattle.std.specs.Ordering.{int_eq}
+use Rattle.transforms.specs.Map.{identity}
+use Rattle.scene_state.specs.Looks.{first_look}
+use Rattle.scene_state.specs.declared.uses.ShaderKind.TheVariants.{Surface}
+use Rattle.scene_state.specs.declared.uses.ShaderUse.{ShaderUse}
+use Rattle.scene_state.specs.declared.attributes.Attributes.{Attributes}
+use Rattle.scene_state.specs.declared.shaders.Slot.{Slot}
+use Rattle.scene_state.specs.declared.shaders.Slot.TheVariants.{Waiting, Used}
+use Rattle.scene_state.specs.declared.shaders.Shaders.{Shaders}
+use Rattle.scene_state.specs.declared.shaders.Handle.{Handle}
+
+-- the surface that holds at the start
+abbrev pub first_surface : ShaderUse
+first_surface = record { name = codes "constant"; kind = Surface; params = []; space = identity; line = 1 }
+
+abbrev pub first_attributes : Attributes
+first_attributes = record { look = first_look; surface = 0; displacement = None; atmosphere = None; lights = [] }
+
+-- A shader request waits until a primitive has it; then it is the next of the scene's uses.
+abbrev pub first_shaders : Shaders
+first_shaders = record { slots = Waiting first_surface ∷ []; uses = [] }
+
+abbrev pub with_request : Shaders → ShaderUse → Shaders
+with_request s u = record { slots = s.slots ++ Waiting u ∷ []; uses = s.uses }
+
+abbrev pub IsWaiting : Option Slot → Type 0
+IsWaiting (Some (Waiting u)) = Unit {0}
+IsWaiting (Some (Used n)) = ⊥
+IsWaiting None = ⊥
+
+-- Shader k of all requests is had by a primitive: the shaders then, and its place among the uses.
+abbrev pub placed_in : Shaders → ℕ → Option Slot → Shaders × ℕ
+placed_in s k (Some (Waiting u)) = (record { slots = set s.slots k (Used (length s.uses)); uses = s.uses ++ u ∷ [] }, length s.uses)
+placed_in s k (Some (Used n)) = (s, n)
+placed_in s k None = (s, 0)
+
+abbrev pub placed : Shaders → ℕ → Shaders × ℕ
+placed s k = placed_in s k (slice_get s.slots k)
+
+abbrev pub some_placed : Shaders → Option ℕ → Shaders × Option ℕ
+some_placed s None = (s, None)
+some_placed s (Some k) = let p = placed s k in (p.0, Some p.1)
+
+-- of several in order
+abbrev pub all_placed : Shaders → List ℕ → List ℕ → Shaders × List ℕ
+all_placed s done [] = (s, done)
+all_placed s done (k ∷ ks) = let p = placed s k in all_placed p.0 (done ++ p.1 ∷ []) ks
+
+-- ---- lights
+
+-- the light that a number stands for: the one that was made last
+abbrev pub light_of : List Handle → ℤ → Option ℕ → Option ℕ
+light_of [] number found = found
+light_of (h ∷ hs) number found = light_of hs number (if int_eq h.number number then Some h.light else found)
+
+abbrev pub is_among : ℕ → List ℕ → Bool
+is_among k [] = false
+is_among k (n ∷ ns) = n == k || is_among k ns
+
+-- the light is last in force where it wasn't in force
+abbrev pub with_light : ℕ → List ℕ → List ℕ
+with_light k lights = if is_among k lights then lights else lights ++ k ∷ []
+
+abbrev pub without_light : ℕ → List ℕ → List ℕ
+without_light k lights = filter (λ n. not (n == k)) lights

@@ -1,0 +1,199 @@
+// Blocks: what they save, and what their ends bring back.
+ghost use Rattle.std.specs.Prelude.{◌≡◌, Some};
+ghost use Rattle.scene_state.specs.State.{opened, innermost, frame_begun, closed, frame_ended, frame_made, attributes_ended, transform_ended, world_begun, world_ended};
+ghost use Rattle.scene_state.specs.Answers.{Steps};
+ghost use Rattle.scene_state.specs.declared.state.Block.TheVariants.{InAttributes, InTransform};
+
+use crate::attributes::Attributes;
+use crate::fault::{StateCode, Stop, code_of};
+use crate::frame::Frame;
+use crate::state::{Block, State, World};
+use crate::uses::text_copy;
+use fixed_math::List;
+use std::alloc::Global;
+use transforms::{Affine, Camera};
+
+const MOST_BLOCKS: usize = 64;
+
+const MOST_FRAMES: usize = 1000;
+
+impl State {
+    fn open(&mut self, block: Block) -> Result<(), Stop>
+        ensures { Steps result (opened block self.old) self.new }
+    {
+        if self.blocks.len() >= MOST_BLOCKS {
+            return Err(Stop::Fault(StateCode::M1));
+        }
+        self.blocks.0.push(block)?;
+        Ok(())
+    }
+
+    // Closes the innermost block.
+    fn close(&mut self) -> Option<Block>
+        ensures block { result ≡ innermost self.old.blocks }
+        ensures closed { self.new ≡ closed self.old }
+    {
+        self.blocks.0.pop()
+    }
+
+    // Brings back what a block saved.
+    fn restore(&mut self, attributes: Attributes, current: Affine)
+        ensures { self.new ≡ record self.old { attributes = attributes; current = current } }
+    {
+        self.attributes = attributes;
+        self.current = current;
+    }
+
+    pub(crate) fn begin_frame(&mut self, alloc: Global) -> Result<(), Stop>
+        ensures { Steps result (frame_begun self.old) self.new }
+    {
+        if self.blocks.len() != 0 {
+            return Err(Stop::Fault(StateCode::N1));
+        }
+        let block = Block::InFrame {
+            attributes: self.attributes.copy(alloc)?,
+            current: self.current,
+            choices: self.choices,
+            name: text_copy(alloc, &self.name)?,
+        };
+        self.open(block)
+    }
+
+    pub(crate) fn end_frame(&mut self) -> Result<(), Stop>
+        ensures { Steps result (frame_ended (innermost self.old.blocks) self.old) self.new }
+    {
+        match self.close() {
+            Some(
+                Block::InFrame {
+                    attributes,
+                    current,
+                    choices,
+                    name,
+                },
+            ) => {
+                self.choices = choices;
+                self.name = name;
+                self.restore(attributes, current);
+                Ok(())
+            }
+            _ => Err(Stop::Fault(StateCode::N1)),
+        }
+    }
+
+    pub(crate) fn begin_attributes(&mut self, alloc: Global) -> Result<(), Stop>
+        ensures { Steps result (opened (InAttributes self.old.attributes self.old.current) self.old) self.new }
+    {
+        let block = Block::InAttributes {
+            attributes: self.attributes.copy(alloc)?,
+            current: self.current,
+        };
+        self.open(block)
+    }
+
+    pub(crate) fn end_attributes(&mut self) -> Result<(), Stop>
+        ensures { Steps result (attributes_ended (innermost self.old.blocks) self.old) self.new }
+    {
+        match self.close() {
+            Some(
+                Block::InAttributes {
+                    attributes,
+                    current,
+                },
+            ) => {
+                self.restore(attributes, current);
+                Ok(())
+            }
+            _ => Err(Stop::Fault(StateCode::N1)),
+        }
+    }
+
+    pub(crate) fn begin_transform(&mut self) -> Result<(), Stop>
+        ensures { Steps result (opened (InTransform self.old.current) self.old) self.new }
+    {
+        self.open(Block::InTransform {
+            current: self.current,
+        })
+    }
+
+    pub(crate) fn end_transform(&mut self) -> Result<(), Stop>
+        ensures { Steps result (transform_ended (innermost self.old.blocks) self.old) self.new }
+    {
+        match self.blocks.as_slice().last() {
+            Some(Block::InTransform { current }) => {
+                let current = *current;
+                self.close();
+                self.current = current;
+                Ok(())
+            }
+            _ => Err(Stop::Fault(StateCode::N1)),
+        }
+    }
+
+    pub(crate) fn begin_world(&mut self, alloc: Global) -> Result<(), Stop>
+        ensures { Steps result (world_begun self.old) self.new }
+    {
+        if self.world.is_some() {
+            return Err(Stop::Fault(StateCode::N1));
+        }
+        let camera = match Camera::new(self.choices.view()) {
+            Ok(camera) => camera,
+            Err(fault) => return Err(Stop::Fault(code_of(fault))),
+        };
+        let block = Block::InWorld {
+            attributes: self.attributes.copy(alloc)?,
+            current: self.current,
+        };
+        self.world = Some(World {
+            camera,
+            to_camera: self.current,
+        });
+        self.current = Affine::identity();
+        self.open(block)
+    }
+
+    // The frame of the open world.
+    fn make_frame(
+        &mut self,
+        alloc: Global,
+        world: &World,
+        attributes: Attributes,
+        current: Affine,
+    ) -> Result<(), Stop>
+        ensures { Steps result (frame_made (Some world.now) attributes current self.old) self.new }
+    {
+        if self.frames.len() >= MOST_FRAMES {
+            return Err(Stop::Fault(StateCode::M2));
+        }
+        let frame = Frame {
+            name: text_copy(alloc, &self.name)?,
+            options: self.choices.picture(),
+            camera: world.camera,
+            world: world.to_camera,
+            prims: self.prims.take(alloc),
+        };
+        self.frames.0.push(frame)?;
+        self.attributes = attributes;
+        self.attributes.lights = List(Vec::new(alloc));
+        self.current = current;
+        self.world = None;
+        self.handles = List(Vec::new(alloc));
+        Ok(())
+    }
+
+    pub(crate) fn end_world(&mut self, alloc: Global) -> Result<(), Stop>
+        ensures { Steps result (world_ended (innermost self.old.blocks) self.old) self.new }
+    {
+        match self.close() {
+            Some(
+                Block::InWorld {
+                    attributes,
+                    current,
+                },
+            ) => match self.world {
+                Some(world) => self.make_frame(alloc, &world, attributes, current),
+                None => Err(Stop::Fault(StateCode::N1)),
+            },
+            _ => Err(Stop::Fault(StateCode::N1)),
+        }
+    }
+}

@@ -1,0 +1,98 @@
+ghost use Rattle.std.specs.Prelude.{◌≤◌, length};
+ghost use Rattle.scene_state.specs.Scene.{VariableValue, PrimValue, FrameValue, SceneValue, IsVariable, IsPrim, IsScene, most_prims};
+
+use crate::options::Options;
+use crate::uses::ShaderUse;
+use fixed_math::{List, Num, Text, Vec3};
+use patches::Patch;
+use rib_reader::{Kind, Values};
+use std::marker::Model;
+use transforms::{Affine, Camera};
+
+/// A variable of a primitive: its value once, or where it is varying at the four corners of a patch in the order of a
+/// bilinear one, as the scene gives them. There are as many numbers or strings as its kind takes.
+#[derive(Drop)]
+pub struct Variable {
+    pub name: Text,
+    pub kind: Kind,
+    pub varying: bool,
+    pub values: Values,
+}
+
+impl Model for Variable {
+    ghost Value = { VariableValue };
+
+    ghost view = { λ v. record { name = v.name; kind = v.kind; varying = v.varying; values = v.values } };
+
+    ghost invariant = { λ v. IsVariable (record { name = v.name; kind = v.kind; varying = v.varying; values = v.values }) };
+}
+
+/// A primitive (RenderMan Interface 3.2, section 5).
+///
+/// The patch's control points are in camera space. `flat` is the normal of a flat polygon; `cs` and `os` are colour and
+/// opacity. `surface`, `displacement`, `atmosphere` and `lights` are places among the scene's uses, of those kinds. Displacement
+/// moves a point by at most `bound` in camera space, raw 0 to 2^29. `rate` is the shading rate in square pixels. Where it is
+/// `one_sided`, `flip` turns the side that is seen. `object` maps object space to camera space. `place` is the column c of m and
+/// the row d of n that the patch has in its mesh, as [c, m, d, n], with m and n at most 65,536. `line` is that of its request.
+#[derive(Drop)]
+pub struct Prim {
+    pub patch: Patch,
+    pub flat: Option<Vec3>,
+    pub cs: Vec3,
+    pub os: Vec3,
+    pub surface: u32,
+    pub displacement: Option<u32>,
+    pub atmosphere: Option<u32>,
+    pub lights: List<u32>,
+    pub bound: Num,
+    pub rate: Num,
+    pub one_sided: bool,
+    pub flip: bool,
+    pub vars: List<Variable>,
+    pub object: Affine,
+    pub place: [u32; 4],
+    pub line: u32,
+}
+
+impl Model for Prim {
+    ghost Value = { PrimValue };
+
+    ghost view = { λ p. record { patch = p.patch; flat = p.flat; cs = p.cs; os = p.os; surface = p.surface; displacement = p.displacement; atmosphere = p.atmosphere; lights = p.lights; bound = p.bound; rate = p.rate; one_sided = p.one_sided; flip = p.flip; vars = p.vars; object = p.object; place = p.place; line = p.line } };
+
+    ghost invariant = { λ p. IsPrim (record { patch = p.patch; flat = p.flat; cs = p.cs; os = p.os; surface = p.surface; displacement = p.displacement; atmosphere = p.atmosphere; lights = p.lights; bound = p.bound; rate = p.rate; one_sided = p.one_sided; flip = p.flip; vars = p.vars; object = p.object; place = p.place; line = p.line }) };
+}
+
+/// A frame: the name of its picture, its options, its camera, the map from world space to camera space, and at most
+/// 65,536 primitives in the order of the scene.
+#[derive(Drop)]
+pub struct Frame {
+    pub name: Text,
+    pub options: Options,
+    pub camera: Camera,
+    pub world: Affine,
+    pub prims: List<Prim>,
+}
+
+impl Model for Frame {
+    ghost Value = { FrameValue };
+
+    ghost view = { λ f. record { name = f.name; options = f.options; camera = f.camera; world = f.world; prims = f.prims } };
+
+    ghost invariant = { λ f. length f.prims ≤ most_prims };
+}
+
+/// A scene: its frames in order, and the shader requests that some primitive has, each once, in the order of first use.
+/// A primitive's places among the uses are there, and their uses of the right kinds.
+#[derive(Drop)]
+pub struct Scene {
+    pub frames: List<Frame>,
+    pub uses: List<ShaderUse>,
+}
+
+impl Model for Scene {
+    ghost Value = { SceneValue };
+
+    ghost view = { λ s. record { frames = s.frames; uses = s.uses } };
+
+    ghost invariant = { λ s. IsScene (record { frames = s.frames; uses = s.uses }) };
+}

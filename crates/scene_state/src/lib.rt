@@ -1,0 +1,31 @@
+//! The scene of a list of requests: the graphics state (RenderMan Interface 3.2, sections 3 to 5), request by request.
+#![tactic(auto)]
+
+mod attributes;
+mod blocks;
+mod choices;
+mod fault;
+#[cfg(test)]
+mod fault_tests;
+mod filter;
+mod frame;
+mod lights;
+mod look;
+mod options;
+mod placing;
+mod prims;
+mod reading;
+mod shaders;
+mod state;
+mod steps;
+#[cfg(test)]
+mod tests;
+mod turning;
+mod uses;
+
+pub use fault::{StateCode, StateFault};
+pub use filter::Filter;
+pub use frame::{Frame, Prim, Scene, Variable};
+pub use options::Options;
+pub use reading::scene;
+pub use uses::{ShaderKind, ShaderUse};

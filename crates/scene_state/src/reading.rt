@@ -1,0 +1,68 @@
+ghost use Rattle.std.specs.Prelude.{◌≡◌, map};
+ghost use Rattle.rib_reader.specs.Reading.{plain};
+ghost use Rattle.scene_state.specs.State.{first_state};
+ghost use Rattle.scene_state.specs.Steps.{state_from, last_line};
+ghost use Rattle.scene_state.specs.Answers.{GivesState, GivesScene};
+
+use crate::fault::{StateCode, StateFault, Stop};
+use crate::frame::Scene;
+use crate::shaders::Shaders;
+use crate::state::State;
+use rib_reader::Request;
+use std::alloc::Global;
+
+// The state behind the requests.
+fn state_of(alloc: Global, requests: &[Request]) -> Result<State, StateFault>
+    ensures { GivesState result (state_from first_state (map plain requests.now)) }
+{
+    let mut state = State::first(alloc)?;
+    for request in requests {
+        match state.step(alloc, request) {
+            Ok(()) => {}
+            Err(Stop::Fault(code)) => {
+                return Err(StateFault::At {
+                    code,
+                    line: request.line,
+                });
+            }
+            Err(Stop::NoMemory) => return Err(StateFault::NoMemory),
+        }
+    }
+    Ok(state)
+}
+
+// The line of the last request, 1 where there is none.
+fn last_line(requests: &[Request]) -> u32
+    ensures { result ≡ last_line 1 (map plain requests.now) }
+{
+    let mut line = 1;
+    for request in requests {
+        line = request.line;
+    }
+    line
+}
+
+/// The scene of a list of requests: its frames with their options, cameras and primitives, and the shader requests that its
+/// primitives have.
+///
+/// A fault comes exactly where the list has it first, request by request, with the line of the request's name: in one request
+/// those of nesting (`N1` to `N5`) before those of geometry (`G1` to `G5`, `G4` before `G1` and `G2`) before the limits (`M1` to
+/// `M7`). `N4`, for blocks that are open at the end, has the line of the last request. Else the answer is want of memory.
+pub fn scene(alloc: Global, requests: &[Request]) -> Result<Scene, StateFault>
+    ensures { GivesScene result requests.now }
+{
+    let state = state_of(alloc, requests)?;
+    if state.blocks.len() != 0 {
+        return Err(StateFault::At {
+            code: StateCode::N4,
+            line: last_line(requests),
+        });
+    }
+    let State {
+        frames,
+        shaders,
+        ..
+    } = state;
+    let Shaders { uses, .. } = shaders;
+    Ok(Scene { frames, uses })
+}

@@ -1,0 +1,156 @@
+// Shader requests, and lights by their numbers.
+ghost use Rattle.std.specs.Prelude.{◌≡◌, IfOk, [], None, slice_get};
+ghost use Rattle.scene_state.specs.Shaders.{IsWaiting, first_shaders, with_request, placed, some_placed, all_placed, light_of, is_among, with_light, without_light};
+
+use crate::uses::{ShaderKind, ShaderUse};
+use fixed_math::{List, NoMemory, Text};
+use std::alloc::Global;
+use std::mem;
+use transforms::Affine;
+
+/// A shader request: it waits until a primitive has it, and is then one of the scene's uses.
+#[derive(Drop)]
+pub(crate) enum Slot {
+    Waiting(ShaderUse),
+    Used(u32),
+}
+
+/// All shader requests so far, and the uses that they became, in order of first use.
+#[derive(Drop)]
+pub(crate) struct Shaders {
+    pub(crate) slots: List<Slot>,
+    pub(crate) uses: List<ShaderUse>,
+}
+
+/// A light by the number that a scene calls it.
+#[derive(Clone, Copy)]
+pub(crate) struct Handle {
+    pub(crate) number: i64,
+    pub(crate) light: usize,
+}
+
+impl Shaders {
+    /// The surface that holds at the start.
+    pub(crate) fn first(alloc: Global) -> Result<Shaders, NoMemory>
+        ensures { IfOk result (λ s. s ≡ first_shaders) }
+    {
+        let surface = ShaderUse {
+            name: Text::from_bytes(alloc, b"constant")?,
+            kind: ShaderKind::Surface,
+            params: List(Vec::new(alloc)),
+            space: Affine::identity(),
+            line: 1,
+        };
+        let mut slots = Vec::new(alloc);
+        slots.push(Slot::Waiting(surface))?;
+        Ok(Shaders {
+            slots: List(slots),
+            uses: List(Vec::new(alloc)),
+        })
+    }
+
+    /// A request more.
+    pub(crate) fn add(&mut self, shader: ShaderUse) -> Result<(), NoMemory>
+        ensures { IfOk result (λ _. self.new ≡ with_request self.old shader) }
+    {
+        self.slots.0.push(Slot::Waiting(shader))?;
+        Ok(())
+    }
+
+    /// The place among the uses of a request that a primitive has. Where no place has so great a number, want of memory.
+    pub(crate) fn place(&mut self, shader: usize) -> Result<u32, NoMemory>
+        ensures { IfOk result (λ n. (self.new, n) ≡ placed self.old shader) }
+    {
+        match self.slots.0.get(shader) {
+            Some(Slot::Waiting(_)) => self.use_next(shader),
+            Some(Slot::Used(place)) => Ok(*place),
+            None => Ok(0),
+        }
+    }
+
+    // The place of a request that waits, which becomes the next of the uses.
+    fn use_next(&mut self, shader: usize) -> Result<u32, NoMemory>
+        requires { IsWaiting (slice_get self.old.slots shader) }
+        ensures { IfOk result (λ n. (self.new, n) ≡ placed self.old shader) }
+    {
+        let Ok(next) = u32::try_from(self.uses.0.len()) else {
+            return Err(NoMemory);
+        };
+        match mem::replace(&mut self.slots.0[shader], Slot::Used(next)) {
+            Slot::Waiting(shader) => self.uses.0.push(shader)?,
+            Slot::Used(_) => unreachable!(),
+        }
+        Ok(next)
+    }
+
+    /// The place of one that may be there.
+    pub(crate) fn place_some(&mut self, shader: Option<usize>) -> Result<Option<u32>, NoMemory>
+        ensures { IfOk result (λ n. (self.new, n) ≡ some_placed self.old shader) }
+    {
+        match shader {
+            Some(shader) => Ok(Some(self.place(shader)?)),
+            None => Ok(None),
+        }
+    }
+
+    /// The places of several, in order.
+    pub(crate) fn place_all(
+        &mut self,
+        alloc: Global,
+        shaders: &[usize],
+    ) -> Result<List<u32>, NoMemory>
+        ensures { IfOk result (λ ns. (self.new, ns) ≡ all_placed self.old [] shaders.now) }
+    {
+        let mut places = Vec::new(alloc);
+        for shader in shaders {
+            places.push(self.place(*shader)?)?;
+        }
+        Ok(List(places))
+    }
+}
+
+/// The light that a number stands for: the one that was made last.
+pub(crate) fn light_of(handles: &[Handle], number: i64) -> Option<usize>
+    ensures { result ≡ light_of handles.now number None }
+{
+    let mut found = None;
+    for handle in handles {
+        if handle.number == number {
+            found = Some(handle.light);
+        }
+    }
+    found
+}
+
+fn is_among(light: usize, lights: &[usize]) -> bool
+    ensures { result ≡ is_among light lights.now }
+{
+    for other in lights {
+        if *other == light {
+            return true;
+        }
+    }
+    false
+}
+
+/// Puts a light into force, last, where it isn't in force.
+pub(crate) fn put_light(light: usize, lights: &mut List<usize>) -> Result<(), NoMemory>
+    ensures { IfOk result (λ _. lights.new ≡ with_light light lights.old) }
+{
+    if !is_among(light, lights.as_slice()) {
+        lights.0.push(light)?;
+    }
+    Ok(())
+}
+
+/// The lights in force without this one.
+pub(crate) fn without_light(
+    alloc: Global,
+    light: usize,
+    lights: &[usize],
+) -> Result<List<usize>, NoMemory>
+    ensures { IfOk result (λ l. l ≡ without_light light lights.now) }
+{
+    let kept = lights.iter().copied().filter(|other| *other != light);
+    Ok(List(kept.collect(alloc)?))
+}

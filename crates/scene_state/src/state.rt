@@ -1,0 +1,78 @@
+// The state between two requests.
+ghost use Rattle.std.specs.Prelude.{◌≡◌, IfOk};
+ghost use Rattle.scene_state.specs.State.{first_state};
+
+use crate::attributes::Attributes;
+use crate::choices::Choices;
+use crate::frame::Frame;
+use crate::prims::Prims;
+use crate::shaders::{Handle, Shaders};
+use fixed_math::{List, NoMemory, Text};
+use std::alloc::Global;
+use transforms::{Affine, Camera};
+
+/// An open block, with what its end brings back.
+#[derive(Drop)]
+pub(crate) enum Block {
+    InFrame {
+        attributes: Attributes,
+        current: Affine,
+        choices: Choices,
+        name: Text,
+    },
+    InWorld {
+        attributes: Attributes,
+        current: Affine,
+    },
+    InAttributes {
+        attributes: Attributes,
+        current: Affine,
+    },
+    InTransform {
+        current: Affine,
+    },
+}
+
+/// What an open world is seen by: its camera, and the map from world space to camera space.
+#[derive(Clone, Copy)]
+pub(crate) struct World {
+    pub(crate) camera: Camera,
+    pub(crate) to_camera: Affine,
+}
+
+/// The options with the name of the picture; the attributes; the current transformation; the open blocks, the innermost
+/// last; the open world, and its primitives so far; the lights' numbers since the last world; all shader requests; and the
+/// frames so far.
+#[derive(Drop)]
+pub(crate) struct State {
+    pub(crate) choices: Choices,
+    pub(crate) name: Text,
+    pub(crate) attributes: Attributes,
+    pub(crate) current: Affine,
+    pub(crate) blocks: List<Block>,
+    pub(crate) world: Option<World>,
+    pub(crate) prims: Prims,
+    pub(crate) handles: List<Handle>,
+    pub(crate) shaders: Shaders,
+    pub(crate) frames: List<Frame>,
+}
+
+impl State {
+    /// The state before the first request.
+    pub(crate) fn first(alloc: Global) -> Result<State, NoMemory>
+        ensures { IfOk result (λ s. s ≡ first_state) }
+    {
+        Ok(State {
+            choices: Choices::first(),
+            name: Text::from_bytes(alloc, b"out.ppm")?,
+            attributes: Attributes::first(alloc),
+            current: Affine::identity(),
+            blocks: List(Vec::new(alloc)),
+            world: None,
+            prims: Prims::new(alloc),
+            handles: List(Vec::new(alloc)),
+            shaders: Shaders::first(alloc)?,
+            frames: List(Vec::new(alloc)),
+        })
+    }
+}

@@ -1,0 +1,99 @@
+// What each request does to the state.
+ghost use Rattle.std.specs.Prelude.{◌≡◌};
+ghost use Rattle.rib_reader.specs.Reading.{plain};
+ghost use Rattle.rib_reader.specs.declared.req.Req.TheVariants as reqs;
+ghost use Rattle.scene_state.specs.State.{option_set, display_set};
+ghost use Rattle.scene_state.specs.Steps.{look_set, after};
+ghost use Rattle.scene_state.specs.Answers.{Steps};
+
+use crate::fault::{StateCode, Stop};
+use crate::state::State;
+use crate::uses::text_copy;
+use rib_reader::{Req, Request};
+use std::alloc::Global;
+
+impl State {
+    fn set_look(&mut self, request: &Request)
+        ensures { look_set (plain request.now) self.old ≡ Ok self.new }
+    {
+        self.attributes.look = self.attributes.look.after(request);
+    }
+
+    fn set_option(&mut self, request: &Request) -> Result<(), Stop>
+        ensures { Steps result (option_set (plain request.now) self.old) self.new }
+    {
+        if self.world.is_some() {
+            return Err(Stop::Fault(StateCode::N2));
+        }
+        match self.choices.chosen(request) {
+            Ok(choices) => {
+                self.choices = choices;
+                Ok(())
+            }
+            Err(code) => Err(Stop::Fault(code)),
+        }
+    }
+
+    fn set_display(&mut self, alloc: Global, request: &Request) -> Result<(), Stop>
+        requires { request.now.name ≡ reqs.Display }
+        ensures { Steps result (display_set (plain request.now) self.old) self.new }
+    {
+        if self.world.is_some() {
+            return Err(Stop::Fault(StateCode::N2));
+        }
+        let name = request.word(0);
+        if !name.as_str().starts_with('+') {
+            self.name = text_copy(alloc, name)?;
+        }
+        Ok(())
+    }
+
+    /// Changes the state by a request. The fault is the first that the request gives, of its nesting, of its geometry, or of a
+    /// limit.
+    pub(crate) fn step(&mut self, alloc: Global, request: &Request) -> Result<(), Stop>
+        ensures { Steps result (after (plain request.now) self.old) self.new }
+    {
+        match request.name {
+            Req::FrameBegin => self.begin_frame(alloc)?,
+            Req::FrameEnd => self.end_frame()?,
+            Req::WorldBegin => self.begin_world(alloc)?,
+            Req::WorldEnd => self.end_world(alloc)?,
+            Req::AttributeBegin => self.begin_attributes(alloc)?,
+            Req::AttributeEnd => self.end_attributes()?,
+            Req::TransformBegin => self.begin_transform()?,
+            Req::TransformEnd => self.end_transform()?,
+            Req::Format
+            | Req::FrameAspectRatio
+            | Req::ScreenWindow
+            | Req::CropWindow
+            | Req::Clipping
+            | Req::Projection
+            | Req::PixelSamples
+            | Req::PixelFilter
+            | Req::Exposure
+            | Req::Quantize => self.set_option(request)?,
+            Req::Display => self.set_display(alloc, request)?,
+            Req::Color
+            | Req::Opacity
+            | Req::ShadingRate
+            | Req::Sides
+            | Req::Orientation
+            | Req::ReverseOrientation
+            | Req::Attribute => self.set_look(request),
+            Req::Surface => self.set_surface(alloc, request)?,
+            Req::Displacement => self.set_displacement(alloc, request)?,
+            Req::Atmosphere => self.set_atmosphere(alloc, request)?,
+            Req::LightSource => self.make_light(alloc, request)?,
+            Req::Illuminate => self.illuminate(alloc, request)?,
+            Req::Identity => self.set_identity(),
+            Req::Transform => self.transform(request)?,
+            Req::ConcatTransform => self.concat(request)?,
+            Req::Translate => self.translate(request)?,
+            Req::Scale => self.scale(request)?,
+            Req::Rotate => self.rotate(request)?,
+            Req::Patch => self.place_patch(alloc, request)?,
+            _ => {}
+        }
+        Ok(())
+    }
+}
