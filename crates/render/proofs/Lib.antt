@@ -3,3 +3,9 @@ pub mod Left
 pub mod Completing
 pub mod Drawing
 pub mod Commands
+pub mod Names
+pub mod ReadAll
+pub mod Bound
+pub mod Fetched
+pub mod SoFar
+pub mod Loading

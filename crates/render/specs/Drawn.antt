@@ -1,10 +1,11 @@
--- The scenes that are drawn so far: opaque primitives of the surface `constant`, without other shaders, that need no splitting, under
--- one sample a pixel and a box filter of one pixel, without exposure, in bytes from 0 to 255.
+-- The scenes that are drawn so far: opaque primitives of the stock surface `constant`, without other shaders, that need no splitting,
+-- under one sample a pixel and a box filter of one pixel, without exposure, in bytes from 0 to 255.
 use Rattle.std.specs.Prelude.{ℕ, ℤ, pos, Bool, true, false, ◌&&◌, ◌==◌, List, length, Option, Some, None, codes, slice_get}
 use Rattle.std.specs.List.{list_all}
 use Rattle.std.specs.Ordering.{int_eq}
 use Rattle.std.specs.Str.{bytes_eq}
 use Rattle.fixed_math.specs.declared.vec3.Vec3.{Vec3}
+use Rattle.outside.specs.Library.{Files, held_as}
 use Rattle.patches.specs.Parts.{whole_of}
 use Rattle.transforms.specs.declared.view.View.{View}
 use Rattle.bound_split.specs.declared.splits.Decision.{Decision}
@@ -15,6 +16,7 @@ use Rattle.scene_state.specs.declared.filter.Filter.TheVariants.{Box, Triangle, 
 use Rattle.scene_state.specs.declared.uses.ShaderUse.{ShaderUse}
 use Rattle.scene_state.specs.Scene.{PrimValue, FrameValue, SceneValue}
 use Rattle.render.specs.Pictures.{decide}
+use Rattle.render.specs.Shaders.{file_of}
 
 abbrev pub is_one : ℤ → Bool
 is_one x = int_eq x (pos 65536)
@@ -56,5 +58,13 @@ is_in_bytes o = is_one o.gain && is_one o.gamma && o.one == 255 && o.min == 0 &&
 abbrev pub is_frame_drawn : List ShaderUse → FrameValue → Bool
 is_frame_drawn uses f = is_sampled_once f.options && is_in_bytes f.options && list_all (is_prim_drawn uses f.camera) f.prims
 
-abbrev pub is_drawn : SceneValue → Bool
-is_drawn s = list_all (is_frame_drawn s.uses) s.frames
+-- no file takes the place of the shader's stock text
+abbrev pub is_nothing : Option (List ℕ) → Bool
+is_nothing None = true
+is_nothing (Some bytes) = false
+
+abbrev pub is_stock : Files → ShaderUse → Bool
+is_stock files u = is_nothing (held_as files (file_of u.name))
+
+abbrev pub is_drawn : Files → SceneValue → Bool
+is_drawn files s = list_all (is_stock files) s.uses && list_all (is_frame_drawn s.uses) s.frames

@@ -1,8 +1,12 @@
 pub mod Texts
 pub mod Codes
 pub mod Command
+pub mod Causes
 pub mod Pictures
+pub mod Shaders
+pub mod Bindings
 pub mod Drawn
 pub mod Verdict
 pub mod Answers
+pub mod Reading
 pub mod Done

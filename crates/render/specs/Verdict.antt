@@ -1,5 +1,5 @@
 -- What a command has to be answered.
-use Rattle.std.specs.Prelude.{ℕ, Bool, true, false, List, [], length, Option, Some, None, option_map, option_to_list, Result, Ok, Err, if◌then◌else◌, nat_lt}
+use Rattle.std.specs.Prelude.{ℕ, Bool, true, false, List, [], ◌∷◌, length, Option, Some, None, Result, Ok, Err, if◌then◌else◌, nat_lt}
 use Rattle.outside.specs.Library.{Files, held_as}
 use Rattle.outside.specs.Frames.{Picture}
 use Rattle.rib_lex.specs.declared.token.Token.{Token}
@@ -7,12 +7,14 @@ use Rattle.rib_lex.specs.Tokens as tokens
 use Rattle.rib_reader.specs.Reading as reading
 use Rattle.scene_state.specs.Scene.{SceneValue}
 use Rattle.scene_state.specs.Steps as steps
-use Rattle.render.specs.declared.code.Code.{Code}
 use Rattle.render.specs.declared.code.Code.TheVariants.{U0, M10}
 use Rattle.render.specs.declared.command.Action.{Action}
 use Rattle.render.specs.declared.command.Action.TheVariants.{Render, Check}
+use Rattle.render.specs.Causes.{Cause, Missing, At, Reads}
 use Rattle.render.specs.Codes.{status_of_code, of_lex, of_request, of_state}
 use Rattle.render.specs.Command.{Command, command_of}
+use Rattle.render.specs.Shaders.{shader_names, shaders_refused, shaders_asked}
+use Rattle.render.specs.Bindings.{uses_refused}
 use Rattle.render.specs.Drawn.{is_drawn}
 use Rattle.render.specs.Pictures.{frames_of}
 
@@ -20,48 +22,67 @@ use Rattle.render.specs.Pictures.{frames_of}
 abbrev pub most_bytes : ℕ
 most_bytes = 16777216
 
--- a fault has the line of the scene at which it stands
+-- the scene of a file of that name, or its first fault: its size, its tokens, its requests, then its graphics state
+abbrev pub scene_of_state : List ℕ → Result SceneValue steps.Placed → Reads SceneValue
+scene_of_state name (Ok scene) = Ok scene
+scene_of_state name (Err (code, line)) = Err (At name (of_state code) line)
+
+abbrev pub scene_of_requests : List ℕ → Result (List reading.Read) reading.Placed → Reads SceneValue
+scene_of_requests name (Ok requests) = scene_of_state name (steps.scene_of requests)
+scene_of_requests name (Err (code, line)) = Err (At name (of_request code) line)
+
+abbrev pub scene_of_tokens : List ℕ → Result (List Token) tokens.Placed → Reads SceneValue
+scene_of_tokens name (Ok ts) = scene_of_requests name (reading.requests_of ts)
+scene_of_tokens name (Err (code, line)) = Err (At name (of_lex code) line)
+
+abbrev pub scene_of_held : List ℕ → Option (List ℕ) → Reads SceneValue
+scene_of_held name None = Err (Missing name)
+scene_of_held name (Some bytes) = if nat_lt most_bytes (length bytes) then Err (At name M10 1) else scene_of_tokens name (tokens.tokens_of bytes)
+
+-- the scene that is held under a name
+unfoldable pub scene_held : Files → List ℕ → Reads SceneValue
+scene_held files name = scene_of_held name (held_as files name)
+
 pub data Verdict : Type 0 where
   Usage : Verdict
-  Missing : (name : List ℕ) → Verdict
-  Fault : (code : Code) → (line : ℕ) → Verdict
+  Refused : (cause : Cause) → Verdict
   Accepted : (action : Action) → (scene : SceneValue) → Verdict
 
 -- to be rendered, a scene has to be one that is drawn so far
-abbrev pub verdict_if_drawn : Action → Bool → SceneValue → Verdict
-verdict_if_drawn Render true scene = Accepted Render scene
-verdict_if_drawn Render false scene = Fault U0 1
-verdict_if_drawn Check drawn scene = Accepted Check scene
+abbrev pub verdict_if_drawn : Command → Action → Bool → SceneValue → Verdict
+verdict_if_drawn c Render true scene = Accepted Render scene
+verdict_if_drawn c Render false scene = Refused (At c.name U0 1)
+verdict_if_drawn c Check drawn scene = Accepted Check scene
 
-abbrev pub verdict_of_scene : Action → Result SceneValue steps.Placed → Verdict
-verdict_of_scene action (Ok scene) = verdict_if_drawn action (is_drawn scene) scene
-verdict_of_scene action (Err (code, line)) = Fault (of_state code) line
+-- a refusal, if there is one
+abbrev pub unless : Option Cause → Verdict → Verdict
+unless (Some cause) verdict = Refused cause
+unless None verdict = verdict
 
-abbrev pub verdict_of_requests : Action → Result (List reading.Read) reading.Placed → Verdict
-verdict_of_requests action (Ok requests) = verdict_of_scene action (steps.scene_of requests)
-verdict_of_requests action (Err (code, line)) = Fault (of_request code) line
+-- a scene's shaders come by first use, and then the parameters of its shader requests
+abbrev pub verdict_of_scene : Command → Files → SceneValue → Verdict
+verdict_of_scene c files scene =
+    unless (shaders_refused files (shader_names scene.uses)) (unless (uses_refused files c.name scene.uses) (verdict_if_drawn c c.action (is_drawn files scene) scene))
 
-abbrev pub verdict_of_tokens : Action → Result (List Token) tokens.Placed → Verdict
-verdict_of_tokens action (Ok ts) = verdict_of_requests action (reading.requests_of ts)
-verdict_of_tokens action (Err (code, line)) = Fault (of_lex code) line
-
--- of what is held under the name
-abbrev pub verdict_of_held : Command → Option (List ℕ) → Verdict
-verdict_of_held c None = Missing c.name
-verdict_of_held c (Some bytes) = if nat_lt most_bytes (length bytes) then Fault M10 1 else verdict_of_tokens c.action (tokens.tokens_of bytes)
+abbrev pub verdict_of_read : Command → Files → Reads SceneValue → Verdict
+verdict_of_read c files (Ok scene) = verdict_of_scene c files scene
+verdict_of_read c files (Err cause) = Refused cause
 
 abbrev pub verdict_of_command : Option Command → Files → Verdict
 verdict_of_command None files = Usage
-verdict_of_command (Some c) files = verdict_of_held c (held_as files c.name)
+verdict_of_command (Some c) files = verdict_of_read c files (scene_held files c.name)
 
 -- the verdict of a command's words over the files that are held
 abbrev pub verdict : List (List ℕ) → Files → Verdict
 verdict words files = verdict_of_command (command_of words) files
 
+abbrev pub status_of_cause : Cause → ℕ
+status_of_cause (Missing file) = 6
+status_of_cause (At file code line) = status_of_code code
+
 abbrev pub status_of : Verdict → ℕ
 status_of Usage = 2
-status_of (Missing name) = 6
-status_of (Fault code line) = status_of_code code
+status_of (Refused cause) = status_of_cause cause
 status_of (Accepted action scene) = 0
 
 -- the frames to write: those of an accepted scene that is to be rendered
@@ -69,6 +90,14 @@ abbrev pub pictures_of : Verdict → List Picture
 pictures_of (Accepted Render scene) = frames_of scene
 pictures_of _ = []
 
--- the names to ask for
-abbrev pub asked_of : List (List ℕ) → List (List ℕ)
-asked_of words = option_to_list (option_map (λ c. c.name) (command_of words))
+-- the names to ask for: the scene's, and where it is read those of its shaders' files, up to and with the first that is refused
+abbrev pub asked_for_scene : Files → Reads SceneValue → List (List ℕ)
+asked_for_scene files (Ok scene) = shaders_asked files (shader_names scene.uses)
+asked_for_scene files (Err cause) = []
+
+abbrev pub asked_for_command : Option Command → Files → List (List ℕ)
+asked_for_command None files = []
+asked_for_command (Some c) files = c.name ∷ asked_for_scene files (scene_held files c.name)
+
+abbrev pub asked_of : List (List ℕ) → Files → List (List ℕ)
+asked_of words files = asked_for_command (command_of words) files

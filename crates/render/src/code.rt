@@ -1,12 +1,14 @@
-// The codes of refused scenes.
+// The codes of refused scenes and shaders.
 ghost use Rattle.std.specs.Prelude.{◌≡◌};
-ghost use Rattle.render.specs.Codes.{text_of, status_of_code, of_lex, of_request, of_state};
+ghost use Rattle.render.specs.Codes.{text_of, status_of_code, of_lex, of_request, of_state, of_syntax, of_type};
 
 use rib_lex::LexCode;
 use rib_reader::RibCode;
 use scene_state::StateCode;
+use sl_parser::SlCode;
+use sl_types::TypeCode;
 
-/// The code of a refused scene, as notes have it.
+/// The code of a refused scene or shader, as notes have it.
 #[derive(Debug, Clone, Copy, PartialEq, Eq)]
 pub enum Code {
     /// A byte that can't stand here.
@@ -37,6 +39,40 @@ pub enum Code {
     N4,
     /// A primitive outside a world.
     N5,
+    /// No token of a shader's text begins here.
+    P1,
+    /// No text of the Shading Language's grammar goes on with this token, or ends here.
+    P2,
+    /// The 65th level of a shader's text would open here.
+    P3,
+    /// An unknown variable or function.
+    T1,
+    /// Operands, arguments, conditions, set or returned values without a rule.
+    T2,
+    /// A varying value that goes into a uniform variable, or that is the index of `comp`.
+    T3,
+    /// An assignment to a uniform variable under varying control.
+    T4,
+    /// A difference over the surface under varying control.
+    T5,
+    /// What isn't for this kind of shader, or a predefined variable outside its place.
+    T6,
+    /// A function that calls itself.
+    T7,
+    /// A `return` that isn't a function's last statement, or none; `break` or `continue` outside a loop.
+    T8,
+    /// More than one `illuminate` or `solar` in a light, or one in a loop.
+    T9,
+    /// A name that is declared twice.
+    T10,
+    /// What this profile of the Shading Language leaves out.
+    T11,
+    /// A parameter of a shader request that the shader doesn't declare.
+    B1,
+    /// A parameter of another kind than the shader declares.
+    B2,
+    /// A shader of another kind than the request's.
+    B3,
     /// Not built yet: the scene is right, and this renderer doesn't draw it so far.
     U0,
     /// A transformation that has no inverse.
@@ -63,7 +99,9 @@ pub enum Code {
     M6,
     /// A point whose raw coordinate in camera space passes 2^30.
     M7,
-    /// The scene file is longer than 16,777,216 bytes.
+    /// A shader of more than 65,536 nodes with its functions in place, or of more than 256 in one another.
+    M8,
+    /// The scene file is longer than 16,777,216 bytes, or a shader's file than 1,048,576.
     M10,
 }
 
@@ -87,6 +125,23 @@ impl Code {
             Code::N3 => "N3",
             Code::N4 => "N4",
             Code::N5 => "N5",
+            Code::P1 => "P1",
+            Code::P2 => "P2",
+            Code::P3 => "P3",
+            Code::T1 => "T1",
+            Code::T2 => "T2",
+            Code::T3 => "T3",
+            Code::T4 => "T4",
+            Code::T5 => "T5",
+            Code::T6 => "T6",
+            Code::T7 => "T7",
+            Code::T8 => "T8",
+            Code::T9 => "T9",
+            Code::T10 => "T10",
+            Code::T11 => "T11",
+            Code::B1 => "B1",
+            Code::B2 => "B2",
+            Code::B3 => "B3",
             Code::U0 => "U0",
             Code::G1 => "G1",
             Code::G2 => "G2",
@@ -100,6 +155,7 @@ impl Code {
             Code::M5 => "M5",
             Code::M6 => "M6",
             Code::M7 => "M7",
+            Code::M8 => "M8",
             Code::M10 => "M10",
         }
     }
@@ -109,9 +165,12 @@ impl Code {
         ensures { result ≡ status_of_code self }
     {
         match self {
+            Code::T1 | Code::T2 | Code::T3 | Code::T4 | Code::T5 | Code::T6 => 4,
+            Code::T7 | Code::T8 | Code::T9 | Code::T10 | Code::T11 => 4,
+            Code::B1 | Code::B2 | Code::B3 => 4,
             Code::G1 | Code::G2 | Code::G3 | Code::G4 | Code::G5 => 5,
             Code::M1 | Code::M2 | Code::M3 | Code::M4 | Code::M5 | Code::M6 | Code::M7 => 5,
-            Code::M10 => 5,
+            Code::M8 | Code::M10 => 5,
             _ => 3,
         }
     }
@@ -164,5 +223,36 @@ pub(crate) fn of_state(code: StateCode) -> Code
         StateCode::M5 => Code::M5,
         StateCode::M6 => Code::M6,
         StateCode::M7 => Code::M7,
+    }
+}
+
+/// The code of a fault of a shader's grammar.
+pub(crate) fn of_syntax(code: SlCode) -> Code
+    ensures { result ≡ of_syntax code }
+{
+    match code {
+        SlCode::P1 => Code::P1,
+        SlCode::P2 => Code::P2,
+        SlCode::P3 => Code::P3,
+    }
+}
+
+/// The code of a fault of a shader's types, or of its size.
+pub(crate) fn of_type(code: TypeCode) -> Code
+    ensures { result ≡ of_type code }
+{
+    match code {
+        TypeCode::T1 => Code::T1,
+        TypeCode::T2 => Code::T2,
+        TypeCode::T3 => Code::T3,
+        TypeCode::T4 => Code::T4,
+        TypeCode::T5 => Code::T5,
+        TypeCode::T6 => Code::T6,
+        TypeCode::T7 => Code::T7,
+        TypeCode::T8 => Code::T8,
+        TypeCode::T9 => Code::T9,
+        TypeCode::T10 => Code::T10,
+        TypeCode::T11 => Code::T11,
+        TypeCode::M8 => Code::M8,
     }
 }

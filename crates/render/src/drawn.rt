@@ -1,10 +1,14 @@
 // The scenes that are drawn so far.
-ghost use Rattle.std.specs.Prelude.{◌≡◌, slice_get};
+ghost use Rattle.std.specs.Prelude.{◌≡◌, All, map, slice_get};
 ghost use Rattle.std.specs.List.{list_all};
+ghost use Rattle.outside.specs.Library.{Files};
 ghost use Rattle.patches.specs.Parts.{whole_of};
 ghost use Rattle.render.specs.Pictures.{decide};
 ghost use Rattle.render.specs.Drawn.{is_one, is_opaque, is_constant, is_dice, is_plain, is_prim_drawn, is_sampled_once, is_in_bytes, is_frame_drawn, is_drawn};
+ghost use Rattle.render.specs.Shaders.{shader_names};
+ghost use Rattle.render.specs.Reading.{IsReadOf, is_from_stock, name_of};
 
+use crate::shaders::ReadShader;
 use bound_split::{Decision, decide};
 use fixed_math::{Num, Vec3};
 use patches::Piece;
@@ -122,9 +126,23 @@ fn are_frames_drawn(uses: &[ShaderUse], frames: &[Frame]) -> bool
     true
 }
 
-/// Whether all frames of a scene are of the kind that is drawn so far.
-pub(crate) fn is_drawn(scene: &Scene) -> bool
-    ensures { result ≡ is_drawn scene.now }
+// Whether the texts of all these shaders are the stock's.
+fn are_stock(shaders: &[ReadShader]) -> bool
+    ensures { result ≡ list_all is_from_stock shaders.now }
 {
-    are_frames_drawn(scene.uses.as_slice(), scene.frames.as_slice())
+    for shader in shaders {
+        if !shader.stock {
+            return false;
+        }
+    }
+    true
+}
+
+#[tactic(auto, using(crate::proofs::ReadAll::stock_same))]
+/// Whether all frames of a scene, whose shaders have been read, are of the kind that is drawn so far.
+pub(crate) fn is_drawn(scene: &Scene, shaders: &[ReadShader]) -> bool
+    requires { map name_of shaders.now ≡ shader_names scene.now.uses }
+    ensures { (files : Files) → All (IsReadOf files) shaders.now → result ≡ is_drawn files scene.now }
+{
+    are_stock(shaders) && are_frames_drawn(scene.uses.as_slice(), scene.frames.as_slice())
 }

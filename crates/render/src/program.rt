@@ -1,11 +1,11 @@
 // The whole program, as one call.
-ghost use Rattle.std.specs.Prelude.{◌≡◌, ◌≢◌, ◌≤◌, ◌⊎◌, false, None};
+ghost use Rattle.std.specs.Prelude.{◌≡◌, ◌≢◌, ◌≤◌, ◌⊎◌, false, Some, None};
 ghost use Rattle.outside.specs.Causes.{Rose, Told};
 ghost use Rattle.outside.specs.Frames.{AddsFront};
 ghost use Rattle.outside.specs.Asked.{AsksFront};
 ghost use Rattle.render.specs.Texts.{texts};
 ghost use Rattle.render.specs.Command.{command_of};
-ghost use Rattle.render.specs.Verdict.{verdict, status_of, pictures_of, asked_of};
+ghost use Rattle.render.specs.Verdict.{verdict, verdict_of_command, status_of, pictures_of, asked_for_command, asked_of};
 ghost use Rattle.render.specs.Done.{IsDone, IsComplete};
 ghost use Rattle.render.specs.Answers.{Agrees, IsToRender, ComesBefore, number_of};
 ghost use Rattle.render.specs.declared.program.Answer.TheVariants.{Done, Usage, Refused, WriteFault, Exhausted};
@@ -30,6 +30,39 @@ enum Answer {
     Exhausted,
 }
 
+// What is asked for and done, where the words are a command.
+fn obeyed<L: Library, O: FrameSink>(
+    alloc: Global,
+    action: Action,
+    name: &str,
+    library: &mut L,
+    frames: &mut O,
+) -> Answer
+    requires { O.is_open frames.old ≡ false }
+    ensures command { result ≢ Usage }
+    ensures verdict { Told (L.held library.old) (λ files. Agrees result (verdict_of_command (Some (record { action = action; name = name.now })) files) (O.written frames.old) (O.written frames.new)) }
+    ensures before { ComesBefore result → O.written frames.new ≡ O.written frames.old }
+    ensures closed { result ≢ WriteFault → O.is_open frames.new ≡ false }
+    ensures asked { Told (L.held library.old) (λ files. AsksFront (asked_for_command (Some (record { action = action; name = name.now })) files) (L.asked library.old) (L.asked library.new)) }
+    ensures library_later { L.faults library.old ≤ L.faults library.new }
+    ensures sink_later { O.faults frames.old ≤ O.faults frames.new }
+    ensures read { result ≡ Refused ReadFault → Rose (L.faults library.old) (L.faults library.new) }
+    ensures write { result ≡ WriteFault → Rose (O.faults frames.old) (O.faults frames.new) }
+{
+    let scene = match load(alloc, library, action, name) {
+        Ok(scene) => scene,
+        Err(refusal) => return Answer::Refused(refusal),
+    };
+    match action {
+        Action::Check => Answer::Done,
+        Action::Render => match write_frames(alloc, frames, scene.frames.as_slice()) {
+            Ok(()) => Answer::Done,
+            Err(Stop::Stopped) => Answer::WriteFault,
+            Err(Stop::NoMemory) => Answer::Exhausted,
+        },
+    }
+}
+
 // All but the note.
 fn answered<L: Library, O: FrameSink>(
     alloc: Global,
@@ -43,28 +76,16 @@ fn answered<L: Library, O: FrameSink>(
     ensures verdict { Told (L.held library.old) (λ files. Agrees result (verdict (texts words.now) files) (O.written frames.old) (O.written frames.new)) }
     ensures before { ComesBefore result → O.written frames.new ≡ O.written frames.old }
     ensures closed { result ≢ WriteFault → O.is_open frames.new ≡ false }
-    ensures asked { AsksFront (asked_of (texts words.now)) (L.asked library.old) (L.asked library.new) }
+    ensures asked { Told (L.held library.old) (λ files. AsksFront (asked_of (texts words.now) files) (L.asked library.old) (L.asked library.new)) }
     ensures library_later { L.faults library.old ≤ L.faults library.new }
     ensures sink_later { O.faults frames.old ≤ O.faults frames.new }
     ensures read { result ≡ Refused ReadFault → Rose (L.faults library.old) (L.faults library.new) }
     ensures write { result ≡ WriteFault → Rose (O.faults frames.old) (O.faults frames.new) }
 {
-    let (action, name) = match scene_command(alloc, words) {
-        Ok(Some(command)) => command,
-        Ok(None) => return Answer::Usage,
-        Err(_) => return Answer::Refused(Refusal::NoMemory),
-    };
-    let scene = match load(alloc, library, action, name) {
-        Ok(scene) => scene,
-        Err(refusal) => return Answer::Refused(refusal),
-    };
-    match action {
-        Action::Check => Answer::Done,
-        Action::Render => match write_frames(alloc, frames, scene.frames.as_slice()) {
-            Ok(()) => Answer::Done,
-            Err(Stop::Stopped) => Answer::WriteFault,
-            Err(Stop::NoMemory) => Answer::Exhausted,
-        },
+    match scene_command(alloc, words) {
+        Ok(Some((action, name))) => obeyed(alloc, action, name, library, frames),
+        Ok(None) => Answer::Usage,
+        Err(_) => Answer::Refused(Refusal::NoMemory),
     }
 }
 
@@ -98,13 +119,15 @@ fn note(answer: &Answer) -> Option<&str> {
 
 /// Runs a command: its words are `reyes ACTION NAME [--bucket B] [--grid-points G] [--stats]` as `clap` reads them, where the
 /// action is `render` or `check` and NAME names a scene file; B is 4 to 64 and G is 289 to 1,000,000, and the three options have
-/// no effect yet. The scene is asked of the library and read to its end. With `render` its frames then go to the sink, each
-/// drawn whole before it is begun; with `check` nothing is written. No frame of the sink may be open.
+/// no effect yet. The scene is asked of the library and read to its end, and then each shader x that a primitive of it uses, once,
+/// by first use: the file `x.sl`, or the stock text of x where there is no such file. With `render` the frames then go to the sink,
+/// each drawn whole before it is begun; with `check` nothing is written. No frame of the sink may be open.
 ///
-/// The answer is a status: 0 done; 2 the words are no command, or they ask for help; 3 the scene has a fault of syntax or
-/// nesting, or it is to be rendered and has what isn't drawn so far; 5 it has a fault of geometry or passes a limit; 6 the library
-/// lacks it; 7 the library failed; 8 the sink failed; 9 want of memory. With each but 0 a line goes to the notes, which changes
-/// no status.
+/// The answer is a status: 0 done; 2 the words are no command, or they ask for help; 3 the scene or a shader has a fault of syntax,
+/// or the scene one of nesting, or it is to be rendered and has what isn't drawn so far; 4 a shader has a fault of types, or a
+/// shader request doesn't fit its shader; 5 the scene has a fault of geometry, or it or a shader passes a limit; 6 the library lacks
+/// the scene, or a shader that the stock lacks too; 7 the library failed; 8 the sink failed; 9 want of memory. With each but 0 a
+/// line goes to the notes, which changes no status.
 pub fn run<'a, L: Library, O: FrameSink, N: Notes>(
     alloc: Global,
     words: &'a [&'a str],
@@ -134,7 +157,7 @@ pub fn run<'a, L: Library, O: FrameSink, N: Notes>(
     ensures complete { Told (L.held library.old) (λ files. IsComplete (status_of (verdict (texts words.now) files)) result (Rose (L.faults library.old) (L.faults library.new)) (Rose (O.faults frames.old) (O.faults frames.new))) }
 
     // Only names that the verdict asks for were asked for, in its order.
-    ensures asked { AsksFront (asked_of (texts words.now)) (L.asked library.old) (L.asked library.new) }
+    ensures asked { Told (L.held library.old) (λ files. AsksFront (asked_of (texts words.now) files) (L.asked library.old) (L.asked library.new)) }
     ensures library_later { L.faults library.old ≤ L.faults library.new }
     ensures sink_later { O.faults frames.old ≤ O.faults frames.new }
 {

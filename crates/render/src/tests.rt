@@ -8,7 +8,7 @@ use std::test::Fail;
 const RED: &str = "Color [ 1 0 0 ] Patch \"bilinear\" \"P\" [ -1 -1 1 1 -1 1 -1 1 1 1 1 1 ]";
 
 /// A scene of two by two pixels with these requests in its world.
-fn scene(alloc: Global, world: &str) -> Result<String, AllocError> {
+pub fn scene(alloc: Global, world: &str) -> Result<String, AllocError> {
     let head =
         "Format 2 2 1\nPixelSamples 1 1\nPixelFilter \"box\" 1 1\nDisplay \"a.ppm\" \"file\" \"rgb\"\n";
     format!(in alloc; "{head}WorldBegin\n{world}\nWorldEnd\n")

@@ -1,9 +1,9 @@
 use Rattle.render.specs.Texts.{texts}
-use Rattle.std.proofs.Common.{subst, sym}
+use Rattle.std.proofs.Common.{subst, sym, ◌≡◌, ◌≤◌}
 use Rattle.outside.specs.Causes.{Rose, Told}
 use Rattle.render.specs.Verdict.{verdict, status_of}
 use Rattle.render.specs.Done.{IsComplete}
-use Rattle.render.proofs.Completing.{completes-told}
+use Rattle.render.proofs.Completing.{caused-told, completes-told}
 use Rattle.render.proofs.Left.{leaves-told}
 use Rattle.render.proofs.program.run.Goals as goal
 
@@ -20,3 +20,10 @@ returns-clause-complete g c =
     (sym c.status.ensures)
     (completes-told (g.L.Library.held c.args.library.now) (λ files. verdict (texts c.args.words.now) files) c.answered-answer.result _ _ library_rose sink_rose
     c.answered-answer.ensures.verdict c.answered-answer.ensures.read c.answered-answer.ensures.write)
+
+pub returns-clause-verdict : goal.returns-clause-verdict
+returns-clause-verdict g c = λ few.
+    let held = g.L.Library.held c.args.library.now in
+    subst (λ n. Told held (λ files. status_of (verdict (texts c.args.words.now) files) ≡ n)) (sym c.status.ensures)
+    (caused-told held (λ files. verdict (texts c.args.words.now) files) c.answered-answer.result _ _ c.answered-answer.ensures.verdict
+    (subst (λ n. n ≤ 6) c.status.ensures few))

@@ -1,0 +1,54 @@
+-- What reading shaders comes to.
+use Rattle.std.specs.Prelude.{◌≡◌, ℕ, Bool, List, [], ◌∷◌, ◌++◌, Vec, Result, Ok, Err, All, if◌then◌else◌}
+use Rattle.std.specs.declared.alloc.Global.{Global}
+use Rattle.std.specs.List.{list_any}
+use Rattle.std.specs.Str.{bytes_eq}
+use Rattle.outside.specs.Library.{Files, held_as}
+use Rattle.sl_ast.specs.Typed as T
+use Rattle.sl_ast.specs.declared.tree.Tree.{Tree}
+use Rattle.sl_ast.specs.TreeView.{tree_of}
+use Rattle.render.specs.declared.refusal.Refusal.{Refusal}
+use Rattle.render.specs.declared.shaders.ReadShader.{ReadShader}
+use Rattle.render.specs.Causes.{cause_in}
+use Rattle.render.specs.Shaders.{file_of, shader_tree, shaders_refused}
+use Rattle.render.specs.Drawn.{is_nothing}
+use Rattle.render.specs.Answers.{Because}
+
+abbrev pub name_of : ReadShader → List ℕ
+name_of s = s.name
+
+abbrev pub is_from_stock : ReadShader → Bool
+is_from_stock s = s.stock
+
+-- what is held gives this tree, from a file or from the stock
+pub record IsReadOf (files : Files) (s : ReadShader) : Type 0 where
+  pub tree : shader_tree files s.name ≡ Ok (tree_of s.tree)
+  pub stock : is_nothing (held_as files (file_of s.name)) ≡ s.stock
+
+abbrev pub read_of : Tree × Bool → T.Tree
+read_of t = tree_of t.0
+
+-- a shader of that name is read, or refused
+abbrev pub ReadsShader : Files → List ℕ → Result ReadShader Refusal → Type 0
+ReadsShader files name (Ok s) = IsReadOf files s
+ReadsShader files name (Err refusal) = Because refusal (cause_in (shader_tree files name))
+
+-- one more is read, or refused
+abbrev pub ReadsNext : {A : Type 0} → Files → List ℕ → List ReadShader → List ReadShader → Result A Refusal → Type 0
+ReadsNext files name old new (Ok x) = All (IsReadOf files) old → All (IsReadOf files) new
+ReadsNext files name old new (Err refusal) = Because refusal (cause_in (shader_tree files name))
+
+-- the shaders of these names are read, or one is refused
+abbrev pub ReadsShaders : Files → List (List ℕ) → Result (Vec ReadShader Global) Refusal → Type 0
+ReadsShaders files names (Ok shaders) = All (IsReadOf files) shaders.items
+ReadsShaders files names (Err refusal) = Because refusal (shaders_refused files names)
+
+abbrev pub is_among : List ℕ → List (List ℕ) → Bool
+is_among name names = list_any (λ n. bytes_eq n name) names
+
+-- a name behind those that are read, unless it is among them, and the file that is then asked for
+abbrev pub with_once : List (List ℕ) → List ℕ → List (List ℕ)
+with_once names name = if is_among name names then names else names ++ name ∷ []
+
+abbrev pub file_once : List (List ℕ) → List ℕ → List (List ℕ)
+file_once names name = if is_among name names then [] else file_of name ∷ []

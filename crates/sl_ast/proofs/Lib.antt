@@ -1,0 +1,4 @@
+pub mod Rows
+pub mod TypedRows
+mod NodeTypes
+pub mod TypedShown

@@ -1,0 +1,14 @@
+pub mod Syntax
+pub mod SyntaxView
+pub mod Levels
+pub mod ShaderView
+pub mod Typed
+pub mod TypedView
+pub mod Rules
+pub mod Names
+pub mod WellTyped
+pub mod Classes
+pub mod Settled
+pub mod Registers
+pub mod TreeView
+pub mod Examples

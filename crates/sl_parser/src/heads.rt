@@ -1,0 +1,138 @@
+// What single tokens and their texts say.
+ghost use Rattle.std.specs.Prelude.{◌≡◌, ◌<◌, ◌≤◌, IfOk, IfSome, length, option_map};
+ghost use Rattle.sl_parser.specs.Reading.{head_is};
+ghost use Rattle.sl_parser.specs.Expressions.{begins_expr, begins_prim, is_single, same_row, row_of, operator_at, link_at, prefix_at, IsSpaceAt};
+
+use crate::token::{Mark, Token, TokenKind};
+use fixed_math::{NoMemory, Text};
+use sl_ast::{Operator, Prefix, Row, Space};
+use std::alloc::Global;
+
+// A text of its own with the same bytes.
+pub fn copied(alloc: Global, text: &Text) -> Result<Text, NoMemory>
+    ensures { IfOk result (λ t. t ≡ text.now) }
+{
+    Text::from_bytes(alloc, text.as_str().as_bytes())
+}
+
+pub fn begins_expr(ts: &[Token]) -> bool
+    ensures { result ≡ head_is begins_expr ts.now }
+{
+    match ts {
+        [first, ..] => matches!(
+            &first.kind,
+            TokenKind::Number(_)
+                | TokenKind::Str(_)
+                | TokenKind::Name(_)
+                | TokenKind::Type(_)
+                | TokenKind::Mark(Mark::LeftParen)
+                | TokenKind::Operator(Operator::Subtract)
+                | TokenKind::Not
+        ),
+        [] => false,
+    }
+}
+
+fn begins_prim(ts: &[Token]) -> bool
+    ensures { result ≡ head_is begins_prim ts.now }
+{
+    match ts {
+        [first, ..] => matches!(
+            &first.kind,
+            TokenKind::Number(_)
+                | TokenKind::Str(_)
+                | TokenKind::Name(_)
+                | TokenKind::Type(_)
+                | TokenKind::Mark(Mark::LeftParen)
+        ),
+        [] => false,
+    }
+}
+
+fn row_of(operator: Operator) -> Row
+    ensures { result ≡ row_of operator }
+{
+    match operator {
+        Operator::Or => Row::Or,
+        Operator::And => Row::And,
+        Operator::Equal | Operator::NotEqual => Row::Equality,
+        Operator::Less | Operator::LessEqual | Operator::Greater | Operator::GreaterEqual => {
+            Row::Relation
+        }
+        Operator::Add | Operator::Subtract => Row::Sum,
+        Operator::Cross => Row::Cross,
+        Operator::Multiply | Operator::Divide => Row::Product,
+        Operator::Dot => Row::Dot,
+    }
+}
+
+// At most one operator stands in a chain of that row.
+fn is_single(row: Row) -> bool
+    ensures { result ≡ is_single row }
+{
+    matches!(row, Row::Equality | Row::Relation)
+}
+
+fn same_row(a: Row, b: Row) -> bool
+    ensures { result ≡ same_row a b }
+{
+    a == b
+}
+
+// An operator of that row at the front with its line, and the tokens behind it.
+fn operator_at(row: Row, ts: &[Token]) -> Option<(Operator, u32, &[Token])>
+    ensures at { option_map (λ o. (o.0, o.1, o.2.now)) result ≡ operator_at row ts.now }
+    ensures within { IfSome result (λ o. length o.2.now < length ts.now) }
+{
+    let (first, rest) = ts.split_first()?;
+    match &first.kind {
+        TokenKind::Operator(operator) if same_row(row, row_of(*operator)) => {
+            Some((*operator, first.line, rest))
+        }
+        _ => None,
+    }
+}
+
+// The same behind so many operators of the chain.
+pub fn link_at(row: Row, count: usize, ts: &[Token]) -> Option<(Operator, u32, &[Token])>
+    ensures at { option_map (λ o. (o.0, o.1, o.2.now)) result ≡ link_at row count ts.now }
+    ensures within { IfSome result (λ o. length o.2.now < length ts.now) }
+{
+    if is_single(row) && count > 0 {
+        return None;
+    }
+    operator_at(row, ts)
+}
+
+// A prefix operator at the front with its line, and the tokens behind it.
+pub fn prefix_at(ts: &[Token]) -> Option<(Prefix, u32, &[Token])>
+    ensures at { option_map (λ o. (o.0, o.1, o.2.now)) result ≡ prefix_at ts.now }
+    ensures within { IfSome result (λ o. length o.2.now < length ts.now) }
+{
+    let (first, rest) = ts.split_first()?;
+    match &first.kind {
+        TokenKind::Operator(Operator::Subtract) => Some((Prefix::Negative, first.line, rest)),
+        TokenKind::Not => Some((Prefix::Not, first.line, rest)),
+        _ => None,
+    }
+}
+
+// The space name behind a type, if a value stands behind it, and the tokens behind it.
+pub fn space_at(alloc: Global, ts: &[Token]) -> Result<(Option<Space>, &[Token]), NoMemory>
+    ensures at { IfOk result (λ s. IsSpaceAt s.0 s.1.now ts.now) }
+    ensures within { IfOk result (λ s. length s.1.now ≤ length ts.now) }
+{
+    let Some((first, rest)) = ts.split_first() else {
+        return Ok((None, ts));
+    };
+    match &first.kind {
+        TokenKind::Str(name) if begins_prim(rest) => {
+            let space = Space {
+                name: copied(alloc, name)?,
+                line: first.line,
+            };
+            Ok((Some(space), rest))
+        }
+        _ => Ok((None, ts)),
+    }
+}

@@ -1,0 +1,29 @@
+//! The grammar of the Shading Language: the untyped tree of a shader's text, or its first fault.
+#![tactic(auto)]
+
+mod bytes;
+mod declarations;
+mod expressions;
+mod fault;
+mod files;
+mod finding;
+mod found;
+mod heads;
+mod laws;
+mod lexer;
+mod nodes;
+mod numbers;
+mod parser;
+mod reading;
+mod signs;
+mod statement_heads;
+mod statements;
+mod strings;
+#[cfg(test)]
+mod tests;
+mod token;
+mod words;
+
+pub use fault::{SlCode, SlFault};
+pub use laws::{expressions_spelled_once, fault_stays, shaders_spelled_once};
+pub use parser::parse;

@@ -1,0 +1,58 @@
+use Rattle.std.proofs.Common.{◌≡◌, [], false, Ok, map, arith, ap, sym, subst, ◌∙◌}
+use Rattle.sl_ast.specs.Syntax as U
+use Rattle.sl_ast.specs.SyntaxView.{expr_of, link_of}
+use Rattle.sl_types.specs.Exprs.{typed_expr, typed_args, typed_links, call_of}
+use Rattle.sl_types.specs.Found.{◌>>=◌}
+use Rattle.sl_types.specs.Measures.{size, size_args, size_links}
+use Rattle.sl_types.specs.TypedView.{typed_of}
+use Rattle.sl_types.specs.Views.{Gives, around_of, local_of}
+use Rattle.sl_types.proofs.Nodes.{call_is, chain_is, listed_all, small_arg, small_link}
+use Rattle.sl_types.proofs.exprs.+exprs.Goals as goal
+
+pub exprs-expr-requires : goal.exprs-expr-requires
+exprs-expr-requires t c =
+    let small = small_arg c.args.es.now c.loop-e.e-index c.e-item.result (omega arith) c.e-item.is in
+    (omega (arith, c.decreases, small), tt)
+
+pub chain-expr-requires : goal.chain-expr-requires
+chain-expr-requires t c =
+    let small = small_link c.args.links.now c.loop-link.link-index c.link-item.result (omega arith) c.link-item.is in
+    (omega (arith, c.decreases, small), tt)
+
+pub expr-chain-requires : goal.expr-chain-requires
+expr-chain-requires t c =
+    let q = ap size (chain_is c.args.e.now c.in-Chain.row c.in-Chain.first c.in-Chain.links c.in-Chain.is) in
+    let d = ap (λ xs. size_links (U.links (map link_of xs))) c.as_slice.ensures in
+    (omega (arith, c.decreases, q, d), tt)
+
+pub expr-exprs-parts-requires : goal.expr-exprs-parts-requires
+expr-exprs-parts-requires t c =
+    let q = ap size (call_is c.args.e.now c.in-Call.name c.in-Call.args c.in-Call.line c.in-Call.is) in
+    let d = ap (λ xs. size_args (U.exprs (map expr_of xs))) c.as_slice-in-Call.ensures in
+    (omega (arith, c.decreases, q, d), tt)
+
+pub expr-returns-in_ok-first-in-Chain : goal.expr-returns-in_ok-first-in-Chain
+expr-returns-in_ok-first-in-Chain t c =
+    let g = around_of c.args.g.now in
+    let ls = map local_of c.args.scope.now in
+    let q = chain_is c.args.e.now c.in-Chain.row c.in-Chain.first c.in-Chain.links c.in-Chain.is in
+    let first : typed_expr g false ls (expr_of c.in-Chain.first.value) ≡ Ok (typed_of c.in_ok-first-in-Chain.first) =
+    ap (λ x. typed_expr g false ls (expr_of x)) (sym c.deref-in-Chain.ensures) ∙ c.in_ok-first-in-Chain.ensures in
+    let links = ap (λ xs. typed_links g ls (typed_of c.in_ok-first-in-Chain.first) (U.links (map link_of xs))) (sym c.as_slice.ensures) in
+    subst (λ r. Gives typed_of c.chain.result r)
+    (sym (ap (typed_expr g c.args.behind ls) q ∙ ap (λ r. r >>= λ v. typed_links g ls v (U.links (map link_of c.in-Chain.links))) first ∙ links))
+    c.chain.ensures
+
+pub expr-returns-in-Call : goal.expr-returns-in-Call
+expr-returns-in-Call t c =
+    let g = around_of c.args.g.now in
+    let ls = map local_of c.args.scope.now in
+    let q = call_is c.args.e.now c.in-Call.name c.in-Call.args c.in-Call.line c.in-Call.is in
+    let parts = typed_args g ls [] (U.exprs (map expr_of c.as_slice-in-Call.result.now)) in
+    let same : parts ≡ typed_args g ls [] (U.exprs (map expr_of c.in-Call.args)) = ap (λ xs. typed_args g ls [] (U.exprs (map expr_of xs))) c.as_slice-in-Call.ensures in
+    let args = ap (λ xs. map expr_of xs) c.as_slice-in-Call-2.ensures in
+    subst (λ r. Gives typed_of c.call_of.result r)
+    (sym (ap (typed_expr g c.args.behind ls) q
+    ∙ ap (λ xs. call_of g c.args.behind c.in-Call.name c.in-Call.line xs (typed_args g ls [] (U.exprs (map expr_of c.in-Call.args)))) (listed_all (map expr_of c.in-Call.args) ∙ sym args)
+    ∙ ap (λ r. call_of g c.args.behind c.in-Call.name c.in-Call.line (map expr_of c.as_slice-in-Call-2.result.now) r) (sym same)))
+    (c.call_of.ensures parts c.exprs-parts.ensures)

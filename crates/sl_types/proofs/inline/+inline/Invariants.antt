@@ -1,0 +1,44 @@
+use Rattle.std.proofs.Common.{◌≡◌, ◌+◌, drop, map}
+use Rattle.sl_ast.specs.TypedView.{tree_expr, tree_stmt}
+use Rattle.sl_types.specs.Inline.{count_args, count_stmts, inline_args, inline_stmts}
+use Rattle.sl_types.specs.InlineView.{functions}
+use Rattle.sl_types.specs.Typed as T
+use Rattle.sl_types.specs.TypedView.{typed_of, tstmt_of}
+use Rattle.sl_types.specs.Views.{callee_of}
+use Rattle.sl_types.specs.Weights.{weight, weight_args, weight_stmt, weight_stmts, weight_known}
+use Rattle.sl_types.proofs.Placed.{args_before, stmts_before}
+use Rattle.sl_types.proofs.inline.+inline.Given as goal
+
+abbrev pub decreases-call : goal.decreases-call
+decreases-call l = weight_known l.by_default (map callee_of l.known.now)
+
+abbrev pub decreases-expr : goal.decreases-expr
+decreases-expr l = weight (typed_of l.e.now) + weight_known l.by_default (map callee_of l.known.now)
+
+abbrev pub decreases-exprs : goal.decreases-exprs
+decreases-exprs l = weight_args (T.exprs (map typed_of l.es.now)) + weight_known l.by_default (map callee_of l.known.now)
+
+abbrev pub decreases-stmt : goal.decreases-stmt
+decreases-stmt l = weight_stmt (tstmt_of l.s.now) + weight_known l.by_default (map callee_of l.known.now)
+
+abbrev pub decreases-branch : goal.decreases-branch
+decreases-branch l = 1 + weight_stmt (tstmt_of l.s.now) + weight_known l.by_default (map callee_of l.known.now)
+
+abbrev pub decreases-stmts : goal.decreases-stmts
+decreases-stmts l = weight_stmts (T.stmts (map tstmt_of l.body.now)) + weight_known l.by_default (map callee_of l.known.now)
+
+abbrev pub invariant-exprs-loop-e : goal.invariant-exprs-loop-e
+invariant-exprs-loop-e l = record {
+  tree : args_before (map tree_expr l.made.items) (inline_args (functions l.by_default l.known) l.next (T.exprs (map typed_of (drop l.e-index l.es))))
+      ≡ inline_args (functions l.by_default l.known) l.initial.next (T.exprs (map typed_of l.es));
+  next : l.next + count_args (functions l.by_default l.known) (T.exprs (map typed_of (drop l.e-index l.es)))
+      ≡ l.initial.next + count_args (functions l.by_default l.known) (T.exprs (map typed_of l.es));
+}
+
+abbrev pub invariant-stmts-loop-s : goal.invariant-stmts-loop-s
+invariant-stmts-loop-s l = record {
+  tree : stmts_before (map tree_stmt l.made.items) (inline_stmts (functions l.by_default l.known) l.next (T.stmts (map tstmt_of (drop l.s-index l.body))))
+      ≡ inline_stmts (functions l.by_default l.known) l.initial.next (T.stmts (map tstmt_of l.body));
+  next : l.next + count_stmts (functions l.by_default l.known) (T.stmts (map tstmt_of (drop l.s-index l.body)))
+      ≡ l.initial.next + count_stmts (functions l.by_default l.known) (T.stmts (map tstmt_of l.body));
+}

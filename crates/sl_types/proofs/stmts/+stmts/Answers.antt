@@ -1,0 +1,26 @@
+use Rattle.std.proofs.Common.{map, arith, ap, sym, subst, ◌∙◌}
+use Rattle.sl_ast.specs.Syntax as U
+use Rattle.sl_ast.specs.SyntaxView.{stmt_of}
+use Rattle.sl_types.specs.Stmts.{typed_stmt}
+use Rattle.sl_types.specs.Measures.{size_stmt, size_rows}
+use Rattle.sl_types.specs.TypedView.{tstmt_of}
+use Rattle.sl_types.specs.Views.{GivesRows, around_of, local_of}
+use Rattle.sl_types.proofs.Nodes.{block_is, small_stmt}
+use Rattle.sl_types.proofs.stmts.+stmts.Goals as goal
+
+pub rows-stmt-requires : goal.rows-stmt-requires
+rows-stmt-requires t c =
+    let small = small_stmt c.args.body.now c.loop-s.s-index c.s-item.result (omega arith) c.s-item.is in
+    (omega (arith, c.decreases, small), tt)
+
+pub stmt-block-requires : goal.stmt-block-requires
+stmt-block-requires t c =
+    let q = ap size_stmt (block_is c.args.s.now c.in-Block.body c.in-Block.line c.in-Block.is) in
+    let d = ap (λ xs. size_rows (U.stmts (map stmt_of xs))) c.as_slice.ensures in
+    (omega (arith, c.decreases, q, d), tt)
+
+pub stmt-returns-in-Block-clause-gives : goal.stmt-returns-in-Block-clause-gives
+stmt-returns-in-Block-clause-gives t c =
+    subst (λ x. GivesRows c.block.result c.block.new.done.items c.block.new.scope.items (typed_stmt (around_of c.args.g.now) c.args.from (map tstmt_of c.args.done.now.items) (map local_of c.args.scope.now.items) x))
+    (sym (block_is c.args.s.now c.in-Block.body c.in-Block.line c.in-Block.is ∙ ap (λ xs. U.block (U.stmts (map stmt_of xs)) c.in-Block.line) (sym c.as_slice.ensures)))
+    c.block.ensures.gives
