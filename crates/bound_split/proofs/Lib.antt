@@ -4,3 +4,4 @@ pub mod Sizes
 pub mod Fitting
 pub mod Seen
 pub mod Stacks
+mod Culls

@@ -2,7 +2,7 @@ use Rattle.std.proofs.Common.{◌≡◌, ℕ, zero, suc, ◌+◌, ◌-◌, ◌<�
 use Rattle.bound_split.specs.declared.splits.Decision.{Decision}
 use Rattle.bound_split.specs.declared.splits.Decision.TheVariants.{SplitU, SplitV, Dice}
 use Rattle.patches.specs.Parts.{Part, low_u, high_u, low_v, high_v}
-use Rattle.bound_split.specs.Leaves.{depth, by_decision, leaves_to, leaves, pending, IsDeepFrom}
+use Rattle.bound_split.specs.Leaves.{depth, by_decision, leaves_to, leaves, pending, IsBelow, IsDeepFrom}
 
 pub leaves-SplitU : (decide : Part → Decision) (p : Part) → decide p ≡ SplitU → p.a < 8 → p.b ≤ 8 → leaves decide p ≡ leaves decide (low_u p) ++ leaves decide (high_u p)
 unfolding leaves_to
@@ -50,62 +50,41 @@ IsDeepFrom-length k (p ∷ ps) d h =
 pub room : (s : List Part) (p : Part) → IsDeepFrom 0 (s ++ p ∷ []) → length s < 17
 room s p d = let r = IsDeepFrom-pop 0 s p d in let x = r.1 in let y = r.2 in let z = r.3 in omega arith
 
-deeper : (s : List Part) (p l h : Part) → IsDeepFrom 0 (s ++ p ∷ []) → depth h ≡ depth p + 1 → depth l ≡ depth p + 1 → h.a ≤ 8 → h.b ≤ 8 → l.a ≤ 8 → l.b ≤ 8 → IsDeepFrom 0 ((s ++ h ∷ []) ++ l ∷ [])
-deeper s p l h d eh el ha hb la lb =
+-- with the halves of its last part in that part's place, a stack stays deep
+pub deeper : (s t : List Part) (p l h : Part) → IsDeepFrom 0 (s ++ p ∷ []) → IsBelow p l → IsBelow p h → t ≡ s ++ h ∷ [] → IsDeepFrom 0 (t ++ l ∷ [])
+deeper s t p l h d low high e =
     let r = IsDeepFrom-pop 0 s p d in
     let x = r.1 in
-    IsDeepFrom-push 0 (s ++ h ∷ []) l (IsDeepFrom-push 0 s h r.0 (omega arith) ha hb) (simp length-append (omega arith)) la lb
-
-same_list : (decide : Part → Decision) (s : List Part) (p l h : Part) → leaves decide p ≡ leaves decide l ++ leaves decide h → leaves decide p ++ pending decide s ≡ leaves decide l ++ pending decide (s ++ h ∷ [])
-same_list decide s p l h e =
-    rw (e, pending-push decide s h) (append_assoc (leaves decide l) (leaves decide h) (pending decide s))
+    rw e (IsDeepFrom-push 0 (s ++ h ∷ []) l (IsDeepFrom-push 0 s h r.0 (omega (arith, high.deeper)) high.a high.b) (simp length-append (omega (arith, low.deeper))) low.a low.b)
 
 -- l and h are the halves of p by which it is decided
 pub record IsHalved (decide : Part → Decision) (p l h : Part) : Type 0 where
-  pub low_deeper : depth l ≡ depth p + 1
-  pub high_deeper : depth h ≡ depth p + 1
-  pub low_a : l.a ≤ 8
-  pub low_b : l.b ≤ 8
-  pub high_a : h.a ≤ 8
-  pub high_b : h.b ≤ 8
+  pub low : IsBelow p l
+  pub high : IsBelow p h
   pub same : leaves decide p ≡ leaves decide l ++ leaves decide h
 
-pub halved_u : (decide : Part → Decision) (p : Part) (halves : List Part) (d e : Part) → SplitU ≡ decide p → p.a < 8 → p.b ≤ 8 → halves ≡ low_u p ∷ high_u p ∷ [] → IsHalved decide p (slice_index_or halves 0 d) (slice_index_or halves 1 e)
-halved_u decide p halves d e split room b is =
-    rw is (record {
-      low_deeper = omega arith;
-      high_deeper = omega arith;
-      low_a = omega arith;
-      low_b = b;
-      high_a = omega arith;
-      high_b = b;
-      same = leaves-SplitU decide p (sym split) room b;
-    })
+pub halved_u : (decide : Part → Decision) (p : Part) → SplitU ≡ decide p → p.a < 8 → p.b ≤ 8 → IsHalved decide p (low_u p) (high_u p)
+halved_u decide p split room b = record {
+  low = record { deeper = omega arith; a = omega arith; b = b };
+  high = record { deeper = omega arith; a = omega arith; b = b };
+  same = leaves-SplitU decide p (sym split) room b;
+}
 
-pub halved_v : (decide : Part → Decision) (p : Part) (halves : List Part) (d e : Part) → SplitV ≡ decide p → p.b < 8 → p.a ≤ 8 → halves ≡ low_v p ∷ high_v p ∷ [] → IsHalved decide p (slice_index_or halves 0 d) (slice_index_or halves 1 e)
-halved_v decide p halves d e split room a is =
-    rw is (record {
-      low_deeper = omega arith;
-      high_deeper = omega arith;
-      low_a = a;
-      low_b = omega arith;
-      high_a = a;
-      high_b = omega arith;
-      same = leaves-SplitV decide p (sym split) a room;
-    })
+pub halved_v : (decide : Part → Decision) (p : Part) → SplitV ≡ decide p → p.b < 8 → p.a ≤ 8 → IsHalved decide p (low_v p) (high_v p)
+halved_v decide p split room a = record {
+  low = record { deeper = omega arith; a = a; b = omega arith };
+  high = record { deeper = omega arith; a = a; b = omega arith };
+  same = leaves-SplitV decide p (sym split) a room;
+}
 
--- with the second half on the stack, the walk goes on with the first
-pub step_down : (decide : Part → Decision) (s t : List Part) (p l h : Part) (all : List Part) → IsHalved decide p l h → t ≡ s ++ h ∷ [] → IsDeepFrom 0 (s ++ p ∷ []) → all ≡ leaves decide p ++ pending decide s
-    → IsDeepFrom 0 (t ++ l ∷ []) × (all ≡ leaves decide l ++ pending decide t)
-step_down decide s t p l h all half et d f =
-    rw et (
-      deeper s p l h d half.high_deeper half.low_deeper half.high_a half.high_b half.low_a half.low_b,
-      f ∙ same_list decide s p l h half.same,
-    )
+pub pushed : (s : List Part) (l h : Part) → s ++ h ∷ l ∷ [] ≡ (s ++ h ∷ []) ++ l ∷ []
+pushed s l h = sym (append_assoc s (h ∷ []) (l ∷ []))
 
--- a part that is diced is the next leaf
-pub step_out : (decide : Part → Decision) (s : List Part) (p : Part) (x y : ℕ) (all : List Part) → Dice x y ≡ decide p → all ≡ leaves decide p ++ pending decide s → all ≡ p ∷ pending decide s
-step_out decide s p x y all dice f = f ∙ rw (leaves-Dice decide p x y (sym dice)) refl
+-- the halves have the leaves of the whole
+pub pending-halves : (decide : Part → Decision) (s t : List Part) (p l h : Part) → IsHalved decide p l h → t ≡ s ++ h ∷ l ∷ [] → pending decide t ≡ leaves decide p ++ pending decide s
+pending-halves decide s t p l h half e =
+    rw (e, pushed s l h, pending-push decide (s ++ h ∷ []) l, pending-push decide s h, half.same)
+    (sym (append_assoc (leaves decide l) (leaves decide h) (pending decide s)))
 
 -- ---- a part has at least one leaf
 by_decision-some : (d : Decision) (u v l : List Part) → 0 < length u → 0 < length v → 0 < length l → 0 < length (by_decision d u v l)

@@ -1,5 +1,5 @@
 -- The leaves of the tree of splits.
-use Rattle.std.specs.Prelude.{ℕ, zero, suc, ◌≤◌, ◌+◌, ◌-◌, List, [], ◌∷◌, ◌++◌}
+use Rattle.std.specs.Prelude.{ℕ, zero, suc, ◌≡◌, ◌≤◌, ◌+◌, ◌-◌, List, [], ◌∷◌, ◌++◌}
 use Rattle.patches.specs.Parts.{Part, low_u, high_u, low_v, high_v}
 use Rattle.bound_split.specs.declared.splits.Decision.{Decision}
 use Rattle.bound_split.specs.declared.splits.Decision.TheVariants.{SplitU, SplitV, Dice}
@@ -7,6 +7,12 @@ use Rattle.bound_split.specs.declared.splits.Decision.TheVariants.{SplitU, Split
 -- how many times a part is halved
 abbrev pub depth : Part → ℕ
 depth p = p.a + p.b
+
+-- q is halved once more than p, and at most 8 times each way
+pub record IsBelow (p q : Part) : Type 0 where
+  pub deeper : depth q ≡ depth p + 1
+  pub a : q.a ≤ 8
+  pub b : q.b ≤ 8
 
 -- one of three lists, by a decision
 abbrev pub by_decision : Decision → List Part → List Part → List Part → List Part

@@ -2,3 +2,4 @@ pub mod Lengths
 pub mod Decisions
 pub mod Leaves
 pub mod Squares
+pub mod Culling

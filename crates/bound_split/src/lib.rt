@@ -7,8 +7,6 @@
 mod deciding;
 mod lengths;
 mod splits;
-#[cfg(test)]
-mod tests;
 mod walk;
 
 pub use deciding::decide;

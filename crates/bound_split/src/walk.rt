@@ -1,8 +1,9 @@
-ghost use Rattle.std.specs.Prelude.{◌≡◌, ◌≤◌, ◌<◌, ◌+◌, List, [], ◌∷◌, ◌++◌, length, MatchOption, IfSome, OnSome, IfNone, pos, ◌≤ℤ◌};
+ghost use Rattle.std.specs.Prelude.{◌≡◌, ◌≤◌, ◌<◌, ◌+◌, ℕ, List, [], ◌∷◌, ◌++◌, Bool, true, length, filter, MatchOption, IfSome, OnSome, IfNone, pos, ◌≤ℤ◌};
 ghost use Rattle.patches.specs.Parts.{Part, IsPart};
 ghost use Rattle.bound_split.specs.declared.splits.Decision.{Decision};
 ghost use Rattle.bound_split.specs.Decisions.{decision_of};
-ghost use Rattle.bound_split.specs.Leaves.{leaves, pending, IsDeepFrom};
+ghost use Rattle.bound_split.specs.Leaves.{leaves, pending, IsBelow, IsDeepFrom};
+ghost use Rattle.bound_split.specs.Culling.{IsTest, Skips, visits};
 
 use crate::deciding::decide;
 use crate::splits::{Decision, halves};
@@ -66,41 +67,125 @@ impl Walk {
         ensures small { IfSome result (λ leaf. IsPart leaf.piece × (leaf.p ≤ 4) × (leaf.q ≤ 4)) }
         ensures ended { IfNone result (self.new ≡ self.old) }
     {
-        let top = self.stack.pop()?;
-        Some(descend(&mut self.stack, top, s, camera, rate, bound))
+        self.next_kept(s, camera, rate, bound, |_| true)
+    }
+
+    /// The next leaf that a test keeps, none where it keeps no other. A piece that the test drops isn't split.
+    ///
+    /// For a test that no leaf of a dropped piece passes, what the calls give is the filter of all leaves by the test.
+    /// The test may be another one at each call: a call goes past leaves that its own test drops, and no others.
+    pub fn next_kept<S: Surface, F: Fn(Piece) -> bool>(
+        &mut self,
+        s: &S,
+        camera: &Camera,
+        rate: Num,
+        bound: Num,
+        keeps: F,
+    ) -> Option<Leaf>
+        requires test { F.IsAlwaysCallable keeps }
+        requires low { pos 0 ≤ℤ bound }
+        requires high { bound ≤ℤ pos 536870912 }
+        ensures filtered { let decide = decision_of camera.now rate bound (S.width_of s.now) (S.net_of s.now) in
+            (test : Part → Bool) → IsTest (F.post keeps) decide test →
+            MatchOption result (filter test (pending decide self.old) ≡ [])
+            (λ leaf. filter test (pending decide self.old) ≡ leaf.piece ∷ filter test (pending decide self.new)) }
+        ensures skipped { let decide = decision_of camera.now rate bound (S.width_of s.now) (S.net_of s.now) in
+            (test : Part → Bool) → IsTest (F.post keeps) decide test →
+            MatchOption result (Skips test (pending decide self.old) [])
+            (λ leaf. Skips test (pending decide self.old) (leaf.piece ∷ pending decide self.new)) }
+        ensures passed { IfSome result (λ leaf. F.post keeps leaf.piece true) }
+        ensures sizes { let decide = decision_of camera.now rate bound (S.width_of s.now) (S.net_of s.now) in
+            IfSome result (λ leaf. decide leaf.piece ≡ Decision.Dice leaf.p leaf.q) }
+        ensures small { IfSome result (λ leaf. IsPart leaf.piece × (leaf.p ≤ 4) × (leaf.q ≤ 4)) }
+        ensures ended { IfNone result (self.new ≡ []) }
+    {
+        next_leaf(&mut self.stack, s, camera, rate, bound, keeps)
     }
 }
 
-/// The first leaf below `top`; the second halves on the way go to the stack.
-fn descend<S: Surface>(
+/// The next leaf of a stack of pieces that a test keeps.
+fn next_leaf<S: Surface, F: Fn(Piece) -> bool>(
     stack: &mut ArrayVec<Piece, 17>,
-    top: Piece,
     s: &S,
     camera: &Camera,
     rate: Num,
     bound: Num,
-) -> Leaf
-    requires deep { IsDeepFrom 0 (stack.old.items ++ top ∷ []) }
+    keeps: F,
+) -> Option<Leaf>
+    requires test { F.IsAlwaysCallable keeps }
+    requires deep { IsDeepFrom 0 stack.old.items }
     requires low { pos 0 ≤ℤ bound }
     requires high { bound ≤ℤ pos 536870912 }
-    ensures leaves { let decide = decision_of camera.now rate bound (S.width_of s.now) (S.net_of s.now) in
-        leaves decide top ++ pending decide stack.old.items ≡ result.piece ∷ pending decide stack.new.items }
-    ensures sizes { decision_of camera.now rate bound (S.width_of s.now) (S.net_of s.now) result.piece ≡ Decision.Dice result.p result.q }
-    ensures small { IsPart result.piece × (result.p ≤ 4) × (result.q ≤ 4) }
+    ensures skipped { let decide = decision_of camera.now rate bound (S.width_of s.now) (S.net_of s.now) in
+        (test : Part → Bool) → IsTest (F.post keeps) decide test →
+        MatchOption result (Skips test (pending decide stack.old.items) [])
+        (λ leaf. Skips test (pending decide stack.old.items) (leaf.piece ∷ pending decide stack.new.items)) }
+    ensures passed { IfSome result (λ leaf. F.post keeps leaf.piece true) }
+    ensures sizes { let decide = decision_of camera.now rate bound (S.width_of s.now) (S.net_of s.now) in
+        IfSome result (λ leaf. decide leaf.piece ≡ Decision.Dice leaf.p leaf.q) }
+    ensures small { IfSome result (λ leaf. IsPart leaf.piece × (leaf.p ≤ 4) × (leaf.q ≤ 4)) }
+    ensures ended { IfNone result (stack.new.items ≡ []) }
     ensures deep { IsDeepFrom 0 stack.new.items }
 {
-    let mut piece = top;
-    loop {
-        let [low, high] = match decide(s, &piece, camera, rate, bound) {
-            Decision::SplitU => halves(&piece, true),
-            Decision::SplitV => halves(&piece, false),
-            Decision::Dice { p, q } => {
-                // the read tells what holds of every piece
-                let _depth = piece.a;
-                return Leaf { piece, p, q };
+    while let Some(piece) = stack.pop() {
+        piece.recall();
+        if keeps(piece) {
+            if let Some(leaf) = visit(stack, piece, s, camera, rate, bound) {
+                return Some(leaf);
             }
-        };
-        stack.push(high);
-        piece = low;
+        }
     }
+    None
+}
+
+/// The piece as a leaf where it is diced; else its halves go to the stack, the first one on top.
+fn visit<S: Surface>(
+    stack: &mut ArrayVec<Piece, 17>,
+    piece: Piece,
+    s: &S,
+    camera: &Camera,
+    rate: Num,
+    bound: Num,
+) -> Option<Leaf>
+    requires deep { IsDeepFrom 0 (stack.old.items ++ piece ∷ []) }
+    requires low { pos 0 ≤ℤ bound }
+    requires high { bound ≤ℤ pos 536870912 }
+    ensures leaf { let decide = decision_of camera.now rate bound (S.width_of s.now) (S.net_of s.now) in
+        IfSome result (λ leaf. (leaf.piece ≡ piece) × (leaves decide piece ≡ piece ∷ []) × (stack.new.items ≡ stack.old.items)) }
+    ensures split { let decide = decision_of camera.now rate bound (S.width_of s.now) (S.net_of s.now) in
+        IfNone result (pending decide stack.new.items ≡ leaves decide piece ++ pending decide stack.old.items) }
+    ensures fewer { IfNone result (visits stack.new.items < visits (stack.old.items ++ piece ∷ [])) }
+    ensures sizes { let decide = decision_of camera.now rate bound (S.width_of s.now) (S.net_of s.now) in
+        IfSome result (λ leaf. decide leaf.piece ≡ Decision.Dice leaf.p leaf.q) }
+    ensures small { IfSome result (λ leaf. IsPart leaf.piece × (leaf.p ≤ 4) × (leaf.q ≤ 4)) }
+    ensures deep { IsDeepFrom 0 stack.new.items }
+{
+    match decide(s, &piece, camera, rate, bound) {
+        Decision::SplitU => {
+            let [low, high] = halves(&piece, true);
+            push_halves(stack, &piece, low, high);
+            None
+        }
+        Decision::SplitV => {
+            let [low, high] = halves(&piece, false);
+            push_halves(stack, &piece, low, high);
+            None
+        }
+        Decision::Dice { p, q } => {
+            piece.recall();
+            Some(Leaf { piece, p, q })
+        }
+    }
+}
+
+/// Puts the halves of a piece on the stack in its place, the first one on top.
+fn push_halves(stack: &mut ArrayVec<Piece, 17>, piece: &Piece, low: Piece, high: Piece)
+    requires deep { IsDeepFrom 0 (stack.old.items ++ piece.now ∷ []) }
+    requires low { IsBelow piece.now low }
+    requires high { IsBelow piece.now high }
+    ensures items { stack.new.items ≡ stack.old.items ++ high ∷ low ∷ [] }
+    ensures deep { IsDeepFrom 0 stack.new.items }
+{
+    stack.push(high);
+    stack.push(low);
 }

@@ -2,7 +2,5 @@
 #![tactic(auto)]
 
 mod grid;
-#[cfg(test)]
-mod tests;
 
 pub use grid::positions;

@@ -1,6 +1,6 @@
-use Rattle.std.proofs.Common.{◌≡◌, ℕ, zero, suc, ◌+◌, ◌-◌, ◌*◌, ◌<◌, ◌≤◌, ap, arith, subst, refl, sym, ◌∙◌, List, [], ◌∷◌, ◌++◌, length, rules}
-use Rattle.std.specs.Prelude.{ℤ, pos, ◌+ℤ◌, ◌*ℤ◌, ◌≤ℤ◌, replicate, All}
-use Rattle.fixed_math.specs.Blossom.{mix, unit, blossom, ends, AllFromTo}
+use Rattle.std.proofs.Common.{◌≡◌, ℕ, zero, suc, ◌+◌, ◌≤◌, ap, arith, subst, refl, sym, ◌∙◌, List, [], ◌∷◌, ◌++◌, length}
+use Rattle.std.specs.Prelude.{ℤ, ◌≤ℤ◌, replicate}
+use Rattle.fixed_math.specs.Blossom.{mix, denominator, blossom, ends, AllFromTo}
 use Rattle.fixed_math.proofs.Mixes.{mix_swap, mix_mix, mix_low, mix_high}
 
 -- the blossom of mixed control numbers is the mix of the blossoms
@@ -33,7 +33,7 @@ blossom_move (suc a) l h rest c k =
     ap (λ x. mix l x (mix h (blossom ss c (k + 1)) (blossom ss c (k + 1 + 1)))) e ∙ ap (mix l (blossom (replicate a l ++ (h ∷ rest)) c k)) f)
 
 -- Between: what bounds a blossom at the ends of an interval bounds it at all arguments of the interval.
-pub blossom_low : (us : List ℕ) (l h : ℕ) (m : ℤ) (c : ℕ → ℤ) (k : ℕ) → h ≤ unit → AllFromTo l h us →
+pub blossom_low : (us : List ℕ) (l h : ℕ) (m : ℤ) (c : ℕ → ℤ) (k : ℕ) → h ≤ denominator → AllFromTo l h us →
     ((a b : ℕ) → a + b ≡ length us → m ≤ℤ blossom (ends a b l h) c k) → m ≤ℤ blossom us c k
 unfolding blossom
 blossom_low [] l h m c k q w f = f 0 0 refl
@@ -46,7 +46,7 @@ blossom_low (u ∷ us) l h m c k q w f =
     (subst (λ z. m ≤ℤ z) (sym (blossom_move a l h (replicate b h) c k)) (f a (suc b) (omega (arith, e))))) in
     rw (blossom_mix us u c k) at (blossom_low us l h m c' k q w.2 g)
 
-pub blossom_high : (us : List ℕ) (l h : ℕ) (m : ℤ) (c : ℕ → ℤ) (k : ℕ) → h ≤ unit → AllFromTo l h us →
+pub blossom_high : (us : List ℕ) (l h : ℕ) (m : ℤ) (c : ℕ → ℤ) (k : ℕ) → h ≤ denominator → AllFromTo l h us →
     ((a b : ℕ) → a + b ≡ length us → blossom (ends a b l h) c k ≤ℤ m) → blossom us c k ≤ℤ m
 unfolding blossom
 blossom_high [] l h m c k q w f = f 0 0 refl

@@ -1,5 +1,5 @@
-use Rattle.std.proofs.Common.{◌≡◌, ℕ, ◌+◌, ◌-◌, ◌*◌, ◌^◌, ◌<◌, ◌≤◌, ap, arith, subst, refl, sym, ◌∙◌, rules, unsigned_abs, List, [], ◌∷◌, FitsSigned, to_z, of_z, lit≤, lit<}
-use Rattle.std.specs.Prelude.{ℤ, pos, negsuc, neg_ℤ, ◌+ℤ◌, ◌*ℤ◌, ◌≤ℤ◌}
+use Rattle.std.proofs.Common.{◌≡◌, ℕ, ◌+◌, ◌-◌, ◌*◌, ◌^◌, ◌<◌, ◌≤◌, ap, arith, ◌∙◌, unsigned_abs, List, [], ◌∷◌, FitsSigned, to_z, of_z}
+use Rattle.std.specs.Prelude.{ℤ, pos, neg_ℤ, ◌+ℤ◌, ◌*ℤ◌}
 use Rattle.std.specs.Int.{w128}
 use Rattle.std.proofs.lemmas.Int.{ints, to_z-of_z, to_z_pos, fits_signed_from_abs, unsigned_abs-mul}
 use Rattle.std.proofs.lemmas.Nat.{mul-le}
@@ -7,7 +7,7 @@ use borrow.Author.Differences.{product_is, neg_is}
 use lib.Signed.{mag}
 use Rattle.fixed_math.specs.Fixed.{sat}
 use Rattle.fixed_math.specs.Whole.{floor_by}
-use Rattle.fixed_math.specs.Blossom.{unit, blossom, AllFromTo, whole}
+use Rattle.fixed_math.specs.Blossom.{denominator, blossom, AllFromTo, whole}
 use Rattle.fixed_math.specs.Tensor.{blossom_net}
 use Rattle.fixed_math.proofs.Sat.{sat_of_raw}
 use Rattle.fixed_math.proofs.Weights.{floor_ge, floor_lt}
@@ -56,17 +56,17 @@ floor_abs z d m p h =
     omega (arith, ints, f, g)
 
 -- a blossom of small numbers is small
-pub blossom_abs : (ss : List ℕ) (c : ℕ → ℤ) (k r : ℕ) → AllFromTo 0 unit ss → ((i : ℕ) → unsigned_abs (c i) ≤ r) → unsigned_abs (blossom ss c k) ≤ whole ss * r
+pub blossom_abs : (ss : List ℕ) (c : ℕ → ℤ) (k r : ℕ) → AllFromTo 0 denominator ss → ((i : ℕ) → unsigned_abs (c i) ≤ r) → unsigned_abs (blossom ss c k) ≤ whole ss * r
 unfolding blossom
 blossom_abs [] c k r w h = let e = h k in omega arith
 blossom_abs (s ∷ ss) c k r w h =
     let e = blossom_abs ss c k r w.2 h in
     let f = blossom_abs ss c (k + 1) r w.2 h in
     let low = w.1 in
-    let g = mix_abs (unit - s) s (blossom ss c k) (blossom ss c (k + 1)) (whole ss * r) (omega arith) e f in
+    let g = mix_abs (denominator - s) s (blossom ss c k) (blossom ss c (k + 1)) (whole ss * r) (omega arith) e f in
     omega (arith, g)
 
-pub blossom_net_abs : (us vs : List ℕ) (c : ℕ → ℕ → ℤ) (r : ℕ) → AllFromTo 0 unit us → AllFromTo 0 unit vs → ((x y : ℕ) → unsigned_abs (c x y) ≤ r) → unsigned_abs (blossom_net us vs c) ≤ whole vs * (whole us * r)
+pub blossom_net_abs : (us vs : List ℕ) (c : ℕ → ℕ → ℤ) (r : ℕ) → AllFromTo 0 denominator us → AllFromTo 0 denominator vs → ((x y : ℕ) → unsigned_abs (c x y) ≤ r) → unsigned_abs (blossom_net us vs c) ≤ whole vs * (whole us * r)
 blossom_net_abs us vs c r wu wv h = blossom_abs vs (λ y. blossom us (λ x. c x y) 0) 0 (whole us * r) wv (λ y. blossom_abs us (λ x. c x y) 0 r wu (λ x. h x y))
 
 pub read_back : (z : ℤ) → mag z < 2 ^ 127 → to_z w128 (of_z w128 z) ≡ z

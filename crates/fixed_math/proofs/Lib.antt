@@ -13,3 +13,5 @@ pub mod Mixes
 pub mod Blossoms
 pub mod Tensors
 pub mod Fits
+pub mod LastPlaces
+pub mod Around

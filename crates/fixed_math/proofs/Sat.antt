@@ -1,5 +1,5 @@
 -- Laws of saturation.
-use Rattle.std.proofs.Common.{◌≡◌, ap, ℤ, pos, negsuc, ◌+ℤ◌, ◌*ℤ◌, ◌≤ℤ◌, arith}
+use Rattle.std.proofs.Common.{◌≡◌, ap, ℤ, pos, negsuc, ◌*ℤ◌, ◌≤ℤ◌, arith}
 use Rattle.std.proofs.lemmas.Int.{ints}
 use Rattle.std.proofs.Math.IntN.{+ℤ_comm, *ℤ_comm}
 use Rattle.fixed_math.specs.Whole.{floor_by}

@@ -1,13 +1,13 @@
-use Rattle.std.proofs.Common.{◌≡◌, ℕ, zero, suc, ◌+◌, ◌-◌, ◌*◌, ◌<◌, ◌≤◌, ap, arith, subst, refl, sym, ◌∙◌, List, [], ◌∷◌, ◌++◌, length, rules}
+use Rattle.std.proofs.Common.{◌≡◌, ℕ, zero, suc, ◌+◌, ◌-◌, ◌*◌, ◌≤◌, arith, subst, refl, sym, ◌∙◌, List, [], ◌∷◌, length}
 use Rattle.std.specs.Prelude.{ℤ, pos, ◌+ℤ◌, ◌*ℤ◌, ◌≤ℤ◌}
 use Rattle.std.proofs.lemmas.Int.{ints}
-use Rattle.fixed_math.specs.Blossom.{mix, unit, blossom, ends, AllFromTo}
+use Rattle.fixed_math.specs.Blossom.{denominator, blossom, ends, AllFromTo}
 use Rattle.fixed_math.specs.Tensor.{weights_1, weights_3, weighted, weighted_net, blossom_net}
 use Rattle.fixed_math.proofs.Weights.{mul-add, mul-mul}
 use Rattle.fixed_math.proofs.Blossoms.{blossom_low, blossom_high, blossom_exchange}
 
 -- what bounds a net's numbers bounds the surface at all arguments within the piece
-pub net_low : (us vs : List ℕ) (lu hu lv hv : ℕ) (m : ℤ) (c : ℕ → ℕ → ℤ) → hu ≤ unit → hv ≤ unit → AllFromTo lu hu us → AllFromTo lv hv vs →
+pub net_low : (us vs : List ℕ) (lu hu lv hv : ℕ) (m : ℤ) (c : ℕ → ℕ → ℤ) → hu ≤ denominator → hv ≤ denominator → AllFromTo lu hu us → AllFromTo lv hv vs →
     ((a b d e : ℕ) → a + b ≡ length us → d + e ≡ length vs → m ≤ℤ blossom_net (ends a b lu hu) (ends d e lv hv) c) → m ≤ℤ blossom_net us vs c
 net_low us vs lu hu lv hv m c p q wu wv f =
     blossom_low vs lv hv m (λ y. blossom us (λ x. c x y) 0) 0 q wv
@@ -15,7 +15,7 @@ net_low us vs lu hu lv hv m c p q wu wv f =
     (blossom_low us lu hu m (λ x. blossom (ends d e lv hv) (λ y. c x y) 0) 0 p wu
     (λ a b g. subst (λ z. m ≤ℤ z) (blossom_exchange (ends a b lu hu) (ends d e lv hv) c 0 0) (f a b d e g h))))
 
-pub net_high : (us vs : List ℕ) (lu hu lv hv : ℕ) (m : ℤ) (c : ℕ → ℕ → ℤ) → hu ≤ unit → hv ≤ unit → AllFromTo lu hu us → AllFromTo lv hv vs →
+pub net_high : (us vs : List ℕ) (lu hu lv hv : ℕ) (m : ℤ) (c : ℕ → ℕ → ℤ) → hu ≤ denominator → hv ≤ denominator → AllFromTo lu hu us → AllFromTo lv hv vs →
     ((a b d e : ℕ) → a + b ≡ length us → d + e ≡ length vs → blossom_net (ends a b lu hu) (ends d e lv hv) c ≤ℤ m) → blossom_net us vs c ≤ℤ m
 net_high us vs lu hu lv hv m c p q wu wv f =
     blossom_high vs lv hv m (λ y. blossom us (λ x. c x y) 0) 0 q wv
@@ -35,7 +35,7 @@ cubic p s a b c d = simp (mul-add, mul-mul) (omega (arith, ints))
 
 pub weighted-weights_3 : (u : ℕ) (c : ℕ → ℤ) (k : ℕ) → weighted (weights_3 u) c k ≡ blossom (u ∷ u ∷ u ∷ []) c k
 unfolding blossom
-weighted-weights_3 u c k = cubic (unit - u) u (c k) (c (k + 1)) (c (k + 1 + 1)) (c (k + 1 + 1 + 1))
+weighted-weights_3 u c k = cubic (denominator - u) u (c k) (c (k + 1)) (c (k + 1 + 1)) (c (k + 1 + 1 + 1))
 
 pub blossom_same : (ss : List ℕ) (c d : ℕ → ℤ) (k : ℕ) → ((i : ℕ) → c i ≡ d i) → blossom ss c k ≡ blossom ss d k
 unfolding blossom

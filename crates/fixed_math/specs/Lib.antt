@@ -8,4 +8,8 @@ pub mod Unit
 pub mod Axes
 pub mod Blossom
 pub mod Tensor
+pub mod Names
+pub mod NameTable
 pub mod formers
+pub mod Spots
+pub mod Edges

@@ -32,12 +32,12 @@ exp_bits (suc k) f m r =
     exp_bits k f (cond (f / 2 ^ k % 2 == 1) (m * s / 2 ^ 30) m) s
 
 -- m times 2 ^ e, rounded down
-abbrev pub scaled : ℕ → ℤ → ℤ
-scaled m (pos e) = pos (m * 2 ^ e)
-scaled m (negsuc e) = pos (m / 2 ^ suc e)
+abbrev pub with_exponent : ℕ → ℤ → ℤ
+with_exponent m (pos e) = pos (m * 2 ^ e)
+with_exponent m (negsuc e) = pos (m / 2 ^ suc e)
 
 unfoldable pub exp2 : ℤ → ℤ
-exp2 x = sat (scaled (exp_bits 16 (unsigned_abs (int_rem_euclid x (pos 65536))) (2 ^ 30) (2 ^ 31)) (floor_by x 65536 -ℤ pos 14))
+exp2 x = sat (with_exponent (exp_bits 16 (unsigned_abs (int_rem_euclid x (pos 65536))) (2 ^ 30) (2 ^ 31)) (floor_by x 65536 -ℤ pos 14))
 
 unfoldable pub pow : ℤ → ℤ → ℤ
 pow x (pos zero) = pos 65536

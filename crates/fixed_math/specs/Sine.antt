@@ -8,7 +8,7 @@ use Rattle.fixed_math.specs.Fixed.{mul, add}
 unfoldable pub reduced : ℤ → ℤ
 reduced x = let r = int_rem_euclid x (pos 411774) in cond (int_lt (pos 205887) r) (r -ℤ pos 411774) r
 
--- an angle with the same sine, from -102943 to 102944
+-- an angle with the same sine, from -102943 to 102943
 unfoldable pub folded : ℤ → ℤ
 folded r = cond (int_lt (pos 102943) r) (pos 205887 -ℤ r) (cond (int_lt r (negsuc 102942)) (negsuc 205886 -ℤ r) r)
 

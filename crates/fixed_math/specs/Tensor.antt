@@ -1,13 +1,13 @@
 -- Surfaces of Bernstein form in two directions, by whole numbers.
 use Rattle.std.specs.Prelude.{ℕ, ◌+◌, ◌-◌, ◌*◌, ℤ, pos, ◌+ℤ◌, ◌*ℤ◌, List, [], ◌∷◌}
-use Rattle.fixed_math.specs.Blossom.{unit, blossom}
+use Rattle.fixed_math.specs.Blossom.{denominator, blossom}
 
--- the Bernstein weights of degree 1 and 3 at u/unit, times unit and unit ^ 3
+-- the Bernstein weights of degree 1 and 3 at u/denominator, times denominator and denominator ^ 3
 abbrev pub weights_1 : ℕ → List ℕ
-weights_1 u = (unit - u) ∷ u ∷ []
+weights_1 u = (denominator - u) ∷ u ∷ []
 
 abbrev pub weights_3 : ℕ → List ℕ
-weights_3 u = (unit - u) * (unit - u) * (unit - u) ∷ 3 * ((unit - u) * (unit - u) * u) ∷ 3 * ((unit - u) * u * u) ∷ u * u * u ∷ []
+weights_3 u = (denominator - u) * (denominator - u) * (denominator - u) ∷ 3 * ((denominator - u) * (denominator - u) * u) ∷ 3 * ((denominator - u) * u * u) ∷ u * u * u ∷ []
 
 -- the sum of the weights times the numbers c k, c (k + 1), ..
 abbrev pub weighted : List ℕ → (ℕ → ℤ) → ℕ → ℤ

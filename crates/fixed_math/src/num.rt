@@ -24,6 +24,9 @@ impl Model for Num {
 }
 
 impl Default for Num {
+    ghost is_default = { λ n. n ≡ pos 0 };
+
+    /// The number 0.
     fn default() -> Num {
         Num { raw: 0 }
     }

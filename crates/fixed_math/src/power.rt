@@ -1,7 +1,7 @@
 ghost use Rattle.std.specs.Prelude.{◌≡◌, ℕ, ◌+◌, ◌*◌, ◌-◌, ◌/◌, ◌%◌, ◌^◌, ◌<◌, ◌≤◌, ℤ, pos, negsuc, ◌-ℤ◌, ◌≤ℤ◌, unsigned_abs};
 ghost use Rattle.fixed_math.specs.Fixed.{sat, IsRaw};
 ghost use Rattle.fixed_math.specs.Root.{isqrt};
-ghost use Rattle.fixed_math.specs.Power.{log_bits, floor_log2, log2_of, log2, exp_bits, scaled, exp2, pow};
+ghost use Rattle.fixed_math.specs.Power.{log_bits, floor_log2, log2_of, log2, exp_bits, with_exponent, exp2, pow};
 
 use crate::num::Num;
 use crate::roots::isqrt;
@@ -116,11 +116,11 @@ fn exp_bits(k: u64, f: u64, m: u128, r: u128) -> u128
 }
 
 /// The raw nearest below `m` times `2^(w - 14)`.
-fn scaled(m: u128, w: i64) -> Num
+fn with_exponent(m: u128, w: i64) -> Num
     requires low { 2 ^ 30 ≤ m }
     requires high { m ≤ 2 ^ 46 }
     requires w_in_range { IsRaw w }
-    ensures { result ≡ sat (scaled m (w -ℤ pos 14)) }
+    ensures { result ≡ sat (with_exponent m (w -ℤ pos 14)) }
 {
     if w >= 15 {
         Num::from_raw(2147483647)
@@ -154,7 +154,7 @@ impl Num {
     {
         let x = self.raw();
         let fraction = x.rem_euclid(65536);
-        scaled(
+        with_exponent(
             exp_bits(16, fraction as u64, 1073741824, 2147483648),
             x.div_euclid(65536),
         )

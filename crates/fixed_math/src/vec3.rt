@@ -3,11 +3,26 @@ ghost use Rattle.std.specs.Prelude.{◌≡◌};
 use crate::num::Num;
 
 /// A point, vector, normal or colour: three numbers.
-#[derive(Debug, Clone, Copy, Default, PartialEq, Eq)]
+#[derive(Debug, Clone, Copy, PartialEq, Eq)]
 pub struct Vec3 {
     pub x: Num,
     pub y: Num,
     pub z: Num,
+}
+
+impl Default for Vec3 {
+    ghost use Rattle.fixed_math.specs.Axes.{origin};
+
+    ghost is_default = { λ p. p ≡ origin };
+
+    /// The origin.
+    fn default() -> Vec3 {
+        Vec3 {
+            x: Num::default(),
+            y: Num::default(),
+            z: Num::default(),
+        }
+    }
 }
 
 /// One of the three coordinates.

@@ -1,6 +1,7 @@
 pub mod Lookups
 pub mod Fetching
 pub mod Spans
+mod Coding
 pub mod Texts
 pub mod Lines
 pub mod Puts

@@ -8,7 +8,7 @@ use Rattle.std.proofs.Math.ListN.{drop_of_length-le}
 use Rattle.outside.specs.Sink.{Written, begun, with_bytes, with_end}
 use Rattle.std.proofs.Common.{Option, is_some}
 use Rattle.outside.specs.Spans.{sum_of, length_of, count_of, frames_in, frame_at, current_in}
-use Rattle.outside.specs.declared.memory_sink.Span.{Span}
+use Rattle.outside.specs.declared.roles.Span.{Span}
 
 frame_at-append : (store more : List ℕ) (s : Span) → s.name + s.bytes ≤ length store → frame_at (store ++ more) s ≡ frame_at store s
 frame_at-append store more s h =

@@ -9,6 +9,7 @@ pub mod HeldFiles
 pub mod HeldFrames
 pub mod HeldLines
 pub mod Shelf
+pub mod Roles
 pub mod Spans
 pub mod Marks
 pub mod FilesFrom

@@ -2,7 +2,7 @@
 use Rattle.std.specs.Prelude.{ℕ, ◌+◌, List, [], ◌∷◌, take, drop, true, false, Bool, ◌&&◌, Option, Some, None, unwrap_or, is_some, if◌then◌else◌}
 use Rattle.std.specs.Str.{is_utf8}
 use Rattle.outside.specs.Sink.{Written}
-use Rattle.outside.specs.declared.memory_sink.Span.{Span}
+use Rattle.outside.specs.declared.roles.Span.{Span}
 
 -- how much of the store they take
 abbrev pub sum_of : List Span → ℕ

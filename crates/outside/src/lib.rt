@@ -13,6 +13,7 @@ mod memory_notes;
 mod memory_sink;
 mod notes;
 mod put;
+mod roles;
 mod say;
 mod sink;
 mod stderr_notes;

@@ -1,21 +1,16 @@
 // A sink in memory, whose room is reserved when it is made.
 ghost use Rattle.std.specs.Prelude.{◌≡◌, ◌+◌, ◌^◌, ◌≤◌, ◌<◌, ◌∷◌, [], true, IfOk, length, take, slice_get};
 ghost use Rattle.std.specs.Str.{IsUtf8};
+ghost use Rattle.outside.specs.Roles.{spans_in};
 ghost use Rattle.outside.specs.Spans.{sum_of, length_of, count_of, frame_at, current_in, frames_in, are_texts};
 ghost use Rattle.outside.specs.EntryOf.{entry_of};
 ghost use Rattle.outside.specs.HeldFrames.{no_frames, naming_call};
 
 use crate::calls::Calls;
+use crate::roles::{Role, Span, count, find, push_span};
 use crate::{Failed, FrameSink, NoMemory};
 use std::alloc::Global;
 use std::marker::Model;
-
-// Where an ended frame lies in the store: its name, and behind it its picture.
-#[derive(Clone, Copy)]
-struct Span {
-    name: usize,
-    bytes: usize,
-}
 
 /// An entry of a sink: a frame's name, its bytes so far, and whether it has ended.
 #[derive(Clone, Copy, Debug, PartialEq, Eq)]
@@ -28,12 +23,13 @@ pub struct Entry<'a> {
 /// A sink in memory, which tells its entries. One of its calls may be named to fail.
 ///
 /// An entry uses the length of its name and one byte more of the room, and a picture its bytes. None of `begin`,
-/// `put` and `end` takes memory.
+/// `put` and `end` takes memory. The sink takes two bytes of memory for each byte of room.
 #[derive(Drop)]
 pub struct MemorySink {
+    // the ended frames, one behind the other
     store: Vec<u8>,
-    // the ended frames, one behind the other from the front of the store
-    spans: Vec<Span>,
+    // what the bytes of room that they use are used for
+    roles: Vec<Role>,
     // where they end
     start: usize,
     // how long the name of the open frame is, which lies behind them with its bytes
@@ -63,10 +59,10 @@ impl MemorySink {
         ensures { IfOk result (λ s. s ≡ no_frames room most) }
     {
         let store = Vec::with_capacity(alloc, room)?;
-        let spans = Vec::with_capacity(alloc, room)?;
+        let roles = Vec::with_capacity(alloc, room)?;
         Ok(MemorySink {
             store,
-            spans,
+            roles,
             start: 0,
             current: None,
             left: room,
@@ -88,8 +84,8 @@ impl MemorySink {
         ensures { result ≡ length self.now.written }
     {
         match self.current {
-            Some(_) => self.spans.len() + 1,
-            None => self.spans.len(),
+            Some(_) => count(&self.roles) + 1,
+            None => count(&self.roles),
         }
     }
 
@@ -98,37 +94,26 @@ impl MemorySink {
         requires { n < length self.now.written }
         ensures { slice_get self.now.written n ≡ Some (entry_of result) }
     {
-        entry_in(&self.store, &self.spans, self.current, n)
+        entry_in(&self.store, &self.roles, self.current, n)
     }
 }
 
 // The nth of the entries in the store.
-fn entry_in<'a>(store: &'a [u8], spans: &[Span], current: Option<usize>, n: usize) -> Entry<'a>
-    requires within { n < length spans.now + count_of current }
-    requires stored { sum_of spans.now + length_of current ≤ length store.now }
-    requires texts { are_texts (frames_in store.now spans.now current) ≡ true }
-    ensures { slice_get (frames_in store.now spans.now current) n ≡ Some (entry_of result) }
+fn entry_in<'a>(store: &'a [u8], roles: &[Role], current: Option<usize>, n: usize) -> Entry<'a>
+    requires within { n < length (spans_in roles.now) + count_of current }
+    requires stored { sum_of (spans_in roles.now) + length_of current ≤ length store.now }
+    requires texts { are_texts (frames_in store.now (spans_in roles.now) current) ≡ true }
+    ensures { slice_get (frames_in store.now (spans_in roles.now) current) n ≡ Some (entry_of result) }
 {
-    let rest = &store[size(&spans[..n])..];
-    if let Some(span) = spans.get(n) {
-        return ended_entry(rest, *span);
+    let found = find(roles, n);
+    let rest = &store[found.start..];
+    if let Some(span) = found.span {
+        return ended_entry(rest, span);
     }
     match current {
         Some(name) => open_entry(rest, name),
         None => unreachable!(),
     }
-}
-
-// How much of the store these take.
-fn size(spans: &[Span]) -> usize
-    requires { sum_of spans.now < 2 ^ 64 }
-    ensures { result ≡ sum_of spans.now }
-{
-    let mut size = 0;
-    for span in spans {
-        size += span.name + span.bytes;
-    }
-    size
 }
 
 // These bytes as the text that they are.
@@ -247,9 +232,7 @@ impl FrameSink for MemorySink {
             unreachable!()
         };
         let bytes = self.store.len() - self.start - name;
-        let Ok(()) = self.spans.push(Span { name, bytes }) else {
-            unreachable!()
-        };
+        push_span(&mut self.roles, Span { name, bytes });
         self.start = self.store.len();
         self.current = None;
         Ok(())

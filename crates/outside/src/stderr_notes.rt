@@ -37,9 +37,15 @@ impl<W: Write + Drop> Notes for StderrNotes<W> {
     ghost faults = { λ n. n };
 
     fn line(&mut self, text: &[u8]) -> Result<(), Failed> {
-        if self.out.write_all(text).is_err() {
-            self.faults = self.faults.saturating_add(1);
-            return Err(Failed);
+        let mut at = 0;
+        while at < text.len() {
+            match self.out.write(&text[at..]) {
+                Ok(count) if count > 0 => at += count,
+                _ => {
+                    self.faults = self.faults.saturating_add(1);
+                    return Err(Failed);
+                }
+            }
         }
         Ok(())
     }

@@ -2,7 +2,7 @@
 use Rattle.std.proofs.Common.{◌≡◌, ◌∙◌, ap, refl, ℕ, ◌+◌, ◌-◌, ◌*◌, ◌^◌, ◌≤◌, ℤ, pos, ◌-ℤ◌, ◌+ℤ◌, ◌*ℤ◌, unsigned_abs, to_z, of_z, arith, lit<}
 use Rattle.std.specs.Int.{w64, w128}
 use Rattle.std.proofs.lemmas.Int.{ints, to_z-of_z, fits_signed_from_abs}
-use Rattle.fixed_math.specs.Blossom.{unit, mix}
+use Rattle.fixed_math.specs.Blossom.{denominator, mix}
 use Rattle.fixed_math.specs.Whole.{floor_by}
 use Rattle.fixed_math.proofs.Fits.{mix_abs, floor_abs}
 
@@ -19,7 +19,7 @@ less_abs a b = omega (arith, ints)
 pub slope_through : (s : ℕ) (a b c d near far exact floor : ℤ) → s ≤ 4096 → unsigned_abs a ≤ 2 ^ 31 → unsigned_abs b ≤ 2 ^ 31 → unsigned_abs c ≤ 2 ^ 31 → unsigned_abs d ≤ 2 ^ 31 →
     near ≡ to_z w128 (of_z w128 b) -ℤ to_z w128 (of_z w128 a) → far ≡ to_z w128 (of_z w128 d) -ℤ to_z w128 (of_z w128 c) →
     exact ≡ mix s (to_z w128 (of_z w128 near)) (to_z w128 (of_z w128 far)) → floor ≡ floor_by (to_z w128 (of_z w128 exact)) 4096 →
-    (floor ≡ floor_by (mix s (b -ℤ a) (d -ℤ c)) unit) × (unsigned_abs floor ≤ 2 ^ 32)
+    (floor ≡ floor_by (mix s (b -ℤ a) (d -ℤ c)) denominator) × (unsigned_abs floor ≤ 2 ^ 32)
 slope_through s a b c d near far exact floor hs ha hb hc hd n f e g =
     let n' : near ≡ b -ℤ a = n ∙ rw (same_128 b (omega arith), same_128 a (omega arith)) refl in
     let f' : far ≡ d -ℤ c = f ∙ rw (same_128 d (omega arith), same_128 c (omega arith)) refl in
@@ -28,10 +28,10 @@ slope_through s a b c d near far exact floor hs ha hb hc hd n f e g =
     let e' : exact ≡ mix s (b -ℤ a) (d -ℤ c) =
     e ∙ ap (λ z. mix s (to_z w128 (of_z w128 z)) (to_z w128 (of_z w128 far))) n' ∙ ap (λ z. mix s (to_z w128 (of_z w128 (b -ℤ a))) (to_z w128 (of_z w128 z))) f'
     ∙ ap (λ z. mix s z (to_z w128 (of_z w128 (d -ℤ c)))) (same_128 (b -ℤ a) (omega arith)) ∙ ap (λ z. mix s (b -ℤ a) z) (same_128 (d -ℤ c) (omega arith)) in
-    let w : unsigned_abs (mix s (b -ℤ a) (d -ℤ c)) ≤ 4096 * 2 ^ 32 = mix_abs (unit - s) s (b -ℤ a) (d -ℤ c) (2 ^ 32) (omega arith) x y in
-    let g' : floor ≡ floor_by (mix s (b -ℤ a) (d -ℤ c)) unit =
+    let w : unsigned_abs (mix s (b -ℤ a) (d -ℤ c)) ≤ 4096 * 2 ^ 32 = mix_abs (denominator - s) s (b -ℤ a) (d -ℤ c) (2 ^ 32) (omega arith) x y in
+    let g' : floor ≡ floor_by (mix s (b -ℤ a) (d -ℤ c)) denominator =
     g ∙ ap (λ z. floor_by (to_z w128 (of_z w128 z)) 4096) e' ∙ ap (λ z. floor_by z 4096) (same_128 (mix s (b -ℤ a) (d -ℤ c)) (omega arith)) in
-    (g', rw g' (floor_abs (mix s (b -ℤ a) (d -ℤ c)) unit (2 ^ 32) (lit< tt) w))
+    (g', rw g' (floor_abs (mix s (b -ℤ a) (d -ℤ c)) denominator (2 ^ 32) (lit< tt) w))
 
 -- a cast of the floor to 64 bits, and what a caller reads of it
 pub cast_through : (floor z : ℤ) → unsigned_abs floor ≤ 2 ^ 32 → floor ≡ z → to_z w64 (of_z w64 (to_z w128 (of_z w128 floor))) ≡ z

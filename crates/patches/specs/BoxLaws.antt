@@ -7,7 +7,7 @@ use Rattle.fixed_math.specs.declared.vec3.Vec3.{Vec3}
 use Rattle.fixed_math.specs.declared.vec3.Axis.{Axis}
 use Rattle.fixed_math.specs.declared.vec3.Axis.TheVariants.{X, Y, Z}
 use Rattle.fixed_math.specs.Axes.{part_of, by_axes, least, greatest, AreWithin}
-use Rattle.fixed_math.specs.Blossom.{unit, ends, AllFromTo, whole}
+use Rattle.fixed_math.specs.Blossom.{denominator, ends, AllFromTo, whole}
 use Rattle.fixed_math.specs.Tensor.{blossom_net, weighted_net, weights_1}
 use Rattle.fixed_math.specs.Whole.{floor_by}
 use Rattle.fixed_math.proofs.Weights.{floor_ge, floor_lt, le_floor, floor_below}
@@ -51,7 +51,7 @@ greatest_above a [] = tt
 greatest_above a (p ∷ ps) = fold_max_above (part_of a) (part_of a p) ps
 
 -- a blossom whose arguments lie in a rectangle lies in the box of the rectangle's net
-pub blossom_in_box : (n w d : ℕ) (ps : List Vec3) (r : Rect) (us vs : List ℕ) → 0 < d → r.right ≤ unit → r.top ≤ unit →
+pub blossom_in_box : (n w d : ℕ) (ps : List Vec3) (r : Rect) (us vs : List ℕ) → 0 < d → r.right ≤ denominator → r.top ≤ denominator →
     length us ≡ n → length vs ≡ n → AllFromTo r.left r.right us → AllFromTo r.bottom r.top vs →
     Holds (least_box (net_points n w d ps r)) (blossom_point w d ps us vs)
 blossom_in_box n w d ps r us vs hd hr ht lu lv wu wv a =
@@ -150,37 +150,37 @@ least_box-within m ps c h =
     )
 
 -- ---- the size of points and nets
-pub whole-length : (us : List ℕ) → whole us ≡ unit ^ length us
+pub whole-length : (us : List ℕ) → whole us ≡ denominator ^ length us
 whole-length [] = refl
-whole-length (u ∷ us) = ap (λ n. unit * n) (whole-length us) ∙ sym (pow-succ' unit (length us))
+whole-length (u ∷ us) = ap (λ n. denominator * n) (whole-length us) ∙ sym (pow-succ' denominator (length us))
 
-pub blossom_point-within : (n w d m : ℕ) (ps : List Vec3) (us vs : List ℕ) → 0 < d → unit ^ n * unit ^ n ≡ d → length us ≡ n → length vs ≡ n →
-    AllFromTo 0 unit us → AllFromTo 0 unit vs → AreWithin m ps → IsWithin m (blossom_point w d ps us vs)
+pub blossom_point-within : (n w d m : ℕ) (ps : List Vec3) (us vs : List ℕ) → 0 < d → denominator ^ n * denominator ^ n ≡ d → length us ≡ n → length vs ≡ n →
+    AllFromTo 0 denominator us → AllFromTo 0 denominator vs → AreWithin m ps → IsWithin m (blossom_point w d ps us vs)
 blossom_point-within n w d m ps us vs hd e lu lv wu wv h a =
     let b = blossom_net_abs us vs (control w ps a) m wu wv (λ x y. h (w * y + x) a) in
-    let wide : whole us ≡ unit ^ n = whole-length us ∙ ap (λ k. unit ^ k) lu in
-    let high : whole vs ≡ unit ^ n = whole-length vs ∙ ap (λ k. unit ^ k) lv in
-    let room : whole vs * (whole us * m) ≡ d * m = ap (λ k. k * (whole us * m)) high ∙ ap (λ k. unit ^ n * (k * m)) wide ∙ sym (mul_assoc (unit ^ n) (unit ^ n) m) ∙ ap (λ k. k * m) e in
+    let wide : whole us ≡ denominator ^ n = whole-length us ∙ ap (λ k. denominator ^ k) lu in
+    let high : whole vs ≡ denominator ^ n = whole-length vs ∙ ap (λ k. denominator ^ k) lv in
+    let room : whole vs * (whole us * m) ≡ d * m = ap (λ k. k * (whole us * m)) high ∙ ap (λ k. denominator ^ n * (k * m)) wide ∙ sym (mul_assoc (denominator ^ n) (denominator ^ n) m) ∙ ap (λ k. k * m) e in
     rw (part-by_axes (λ a. floor_by (blossom_net us vs (control w ps a)) d) a)
     (floor_abs (blossom_net us vs (control w ps a)) d m hd (omega (arith, b, room)))
 
-pub net_points-within : (n w d m : ℕ) (ps : List Vec3) (r : Rect) → 0 < d → unit ^ n * unit ^ n ≡ d → IsRect r → AreWithin m ps → Each (IsWithin m) (net_points n w d ps r)
+pub net_points-within : (n w d m : ℕ) (ps : List Vec3) (r : Rect) → 0 < d → denominator ^ n * denominator ^ n ≡ d → IsRect r → AreWithin m ps → Each (IsWithin m) (net_points n w d ps r)
 net_points-within n w d m ps r hd e hr h =
     grid-Each (IsWithin m) (blossom_point w d ps) (all_ends n 0 r.left r.right) (all_ends n 0 r.bottom r.top)
     (ends_Each (λ vs. Each (λ us. IsWithin m (blossom_point w d ps us vs)) (all_ends n 0 r.left r.right)) n 0 r.bottom r.top
     (λ i j f. ends_Each (λ us. IsWithin m (blossom_point w d ps us (ends i j r.bottom r.top))) n 0 r.left r.right
     (λ x y g. blossom_point-within n w d m ps (ends x y r.left r.right) (ends i j r.bottom r.top) hd e
     (length-ends x y r.left r.right ∙ g ∙ add-zero n) (length-ends i j r.bottom r.top ∙ f ∙ add-zero n)
-    (ends_from_to x y r.left r.right 0 unit (omega arith) (let k = hr.across in let l = hr.right_in in omega arith) (omega arith) hr.right_in)
-    (ends_from_to i j r.bottom r.top 0 unit (omega arith) (let k = hr.up in let l = hr.top_in in omega arith) (omega arith) hr.top_in) h)))
+    (ends_from_to x y r.left r.right 0 denominator (omega arith) (let k = hr.across in let l = hr.right_in in omega arith) (omega arith) hr.right_in)
+    (ends_from_to i j r.bottom r.top 0 denominator (omega arith) (let k = hr.up in let l = hr.top_in in omega arith) (omega arith) hr.top_in) h)))
 
 pub by_axes_same : (f g : Axis → ℤ) → ((a : Axis) → f a ≡ g a) → by_axes f ≡ by_axes g
 by_axes_same f g e = let x = e X in let y = e Y in let z = e Z in cc
 
-pub bilinear_point-blossom : (ps : List Vec3) (u v : ℕ) → bilinear_point ps u v ≡ blossom_point 2 (unit ^ 2) ps (u ∷ []) (v ∷ [])
+pub bilinear_point-blossom : (ps : List Vec3) (u v : ℕ) → bilinear_point ps u v ≡ blossom_point 2 (denominator ^ 2) ps (u ∷ []) (v ∷ [])
 bilinear_point-blossom ps u v =
-    by_axes_same (λ a. floor_by (weighted_net (weights_1 u) (weights_1 v) (control 2 ps a)) (unit ^ 2)) (λ a. floor_by (blossom_net (u ∷ []) (v ∷ []) (control 2 ps a)) (unit ^ 2))
-    (λ a. ap (λ z. floor_by z (unit ^ 2)) (weighted_net_1 u v (control 2 ps a)))
+    by_axes_same (λ a. floor_by (weighted_net (weights_1 u) (weights_1 v) (control 2 ps a)) (denominator ^ 2)) (λ a. floor_by (blossom_net (u ∷ []) (v ∷ []) (control 2 ps a)) (denominator ^ 2))
+    (λ a. ap (λ z. floor_by z (denominator ^ 2)) (weighted_net_1 u v (control 2 ps a)))
 
 -- ---- the bilinear patch
 abbrev pub bilinear_box : List Vec3 → Rect → Box
@@ -189,10 +189,10 @@ bilinear_box ps r = least_box (bilinear_net ps r)
 pub bilinear_inside : PointsLieInBoxes bilinear_point bilinear_box
 bilinear_inside ps r u v hr at_ =
     rw (bilinear_point-blossom ps u v)
-    (blossom_in_box 1 2 (unit ^ 2) ps r (u ∷ []) (v ∷ []) (lit< tt) hr.right_in hr.top_in refl refl (at_.from_left, at_.to_right, tt) (at_.from_bottom, at_.to_top, tt))
+    (blossom_in_box 1 2 (denominator ^ 2) ps r (u ∷ []) (v ∷ []) (lit< tt) hr.right_in hr.top_in refl refl (at_.from_left, at_.to_right, tt) (at_.from_bottom, at_.to_top, tt))
 
 pub bilinear_parts : PartsLieInBoxes bilinear_box
-bilinear_parts ps q r hq hr part = corners_in_box (bilinear_net ps r) (bilinear_net ps q) (lit< tt) (net_in_box 1 2 (unit ^ 2) ps q r (lit< tt) hq hr part)
+bilinear_parts ps q r hq hr part = corners_in_box (bilinear_net ps r) (bilinear_net ps q) (lit< tt) (net_in_box 1 2 (denominator ^ 2) ps q r (lit< tt) hq hr part)
 
 pub bilinear_rows : NetsHaveRows (λ _. 2) bilinear_net
 bilinear_rows ps r = record { wide = lit< tt; some = lit< tt; rows = refl }

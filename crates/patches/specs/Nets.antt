@@ -4,7 +4,7 @@ use Rattle.std.specs.Prelude.{ℕ, zero, suc, ◌*◌, ◌+◌, ◌^◌, ℤ, po
 use Rattle.fixed_math.specs.declared.vec3.Vec3.{Vec3}
 use Rattle.fixed_math.specs.declared.vec3.Axis.{Axis}
 use Rattle.fixed_math.specs.Axes.{part_of, by_axes, origin}
-use Rattle.fixed_math.specs.Blossom.{unit, ends, blossom}
+use Rattle.fixed_math.specs.Blossom.{denominator, ends, blossom}
 use Rattle.fixed_math.specs.Tensor.{blossom_net, weighted_net, weights_1}
 use Rattle.fixed_math.specs.Whole.{floor_by}
 use Rattle.patches.specs.Rects.{Rect}
@@ -16,7 +16,7 @@ control w ps a x y = part_of a (slice_index_or ps (w * y + x) origin)
 
 -- the point of a bilinear patch at u and v
 abbrev pub bilinear_point : List Vec3 → ℕ → ℕ → Vec3
-bilinear_point ps u v = by_axes (λ a. floor_by (weighted_net (weights_1 u) (weights_1 v) (control 2 ps a)) (unit ^ 2))
+bilinear_point ps u v = by_axes (λ a. floor_by (weighted_net (weights_1 u) (weights_1 v) (control 2 ps a)) (denominator ^ 2))
 
 -- the blossom in both directions as a point: w columns of control points, d the whole of the weights
 abbrev pub blossom_point : ℕ → ℕ → List Vec3 → List ℕ → List ℕ → Vec3
@@ -32,7 +32,7 @@ abbrev pub net_points : ℕ → ℕ → ℕ → List Vec3 → Rect → List Vec3
 net_points n w d ps r = grid (blossom_point w d ps) (all_ends n 0 r.left r.right) (all_ends n 0 r.bottom r.top)
 
 abbrev pub bilinear_net : List Vec3 → Rect → List Vec3
-bilinear_net ps r = net_points 1 2 (unit ^ 2) ps r
+bilinear_net ps r = net_points 1 2 (denominator ^ 2) ps r
 
 -- worked values: the flat square of points (0,0,1), (1,0,1), (0,1,1), (1,1,1)
 abbrev square : List Vec3

@@ -1,6 +1,6 @@
 -- Rectangles of parameters, in numerators over 4096.
 use Rattle.std.specs.Prelude.{ℕ, ◌≤◌}
-use Rattle.fixed_math.specs.Blossom.{unit}
+use Rattle.fixed_math.specs.Blossom.{denominator}
 
 pub record Rect : Type 0 where
   pub left : ℕ
@@ -11,9 +11,9 @@ pub record Rect : Type 0 where
 -- the sides are in order and within the unit square
 pub record IsRect (r : Rect) : Type 0 where
   pub across : r.left ≤ r.right
-  pub right_in : r.right ≤ unit
+  pub right_in : r.right ≤ denominator
   pub up : r.bottom ≤ r.top
-  pub top_in : r.top ≤ unit
+  pub top_in : r.top ≤ denominator
 
 -- the parameters u and v lie in r
 pub record IsAt (r : Rect) (u v : ℕ) : Type 0 where

@@ -5,7 +5,7 @@ use Rattle.fixed_math.specs.declared.vec3.Vec3.{Vec3}
 use Rattle.fixed_math.specs.declared.vec3.Axis.{Axis}
 use Rattle.fixed_math.specs.declared.vec3.Axis.TheVariants.{X, Y, Z}
 use Rattle.fixed_math.specs.Axes.{by_axes, origin}
-use Rattle.fixed_math.specs.Blossom.{unit}
+use Rattle.fixed_math.specs.Blossom.{denominator}
 use Rattle.fixed_math.specs.Tensor.{weighted_net, weights_1}
 use Rattle.fixed_math.specs.Whole.{floor_by}
 use Rattle.patches.specs.Nets.{control}
@@ -26,10 +26,10 @@ abbrev pub triple : (Axis → ℤ) → List ℤ
 triple f = f X ∷ f Y ∷ f Z ∷ []
 
 abbrev pub bilinear_du : List Vec3 → ℕ → ℕ → List ℤ
-bilinear_du ps u v = triple (λ a. floor_by (weighted_net weights_0 (weights_1 v) (steps_u (control 2 ps a))) unit)
+bilinear_du ps u v = triple (λ a. floor_by (weighted_net weights_0 (weights_1 v) (steps_u (control 2 ps a))) denominator)
 
 abbrev pub bilinear_dv : List Vec3 → ℕ → ℕ → List ℤ
-bilinear_dv ps u v = triple (λ a. floor_by (weighted_net (weights_1 u) weights_0 (steps_v (control 2 ps a))) unit)
+bilinear_dv ps u v = triple (λ a. floor_by (weighted_net (weights_1 u) weights_0 (steps_v (control 2 ps a))) denominator)
 
 -- each number has a magnitude of at most m
 abbrev pub AreBelow : ℕ → List ℤ → Type 0

@@ -1,7 +1,7 @@
 ghost use Rattle.std.specs.Prelude.{◌≡◌, ◌≤◌, ◌<◌, ◌*◌, ◌^◌, ℕ, ℤ, List, [], ◌∷◌, length, unsigned_abs, slice_index_or};
 ghost use Rattle.fixed_math.specs.declared.vec3.Vec3.{Vec3};
 ghost use Rattle.fixed_math.specs.Axes.{AreWithin, part_of, origin};
-ghost use Rattle.fixed_math.specs.Blossom.{unit};
+ghost use Rattle.fixed_math.specs.Blossom.{denominator};
 ghost use Rattle.fixed_math.specs.Tensor.{blossom_net, weighted_net, weights_1};
 ghost use Rattle.fixed_math.specs.Whole.{floor_by as floor_of};
 ghost use Rattle.patches.specs.Boxes.{IsWithin};
@@ -72,7 +72,7 @@ fn coordinate_at(points: &[Vec3; 4], axis: Axis, u: u16, v: u16) -> Num
     requires small { AreWithin (2 ^ 30) points.now }
     requires across { u ≤ 4096 }
     requires up { v ≤ 4096 }
-    ensures { result ≡ floor_of (blossom_net (u ∷ []) (v ∷ []) (control 2 points.now axis)) (unit ^ 2) }
+    ensures { result ≡ floor_of (blossom_net (u ∷ []) (v ∷ []) (control 2 points.now axis)) (denominator ^ 2) }
 {
     Num::sat(floor_by(exact(points, axis, u, v), 1 << 24))
 }
@@ -82,7 +82,7 @@ fn point_at(points: &[Vec3; 4], u: u16, v: u16) -> Vec3
     requires small { AreWithin (2 ^ 30) points.now }
     requires across { u ≤ 4096 }
     requires up { v ≤ 4096 }
-    ensures value { result ≡ blossom_point 2 (unit ^ 2) points.now (u ∷ []) (v ∷ []) }
+    ensures value { result ≡ blossom_point 2 (denominator ^ 2) points.now (u ∷ []) (v ∷ []) }
     ensures small { IsWithin (2 ^ 30) result }
 {
     Vec3 {
@@ -95,7 +95,7 @@ fn point_at(points: &[Vec3; 4], u: u16, v: u16) -> Vec3
 /// The slope along u of a coordinate at `v`, rounded down once.
 fn slope_along_u(points: &[Vec3; 4], axis: Axis, v: u16) -> i64
     requires { v ≤ 4096 }
-    ensures value { result ≡ floor_of (weighted_net weights_0 (weights_1 v) (steps_u (control 2 points.now axis))) unit }
+    ensures value { result ≡ floor_of (weighted_net weights_0 (weights_1 v) (steps_u (control 2 points.now axis))) denominator }
     ensures bound { unsigned_abs result ≤ 2 ^ 32 }
 {
     let a = control_at(points, axis, 0);
@@ -108,7 +108,7 @@ fn slope_along_u(points: &[Vec3; 4], axis: Axis, v: u16) -> i64
 /// The slope along v of a coordinate at `u`, rounded down once.
 fn slope_along_v(points: &[Vec3; 4], axis: Axis, u: u16) -> i64
     requires { u ≤ 4096 }
-    ensures value { result ≡ floor_of (weighted_net (weights_1 u) weights_0 (steps_v (control 2 points.now axis))) unit }
+    ensures value { result ≡ floor_of (weighted_net (weights_1 u) weights_0 (steps_v (control 2 points.now axis))) denominator }
     ensures bound { unsigned_abs result ≤ 2 ^ 32 }
 {
     let a = control_at(points, axis, 0);

@@ -7,8 +7,6 @@ mod mixing;
 mod patch;
 mod piece;
 mod surface;
-#[cfg(test)]
-mod tests;
 
 pub use bilinear::Bilinear;
 pub use patch::Patch;

@@ -1,5 +1,5 @@
 ghost use Rattle.std.specs.Prelude.{◌≡◌, ◌≤◌, ◌*◌, ◌^◌, ℕ, ◌-ℤ◌, unsigned_abs};
-ghost use Rattle.fixed_math.specs.Blossom.{unit, mix as mix_of};
+ghost use Rattle.fixed_math.specs.Blossom.{denominator, mix as mix_of};
 ghost use Rattle.fixed_math.specs.Whole.{floor_by as floor_of};
 
 use fixed_math::{floor_by, minus};
@@ -22,7 +22,7 @@ pub(crate) fn slope(s: u16, a: i128, b: i128, c: i128, d: i128) -> i64
     requires small_b { unsigned_abs b ≤ 2 ^ 31 }
     requires small_c { unsigned_abs c ≤ 2 ^ 31 }
     requires small_d { unsigned_abs d ≤ 2 ^ 31 }
-    ensures value { result ≡ floor_of (mix_of s (b -ℤ a) (d -ℤ c)) unit }
+    ensures value { result ≡ floor_of (mix_of s (b -ℤ a) (d -ℤ c)) denominator }
     ensures bound { unsigned_abs result ≤ 2 ^ 32 }
 {
     let near = minus(b, a);

@@ -72,13 +72,29 @@ impl Default for Piece {
 
     /// The whole of the first primitive.
     fn default() -> Piece {
+        Piece::whole(0)
+    }
+}
+
+impl Piece {
+    /// The whole of primitive `prim`, which isn't halved.
+    pub fn whole(prim: u32) -> Piece
+        ensures { result ≡ whole_of prim }
+    {
         Piece {
-            prim: 0,
+            prim,
             a: 0,
             i: 0,
             b: 0,
             j: 0,
         }
+    }
+
+    /// Does nothing: a call tells a proof what holds of every piece.
+    pub fn recall(&self)
+        ensures { IsPart self.now }
+    {
+        let _depth = self.a;
     }
 }
 

@@ -1,77 +1,110 @@
--- What a fetched file says of its shader.
-use Rattle.std.proofs.Common.{◌≡◌, ℕ, Bool, List, Option, Some, None, Result, Ok, Err, All, [], ◌∷◌, ◌++◌, length, ◌<◌, ◌+◌, cond, sym, ap, ◌∙◌, subst, arith, length-append}
-use Rattle.std.specs.Prelude.{IfOk}
-use Rattle.std.proofs.lemmas.Bool.{lt-ltb}
+-- What a fetched file says of its shader, and of a scene's text.
+use Rattle.std.proofs.Common.{◌≡◌, ℕ, List, Option, Some, None, Result, Ok, Err, All, [], ◌∷◌, ◌++◌, length, ◌<◌, ◌+◌, cond, refl, sym, ap, ◌∙◌, subst, arith, length-append, false}
+use Rattle.std.specs.Prelude.{is_none, ◌≤◌}
+use Rattle.std.proofs.lemmas.Bool.{lt-ltb, le-ltb}
+use Rattle.std.proofs.lemmas.List.Elements.{All-append, All-cons}
 use Rattle.outside.specs.Causes.{Told}
 use Rattle.outside.specs.Library.{Files, held_as, Fetches, IsHeldAs, IsOfSize}
 use Rattle.outside.specs.declared.library.Fetch.{Fetch}
 use Rattle.outside.specs.declared.library.Fetch.TheVariants.{Whole, Missing, TooLong}
-use Rattle.sl_ast.specs.declared.tree.Tree.{Tree}
 use Rattle.render.specs.declared.refusal.Refusal.{Refusal}
+use Rattle.render.specs.declared.refusal.FileId.TheVariants.{Scene, Shader}
 use Rattle.render.specs.declared.code.Code.TheVariants.{M10}
 use Rattle.render.specs.Causes.{At, cause_in}
-use Rattle.render.specs.Shaders.{file_of, stock_text, text_with, shader_tree, tree_of_parsed, tree_of_bytes, tree_of_text, most_shader_bytes}
+use Rattle.render.specs.Shaders.{text_with, tree_of_parsed, tree_of_text, most_shader_bytes, file_of, shader_tree}
+use Rattle.render.specs.Verdict.{most_bytes, text_of_held}
 use Rattle.sl_parser.specs.Files.{parsed}
-use Rattle.render.specs.Drawn.{is_nothing}
 use Rattle.render.specs.declared.shaders.ReadShader.{ReadShader}
-use Rattle.render.specs.Reading.{read_of, IsReadOf}
-use Rattle.std.proofs.lemmas.List.Elements.{All-append, All-cons}
-use Rattle.render.specs.Answers.{Because, Gives}
-
--- what is read of what is held
-tree_of_held : (files : Files) (name file : List ℕ) (held : Option (List ℕ)) → file ≡ file_of name → held_as files file ≡ held
-    → shader_tree files name ≡ tree_of_text file (text_with held name)
-unfolding shader_tree
-tree_of_held files name file held of is =
-    ap (λ f. tree_of_text f (text_with (held_as files f) name)) (sym of) ∙ ap (λ h. tree_of_text file (text_with h name)) is
-
-pub held_gives : (held : Option Files) (name file bytes : List ℕ) (r : Result (Tree × Bool) Refusal) → file ≡ file_of name
-    → Told held (λ files. held_as files file ≡ Some bytes) → Gives read_of r (tree_of_bytes file bytes) → Told held (λ files. Gives read_of r (shader_tree files name))
-held_gives None name file bytes r of is gives = tt
-held_gives (Some files) name file bytes r of is gives = subst (λ t. Gives read_of r t) (sym (tree_of_held files name file (Some bytes) of is)) gives
-
-pub stock_gives : (held : Option Files) (name file : List ℕ) (r : Result (Tree × Bool) Refusal) → file ≡ file_of name
-    → Told held (λ files. held_as files file ≡ None) → Gives read_of r (tree_of_text file (stock_text name)) → Told held (λ files. Gives read_of r (shader_tree files name))
-stock_gives None name file r of is gives = tt
-stock_gives (Some files) name file r of is gives = subst (λ t. Gives read_of r t) (sym (tree_of_held files name file None of is)) gives
-
-flagged : (files : Files) (file : List ℕ) (o : Option (List ℕ)) (flag : Bool) (r : Result (Tree × Bool) Refusal) → held_as files file ≡ o → is_nothing o ≡ flag
-    → IfOk r (λ t. t.1 ≡ flag) → IfOk r (λ t. is_nothing (held_as files file) ≡ t.1)
-flagged files file o flag (Ok t) is flags h = ap is_nothing is ∙ flags ∙ sym h
-flagged files file o flag (Err e) is flags h = h
-
-pub told_flag : (held : Option Files) (file : List ℕ) (o : Option (List ℕ)) (flag : Bool) (r : Result (Tree × Bool) Refusal) → Told held (λ files. held_as files file ≡ o)
-    → is_nothing o ≡ flag → IfOk r (λ t. t.1 ≡ flag) → Told held (λ files. IfOk r (λ t. is_nothing (held_as files file) ≡ t.1))
-told_flag None file o flag r is flags h = tt
-told_flag (Some files) file o flag r is flags h = flagged files file o flag r is flags h
+use Rattle.render.specs.declared.shaders.ShaderText.{ShaderText}
+use Rattle.sl_ast.specs.TreeView.{tree_of}
+use Rattle.render.specs.Reading.{IsReadOf, GivesShaderText}
+use Rattle.render.specs.Answers.{Because}
 
 -- what a fetch says of what is held
-pub whole_held : (result : Fetch) (limit : ℕ) (held : Option Files) (file old new : List ℕ) → result ≡ Whole → old ≡ [] → Fetches result limit held file old new
-    → Told held (λ files. held_as files file ≡ Some new)
-whole_held result limit None file old new is empty f = tt
-whole_held result limit (Some files) file old new is empty f =
-    let content : held_as files file ≡ Some f.bytes = subst (λ r. IsHeldAs r f.bytes (held_as files file)) is f.content in
+whole_held : (result : Fetch) (limit : ℕ) (held : Option (List ℕ)) (old new bytes : List ℕ) → result ≡ Whole → old ≡ [] → new ≡ old ++ bytes → IsHeldAs result bytes held
+    → held ≡ Some new
+whole_held result limit held old new bytes is empty added content =
+    let here : held ≡ Some bytes = subst (λ r. IsHeldAs r bytes held) is content in
+    let same : new ≡ bytes = added ∙ ap (λ o. o ++ bytes) empty in
+    here ∙ ap (λ b. Some b) (sym same)
+
+-- the file's text
+pub whole_text : (result : Fetch) (held : Option Files) (name file old new : List ℕ) (t : ShaderText) → result ≡ Whole → old ≡ [] → Fetches result most_shader_bytes held file old new
+    → file ≡ file_of name → t.bytes.items ≡ new → t.stock ≡ false → Told held (λ files. GivesShaderText name (held_as files (file_of name)) (Ok t))
+whole_text result None name file old new t is empty f of bytes stock = tt
+whole_text result (Some files) name file old new t is empty f of bytes stock =
+    let here : held_as files (file_of name) ≡ Some t.bytes.items =
+    ap (held_as files) (sym of) ∙ whole_held result most_shader_bytes (held_as files file) old new f.bytes is empty f.added f.content ∙ ap (λ b. Some b) (sym bytes) in
+    (ap (λ h. text_with h name) here, ap is_none here ∙ sym stock)
+
+-- the stock's
+pub missing_text : (result : Fetch) (held : Option Files) (name file old new : List ℕ) (r : Result ShaderText Refusal) → result ≡ Missing → Fetches result most_shader_bytes held file old new
+    → file ≡ file_of name → GivesShaderText name None r → Told held (λ files. GivesShaderText name (held_as files (file_of name)) r)
+missing_text result None name file old new r is f of gives = tt
+missing_text result (Some files) name file old new r is f of gives =
+    let here : held_as files file ≡ None = subst (λ q. IsHeldAs q f.bytes (held_as files file)) is f.content in
+    subst (λ h. GivesShaderText name h r) (sym (ap (held_as files) (sym of) ∙ here)) gives
+
+long : (limit : ℕ) (result : Fetch) (held : Option (List ℕ)) (bytes : List ℕ) → result ≡ TooLong → IsOfSize result limit (length bytes) → IsHeldAs result bytes held
+    → (whole : List ℕ) × (held ≡ Some whole) × (limit < length whole)
+long limit result held bytes is sized content =
+    let rest : IsHeldAs TooLong bytes held = subst (λ q. IsHeldAs q bytes held) is content in
+    let size : length bytes ≡ limit + 1 = subst (λ q. IsOfSize q limit (length bytes)) is sized in
+    (bytes ++ rest.0, rest.1, omega (arith, size, length-append bytes rest.0))
+
+too_long : (name bytes : List ℕ) → most_shader_bytes < length bytes → tree_of_text name (Some bytes) ≡ Err (At (Shader name) 1 M10)
+too_long name bytes more = ap (λ b. cond b (Err (At (Shader name) 1 M10)) (tree_of_parsed name (parsed bytes))) (lt-ltb most_shader_bytes (length bytes) more)
+
+pub long_text : (result : Fetch) (held : Option Files) (name file old new : List ℕ) (r : Refusal) → result ≡ TooLong → Fetches result most_shader_bytes held file old new
+    → file ≡ file_of name → Because r (Some (At (Shader name) 1 M10)) → Told held (λ files. Because r (cause_in (tree_of_text name (text_with (held_as files (file_of name)) name))))
+long_text result None name file old new r is f of because = tt
+long_text result (Some files) name file old new r is f of because =
+    let l = long most_shader_bytes result (held_as files file) f.bytes is f.size f.content in
+    let here : held_as files (file_of name) ≡ Some l.0 = ap (held_as files) (sym of) ∙ l.1 in
+    subst (λ t. Because r (cause_in t)) (sym (ap (λ h. tree_of_text name (text_with h name)) here ∙ too_long name l.0 l.2)) because
+
+-- a scene's text
+pub whole_scene : (result : Fetch) (held : Option Files) (name old new : List ℕ) → result ≡ Whole → old ≡ [] → Fetches result most_bytes held name old new
+    → Told held (λ files. text_of_held name (held_as files name) ≡ Ok new)
+whole_scene result None name old new is empty f = tt
+whole_scene result (Some files) name old new is empty f =
+    let size : length f.bytes ≤ most_bytes = subst (λ q. IsOfSize q most_bytes (length f.bytes)) is f.size in
     let same : new ≡ f.bytes = f.added ∙ ap (λ o. o ++ f.bytes) empty in
-    content ∙ ap (λ b. Some b) (sym same)
+    let few : length new ≤ most_bytes = subst (λ b. length b ≤ most_bytes) (sym same) size in
+    ap (text_of_held name) (whole_held result most_bytes (held_as files name) old new f.bytes is empty f.added f.content)
+    ∙ ap (λ b. cond b (Err (At Scene 1 M10)) (Ok new)) (le-ltb most_bytes (length new) few)
 
-pub missing_held : (result : Fetch) (limit : ℕ) (held : Option Files) (file old new : List ℕ) → result ≡ Missing → Fetches result limit held file old new
-    → Told held (λ files. held_as files file ≡ None)
-missing_held result limit None file old new is f = tt
-missing_held result limit (Some files) file old new is f = subst (λ r. IsHeldAs r f.bytes (held_as files file)) is f.content
+pub long_scene : (result : Fetch) (held : Option Files) (name old new : List ℕ) (r : Refusal) → result ≡ TooLong → Fetches result most_bytes held name old new
+    → Because r (Some (At Scene 1 M10)) → Told held (λ files. Because r (cause_in (text_of_held name (held_as files name))))
+long_scene result None name old new r is f because = tt
+long_scene result (Some files) name old new r is f because =
+    let l = long most_bytes result (held_as files name) f.bytes is f.size f.content in
+    subst (λ t. Because r (cause_in t))
+    (sym (ap (text_of_held name) l.1 ∙ ap (λ b. cond b (Err (At Scene 1 M10)) (Ok l.0)) (lt-ltb most_bytes (length l.0) l.2))) because
 
-too_long : (files : Files) (name file bytes : List ℕ) → file ≡ file_of name → held_as files file ≡ Some bytes → most_shader_bytes < length bytes
-    → shader_tree files name ≡ Err (At file M10 1)
-too_long files name file bytes of is long =
-    tree_of_held files name file (Some bytes) of is ∙ ap (λ b. cond b (Err (At file M10 1)) (tree_of_parsed file (parsed bytes))) (lt-ltb most_shader_bytes (length bytes) long)
+-- the tree of a shader by its text
+of_text : (files : Files) (name : List ℕ) (o : Option (List ℕ)) → text_with (held_as files (file_of name)) name ≡ o → shader_tree files name ≡ tree_of_text name o
+unfolding shader_tree
+of_text files name o is = ap (tree_of_text name) is
 
-pub long_gives : (held : Option Files) (name file old new : List ℕ) (result : Fetch) (r : Refusal) → file ≡ file_of name → result ≡ TooLong
-    → Fetches result most_shader_bytes held file old new → Because r (Some (At file M10 1)) → Told held (λ files. Because r (cause_in (shader_tree files name)))
-long_gives None name file old new result r of is f because = tt
-long_gives (Some files) name file old new result r of is f because =
-    let content : IsHeldAs TooLong f.bytes (held_as files file) = subst (λ q. IsHeldAs q f.bytes (held_as files file)) is f.content in
-    let size : length f.bytes ≡ most_shader_bytes + 1 = subst (λ q. IsOfSize q most_shader_bytes (length f.bytes)) is f.size in
-    let long : most_shader_bytes < length (f.bytes ++ content.0) = omega (arith, size, length-append f.bytes content.0) in
-    subst (λ t. Because r (cause_in t)) (sym (too_long files name file (f.bytes ++ content.0) of content.1 long)) because
+pub text_read : (held : Option Files) (name : List ℕ) (t : ShaderText) (s : ReadShader) → Told held (λ files. GivesShaderText name (held_as files (file_of name)) (Ok t))
+    → s.name ≡ name → s.stock ≡ t.stock → tree_of_text name (Some t.bytes.items) ≡ Ok (tree_of s.tree) → Told held (λ files. IsReadOf files s)
+text_read None name t s gives named stock tree = tt
+text_read (Some files) name t s gives named stock tree = record {
+  tree = ap (shader_tree files) named ∙ of_text files name (Some t.bytes.items) gives.0 ∙ tree;
+  stock = ap (λ n. is_none (held_as files (file_of n))) named ∙ gives.1 ∙ sym stock;
+}
+
+pub text_refused : (held : Option Files) (name : List ℕ) (r : Refusal) → Told held (λ files. Because r (cause_in (tree_of_text name (text_with (held_as files (file_of name)) name))))
+    → Told held (λ files. Because r (cause_in (shader_tree files name)))
+text_refused None name r because = tt
+text_refused (Some files) name r because =
+    subst (λ t. Because r (cause_in t)) (sym (of_text files name (text_with (held_as files (file_of name)) name) refl)) because
+
+pub tree_refused : (held : Option Files) (name : List ℕ) (t : ShaderText) (r : Refusal) → Told held (λ files. GivesShaderText name (held_as files (file_of name)) (Ok t))
+    → Because r (cause_in (tree_of_text name (Some t.bytes.items))) → Told held (λ files. Because r (cause_in (shader_tree files name)))
+tree_refused None name t r gives because = tt
+tree_refused (Some files) name t r gives because = subst (λ q. Because r (cause_in q)) (sym (of_text files name (Some t.bytes.items) gives.0)) because
 
 -- a shader more is read
 pub told_pushed : (held : Option Files) (old new : List ReadShader) (s : ReadShader) → Told held (λ files. IsReadOf files s) → new ≡ old ++ s ∷ []

@@ -14,7 +14,7 @@ kept p x xs h = ap (λ b. cond b (x ∷ filter p xs) (filter p xs)) h
 dropped : {A : Type 0} (p : A → Bool) (x : A) (xs : List A) → p x ≡ false → filter p (x ∷ xs) ≡ filter p xs
 dropped p x xs h = ap (λ b. cond b (x ∷ filter p xs) (filter p xs)) h
 
-same_name : (a b : List ℕ) → bytes_eq a b ≡ true → a ≡ b
+pub same_name : (a b : List ℕ) → bytes_eq a b ≡ true → a ≡ b
 same_name a b h = grind (arith, bytes_eq-Decides a b, h)
 
 pub itself : (a : List ℕ) → bytes_eq a a ≡ true

@@ -12,7 +12,8 @@ use Rattle.render.specs.declared.refusal.Refusal.TheVariants.{Missing, At, ReadF
 use Rattle.render.specs.declared.shaders.ReadShader.{ReadShader}
 use Rattle.render.specs.Causes.{Cause, cause_in, or_else}
 use Rattle.render.specs.Shaders.{file_of, shader_tree, use_name, shader_names, shaders_refused, shaders_asked, asked_behind}
-use Rattle.render.specs.Drawn.{is_stock, is_nothing}
+use Rattle.std.specs.Prelude.{is_none}
+use Rattle.render.specs.Drawn.{is_stock}
 use Rattle.render.specs.Reading.{name_of, is_from_stock, IsReadOf}
 use Rattle.render.specs.Answers.{Because}
 use Rattle.render.proofs.Names.{all_distinct}
@@ -23,8 +24,8 @@ files_of shaders = map file_of (map name_of shaders)
 
 -- a refusal has the first cause
 pub because_first : (r : Refusal) (cause others : Option Cause) → Because r cause → Because r (or_else cause others)
-because_first (Missing note) cause others h = (h.0, ap (λ o. or_else o others) h.1, h.2)
-because_first (At code line note) cause others h = (h.0, ap (λ o. or_else o others) h.1, h.2)
+because_first (Missing file) cause others h = ap (λ o. or_else o others) h
+because_first (At file line code) cause others h = ap (λ o. or_else o others) h
 because_first ReadFault cause others h = tt
 because_first NoMemory cause others h = tt
 
@@ -64,13 +65,13 @@ one_asked files names shaders name rest o p q parts all before one =
     (subst (λ fs. AsksFront fs o q) (sym (asked_behind_read files shaders (name ∷ rest) all))
     (asks_front-behind (files_of shaders) (file_of name ∷ behind) o p q before (asks_front-before (file_of name ∷ []) behind p q one)))
 
--- no shader is left
-pub all_asked : (files : Files) (names : List (List ℕ)) (shaders : List ReadShader) (o p : Option (List (List ℕ)))
-    → map name_of shaders ≡ names → All (IsReadOf files) shaders → AsksAll (files_of shaders) o p → AsksFront (shaders_asked files names) o p
-all_asked files names shaders o p parts all before =
-    let here : shaders_asked files names ≡ files_of shaders =
-    ap (shaders_asked files) (sym parts ∙ sym (append-nil (map name_of shaders))) ∙ asked_behind_read files shaders [] all ∙ append-nil (files_of shaders) in
-    asks_front-all (shaders_asked files names) o p (subst (λ fs. AsksAll fs o p) (sym here) before)
+-- whatever is left
+pub all_asked : (files : Files) (names : List (List ℕ)) (shaders : List ReadShader) (rest : List (List ℕ)) (o p : Option (List (List ℕ)))
+    → Parted names shaders rest → All (IsReadOf files) shaders → AsksAll (files_of shaders) o p → AsksFront (shaders_asked files names) o p
+all_asked files names shaders rest o p parts all before =
+    subst (λ ns. AsksFront (shaders_asked files ns) o p) parts
+    (subst (λ fs. AsksFront fs o p) (sym (asked_behind_read files shaders rest all))
+    (asks_front-before (files_of shaders) (shaders_asked files rest) o p (asks_front-all (files_of shaders) o p before)))
 
 pub none_refused : (files : Files) (names : List (List ℕ)) (shaders : List ReadShader) → map name_of shaders ≡ names → All (IsReadOf files) shaders
     → shaders_refused files names ≡ None
@@ -79,16 +80,16 @@ none_refused files names shaders parts all =
 
 -- whether the texts of all shaders are the stock's, of the uses and of what is read
 stock_read : (files : Files) (shaders : List ReadShader) → All (IsReadOf files) shaders
-    → list_all (λ n. is_nothing (held_as files (file_of n))) (map name_of shaders) ≡ list_all is_from_stock shaders
+    → list_all (λ n. is_none (held_as files (file_of n))) (map name_of shaders) ≡ list_all is_from_stock shaders
 stock_read files [] all = refl
 stock_read files (s ∷ ss) all = ap₂ (λ x y. x && y) (All-head (IsReadOf files) s ss all).stock (stock_read files ss (All-tail (IsReadOf files) s ss all))
 
-stock_used : (files : Files) (uses : List ShaderUse) → list_all (is_stock files) uses ≡ list_all (λ n. is_nothing (held_as files (file_of n))) (map use_name uses)
+stock_used : (files : Files) (uses : List ShaderUse) → list_all (is_stock files) uses ≡ list_all (λ n. is_none (held_as files (file_of n))) (map use_name uses)
 stock_used files [] = refl
 stock_used files (u ∷ us) = ap (λ b. is_stock files u && b) (stock_used files us)
 
 pub stock_same : (files : Files) (shaders : List ReadShader) (uses : List ShaderUse) → map name_of shaders ≡ shader_names uses → All (IsReadOf files) shaders
     → list_all is_from_stock shaders ≡ list_all (is_stock files) uses
 stock_same files shaders uses parts all =
-    let test : List ℕ → Bool = λ n. is_nothing (held_as files (file_of n)) in
+    let test : List ℕ → Bool = λ n. is_none (held_as files (file_of n)) in
     sym (stock_read files shaders all) ∙ ap (list_all test) parts ∙ all_distinct test (map use_name uses) ∙ sym (stock_used files uses)

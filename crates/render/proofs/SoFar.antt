@@ -145,8 +145,10 @@ pub so_far-names : (uses : List ShaderUse) (i : ℕ) (shaders : List ReadShader)
 so_far-names uses i shaders held_first held asked_first asked faults_first faults s end =
     sym (append-nil (map name_of shaders)) ∙ ap (λ us. map name_of shaders ++ left (map name_of shaders) (distinct (map use_name us))) (sym (drop_all i uses end)) ∙ s.parts
 
-pub so_far-all : (uses : List ShaderUse) (i : ℕ) (shaders : List ReadShader) (held_first held : Option Files) (asked_first asked : Option (List (List ℕ))) (faults_first faults : ℕ)
-    → SoFar uses i shaders held_first held asked_first asked faults_first faults → length uses ≤ i → Told held_first (λ files. AsksFront (shaders_asked files (shader_names uses)) asked_first asked)
-so_far-all uses i shaders None held asked_first asked faults_first faults s end = tt
-so_far-all uses i shaders (Some files) held asked_first asked faults_first faults s end =
-    all_asked files (shader_names uses) shaders asked_first asked (so_far-names uses i shaders (Some files) held asked_first asked faults_first faults s end) s.read s.asked
+-- whatever is left, the files of those that are read come first
+pub so_far-behind : (uses : List ShaderUse) (i : ℕ) (shaders : List ReadShader) (held_first held : Option Files) (asked_first asked : Option (List (List ℕ))) (faults_first faults : ℕ)
+    → SoFar uses i shaders held_first held asked_first asked faults_first faults → Told held_first (λ files. AsksFront (shaders_asked files (shader_names uses)) asked_first asked)
+so_far-behind uses i shaders None held asked_first asked faults_first faults s = tt
+so_far-behind uses i shaders (Some files) held asked_first asked faults_first faults s =
+    let rest = left (map name_of shaders) (distinct (map use_name (drop i uses))) in
+    all_asked files (shader_names uses) shaders rest asked_first asked s.parts s.read s.asked

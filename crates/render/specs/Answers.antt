@@ -1,26 +1,27 @@
--- What an answer says of the verdict and the sink.
-use Rattle.std.specs.Prelude.{◌≡◌, ℕ, List, Option, Some, None, map, Result, Ok, Err, string_bytes}
+-- What the code's answers say of the verdict and the sink.
+use Rattle.std.specs.Prelude.{◌≡◌, ℕ, List, Option, Some, None, Vec, map, true, Result, Ok, Err}
+use Rattle.std.specs.declared.alloc.Global.{Global}
 use Rattle.outside.specs.Sink.{Written}
 use Rattle.outside.specs.Frames.{whole, Adds, AddsFront}
 use Rattle.scene_state.specs.Scene.{SceneValue}
 use Rattle.render.specs.Causes as causes
-use Rattle.render.specs.Causes.{Cause, Reads, note_of}
+use Rattle.render.specs.Causes.{Cause, Reads}
 use Rattle.render.specs.Verdict as verdicts
 use Rattle.render.specs.Verdict.{pictures_of}
+use Rattle.render.specs.Run.{is_accepted}
 use Rattle.render.specs.Codes.{status_of_code}
 use Rattle.render.specs.declared.command.Action.{Action}
-use Rattle.render.specs.declared.command.Action.TheVariants.{Render}
 use Rattle.render.specs.declared.refusal.Refusal.{Refusal}
-use Rattle.render.specs.declared.refusal.Refusal.TheVariants.{Missing, At, ReadFault, NoMemory}
+use Rattle.render.specs.declared.refusal.Refusal.TheVariants as refusals
 use Rattle.render.specs.declared.program.Answer.{Answer}
-use Rattle.render.specs.declared.program.Answer.TheVariants.{Done, Usage, Refused, WriteFault, Exhausted}
+use Rattle.render.specs.declared.program.Answer.TheVariants.{Done, Usage, NoScene, Refused, WriteFault, NoMemory}
 
--- a refusal has its cause, which its note tells, but where the library failed or memory ran out
+-- a refusal has its cause, but where the library failed or memory ran out
 abbrev pub Because : Refusal → Option Cause → Type 0
-Because (Missing note) cause = (file : List ℕ) × (cause ≡ Some (causes.Missing file)) × (string_bytes note ≡ note_of (causes.Missing file))
-Because (At code line note) cause = (file : List ℕ) × (cause ≡ Some (causes.At file code line)) × (string_bytes note ≡ note_of (causes.At file code line))
-Because ReadFault cause = Unit {0}
-Because NoMemory cause = Unit {0}
+Because (refusals.Missing file) cause = cause ≡ Some (causes.Missing file)
+Because (refusals.At file line code) cause = cause ≡ Some (causes.At file line code)
+Because refusals.ReadFault cause = Unit {0}
+Because refusals.NoMemory cause = Unit {0}
 
 abbrev pub as_it_is : {A : Type 0} → A → A
 as_it_is x = x
@@ -35,6 +36,12 @@ abbrev pub Clears : {A : Type 0} → Result A Refusal → Option Cause → Type 
 Clears (Ok x) cause = cause ≡ None
 Clears (Err refusal) cause = Because refusal cause
 
+-- a scene's text, none where no file has that name, or why it isn't read
+abbrev pub GivesText : List ℕ → Result (Option (Vec ℕ Global)) Refusal → Reads (List ℕ) → Type 0
+GivesText name (Ok (Some text)) read = read ≡ Ok text.items
+GivesText name (Ok None) read = read ≡ Err (causes.Missing name)
+GivesText name (Err refusal) read = Because refusal (causes.cause_in read)
+
 abbrev pub cause_of : verdicts.Verdict → Option Cause
 cause_of (verdicts.Refused cause) = Some cause
 cause_of _ = None
@@ -44,37 +51,47 @@ abbrev pub Loads : Action → Result SceneValue Refusal → verdicts.Verdict →
 Loads action (Ok scene) v = v ≡ verdicts.Accepted action scene
 Loads action (Err refusal) v = Because refusal (cause_of v)
 
-abbrev pub IsAccepted : verdicts.Verdict → Type 0
-IsAccepted (verdicts.Accepted action scene) = Unit {0}
-IsAccepted _ = ⊥
+-- the same, and none where no file has the scene's name
+abbrev pub LoadsNamed : List ℕ → Action → Result (Option SceneValue) Refusal → verdicts.Verdict → Type 0
+LoadsNamed name action (Ok (Some scene)) v = v ≡ verdicts.Accepted action scene
+LoadsNamed name action (Ok None) v = v ≡ verdicts.Refused (causes.Missing name)
+LoadsNamed name action (Err refusal) v = Because refusal (cause_of v)
 
--- accepted, and to be rendered
-abbrev pub IsToRender : verdicts.Verdict → Type 0
-IsToRender (verdicts.Accepted Render scene) = Unit {0}
-IsToRender _ = ⊥
-
--- the answer's verdict, and what was added to the sink
-abbrev pub Agrees : Answer → verdicts.Verdict → Option (List Written) → Option (List Written) → Type 0
-Agrees Done v old new = IsAccepted v × Adds (map whole (pictures_of v)) old new
-Agrees WriteFault v old new = IsToRender v × AddsFront (pictures_of v) old new
-Agrees Exhausted v old new = AddsFront (pictures_of v) old new
-Agrees Usage v old new = v ≡ verdicts.Usage
-Agrees (Refused refusal) v old new = Because refusal (cause_of v)
+-- the answer's verdict, where the scene has this name, and what was added to the sink
+abbrev pub Agrees : List ℕ → Answer → verdicts.Verdict → Option (List Written) → Option (List Written) → Type 0
+Agrees name Done v old new = (is_accepted v ≡ true) × Adds (map whole (pictures_of v)) old new
+Agrees name WriteFault v old new = (is_accepted v ≡ true) × AddsFront (pictures_of v) old new
+Agrees name NoMemory v old new = AddsFront (pictures_of v) old new
+Agrees name Usage v old new = v ≡ verdicts.Usage
+Agrees name NoScene v old new = v ≡ verdicts.Refused (causes.Missing name)
+Agrees name (Refused refusal) v old new = Because refusal (cause_of v)
 
 -- no frame was begun
 abbrev pub ComesBefore : Answer → Type 0
 ComesBefore Done = ⊥
 ComesBefore WriteFault = ⊥
-ComesBefore Exhausted = ⊥
+ComesBefore NoMemory = ⊥
 ComesBefore Usage = Unit {0}
+ComesBefore NoScene = Unit {0}
 ComesBefore (Refused refusal) = Unit {0}
+
+abbrev pub status_of_refusal : Refusal → ℕ
+status_of_refusal (refusals.At file line code) = status_of_code code
+status_of_refusal (refusals.Missing file) = 6
+status_of_refusal refusals.ReadFault = 7
+status_of_refusal refusals.NoMemory = 9
 
 abbrev pub number_of : Answer → ℕ
 number_of Done = 0
 number_of Usage = 2
-number_of (Refused (At code line note)) = status_of_code code
-number_of (Refused (Missing note)) = 6
-number_of (Refused ReadFault) = 7
+number_of (Refused refusal) = status_of_refusal refusal
+number_of NoScene = 6
 number_of WriteFault = 8
-number_of (Refused NoMemory) = 9
-number_of Exhausted = 9
+number_of NoMemory = 9
+
+-- what an answer's note tells, where the scene has this name
+abbrev pub cause_told : List ℕ → Answer → Option Cause
+cause_told name NoScene = Some (causes.Missing name)
+cause_told name (Refused (refusals.Missing file)) = Some (causes.Missing file)
+cause_told name (Refused (refusals.At file line code)) = Some (causes.At file line code)
+cause_told name _ = None

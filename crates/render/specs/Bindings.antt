@@ -1,5 +1,5 @@
 -- How the parameters of a shader request fit the shader that it names (RenderMan Interface 3.2, section 11.3.3).
-use Rattle.std.specs.Prelude.{ℕ, Bool, true, false, not, List, [], ◌∷◌, map, Option, Some, None, option_map, Ok, Err, if◌then◌else◌}
+use Rattle.std.specs.Prelude.{ℕ, Bool, true, false, not, ◌==◌, is_none, List, [], ◌∷◌, map, slice_get, Option, Some, None, option_map, Ok, Err, if◌then◌else◌}
 use Rattle.std.specs.List.{list_any}
 use Rattle.std.specs.Str.{bytes_eq}
 use Rattle.outside.specs.Library.{Files}
@@ -16,6 +16,8 @@ use Rattle.sl_ast.specs.declared.kinds.SlKind.TheVariants as written
 use Rattle.sl_ast.specs.Typed.{Local, Tree}
 use Rattle.render.specs.declared.code.Code.{Code}
 use Rattle.render.specs.declared.code.Code.TheVariants.{B1, B2, B3}
+use Rattle.render.specs.declared.refusal.FileId.TheVariants.{Scene}
+use Rattle.fixed_math.specs.Names.{last_place}
 use Rattle.render.specs.Causes.{Cause, At, Reads, first_of}
 use Rattle.render.specs.Shaders.{shader_tree}
 
@@ -36,17 +38,22 @@ is_of_kind written.Light requested.Light = true
 is_of_kind written.Volume requested.Volume = true
 is_of_kind _ _ = false
 
--- the type of the parameter that a shader declares by that name
-abbrev pub declared_type : List Local → List ℕ → Option SlType
-declared_type [] name = None
-declared_type (l ∷ ls) name = if bytes_eq l.name name then Some l.kind else declared_type ls name
+-- the type of the parameter that a shader declares by that name; no two have the same
+abbrev pub local_name : Local → List ℕ
+local_name l = l.name
 
-abbrev pub is_absent : Option SlType → Bool
-is_absent None = true
-is_absent (Some kind) = false
+abbrev pub declared_names : Tree → List (List ℕ)
+declared_names tree = map local_name tree.params
+
+abbrev pub type_at : List Local → Option ℕ → Option SlType
+type_at ls None = None
+type_at ls (Some place) = option_map (λ l. l.kind) (slice_get ls place)
+
+abbrev pub declared_type : List Local → List ℕ → Option SlType
+declared_type ls name = type_at ls (last_place name (map local_name ls))
 
 abbrev pub is_undeclared : List Local → Param → Bool
-is_undeclared ls p = is_absent (declared_type ls p.name)
+is_undeclared ls p = is_none (declared_type ls p.name)
 
 abbrev pub is_other : Kind → Option SlType → Bool
 is_other kind None = false
@@ -54,6 +61,9 @@ is_other kind (Some declared) = not (is_of_type declared kind)
 
 abbrev pub is_misfit : List Local → Param → Bool
 is_misfit ls p = is_other p.kind (declared_type ls p.name)
+
+abbrev pub param_name : Param → List ℕ
+param_name p = p.name
 
 -- of two parameters of one name the later one holds
 abbrev pub is_named : List ℕ → List Param → Bool
@@ -63,6 +73,10 @@ abbrev pub holding : List Param → List Param
 holding [] = []
 holding (p ∷ ps) = if is_named p.name ps then holding ps else p ∷ holding ps
 
+abbrev pub is_at : ℕ → Option ℕ → Bool
+is_at i None = false
+is_at i (Some place) = place == i
+
 -- the first fault of a request over its shader's tree, the lower code first
 abbrev pub binding_fault : Tree → ShaderUse → Option Code
 binding_fault tree u =
@@ -71,13 +85,13 @@ binding_fault tree u =
     (if is_of_kind tree.kind u.kind then None else Some B3))
 
 -- the same as a cause: it stands in the scene, at the line of the request
-abbrev pub cause_at : List ℕ → ShaderUse → Option Code → Option Cause
-cause_at scene u fault = option_map (λ code. At scene code u.line) fault
+abbrev pub cause_at : ShaderUse → Option Code → Option Cause
+cause_at u fault = option_map (λ code. At Scene u.line code) fault
 
-abbrev pub use_refused : List ℕ → ShaderUse → Reads Tree → Option Cause
-use_refused scene u (Ok tree) = cause_at scene u (binding_fault tree u)
-use_refused scene u (Err cause) = Some cause
+abbrev pub use_refused : ShaderUse → Reads Tree → Option Cause
+use_refused u (Ok tree) = cause_at u (binding_fault tree u)
+use_refused u (Err cause) = Some cause
 
 -- the first reason why one of these uses is refused
-abbrev pub uses_refused : Files → List ℕ → List ShaderUse → Option Cause
-uses_refused files scene uses = first_of (map (λ u. use_refused scene u (shader_tree files u.name)) uses)
+abbrev pub uses_refused : Files → List ShaderUse → Option Cause
+uses_refused files uses = first_of (map (λ u. use_refused u (shader_tree files u.name)) uses)

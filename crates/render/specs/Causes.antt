@@ -1,17 +1,12 @@
--- Why a command is refused, and the note that tells it.
-use Rattle.std.specs.Prelude.{ℕ, List, [], ◌∷◌, ◌++◌, Option, Some, None, Result, Ok, Err, codes, decimal}
+-- Why a command is refused.
+use Rattle.std.specs.Prelude.{ℕ, List, [], ◌∷◌, Option, Some, None, Result, Ok, Err}
 use Rattle.render.specs.declared.code.Code.{Code}
-use Rattle.render.specs.Codes.{text_of}
+use Rattle.render.specs.declared.refusal.FileId.{FileId}
 
--- a file that isn't there, or a code at a line of a file
+-- a file that isn't there, or a code at a line of the scene or of a shader
 pub data Cause : Type 0 where
   Missing : (file : List ℕ) → Cause
-  At : (file : List ℕ) → (code : Code) → (line : ℕ) → Cause
-
--- the line of the notes
-abbrev pub note_of : Cause → List ℕ
-note_of (Missing file) = file ++ codes ": missing\n"
-note_of (At file code line) = file ++ (codes ":" ++ (decimal line ++ (codes ": " ++ (text_of code ++ codes "\n"))))
+  At : (file : FileId) → (line : ℕ) → (code : Code) → Cause
 
 -- what is read, or why it is refused
 abbrev pub Reads : Type 0 → Type 0
@@ -20,6 +15,11 @@ Reads A = Result A Cause
 abbrev pub cause_in : {A : Type 0} → Reads A → Option Cause
 cause_in (Ok x) = None
 cause_in (Err cause) = Some cause
+
+-- a refusal, if there is a cause for one
+abbrev pub unless : {A : Type 0} → Option Cause → Reads A → Reads A
+unless (Some cause) read = Err cause
+unless None read = read
 
 -- the first of these that is there
 abbrev pub or_else : {A : Type 0} → Option A → Option A → Option A

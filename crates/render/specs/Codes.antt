@@ -61,8 +61,26 @@ text_of M7 = codes "M7"
 text_of M8 = codes "M8"
 text_of M10 = codes "M10"
 
--- 4 for types and bindings, 5 for geometry and limits, and 3 for syntax, nesting and what isn't built yet
+-- 3 for syntax, nesting and what isn't built yet, 4 for types and bindings, and 5 for geometry and limits
 abbrev pub status_of_code : Code → ℕ
+status_of_code L1 = 3
+status_of_code L2 = 3
+status_of_code L3 = 3
+status_of_code L4 = 3
+status_of_code S1 = 3
+status_of_code S2 = 3
+status_of_code S3 = 3
+status_of_code S4 = 3
+status_of_code S5 = 3
+status_of_code N1 = 3
+status_of_code N2 = 3
+status_of_code N3 = 3
+status_of_code N4 = 3
+status_of_code N5 = 3
+status_of_code P1 = 3
+status_of_code P2 = 3
+status_of_code P3 = 3
+status_of_code U0 = 3
 status_of_code T1 = 4
 status_of_code T2 = 4
 status_of_code T3 = 4
@@ -91,7 +109,6 @@ status_of_code M6 = 5
 status_of_code M7 = 5
 status_of_code M8 = 5
 status_of_code M10 = 5
-status_of_code _ = 3
 
 abbrev pub of_lex : LexCode → Code
 of_lex lex.L1 = L1

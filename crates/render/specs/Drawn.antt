@@ -1,6 +1,6 @@
 -- The scenes that are drawn so far: opaque primitives of the stock surface `constant`, without other shaders, that need no splitting,
 -- under one sample a pixel and a box filter of one pixel, without exposure, in bytes from 0 to 255.
-use Rattle.std.specs.Prelude.{ℕ, ℤ, pos, Bool, true, false, ◌&&◌, ◌==◌, List, length, Option, Some, None, codes, slice_get}
+use Rattle.std.specs.Prelude.{ℤ, pos, Bool, true, false, is_none, ◌&&◌, ◌==◌, List, length, Option, Some, None, codes, slice_get}
 use Rattle.std.specs.List.{list_all}
 use Rattle.std.specs.Ordering.{int_eq}
 use Rattle.std.specs.Str.{bytes_eq}
@@ -33,13 +33,9 @@ is_dice (Dice p q) = true
 is_dice SplitU = false
 is_dice SplitV = false
 
-abbrev pub is_absent : Option ℕ → Bool
-is_absent None = true
-is_absent (Some n) = false
-
 -- the primitive has the surface `constant` and no other shader
 abbrev pub is_plain : List ShaderUse → PrimValue → Bool
-is_plain uses p = is_constant (slice_get uses p.surface) && is_absent p.displacement && is_absent p.atmosphere && length p.lights == 0
+is_plain uses p = is_constant (slice_get uses p.surface) && is_none p.displacement && is_none p.atmosphere && length p.lights == 0
 
 abbrev pub is_prim_drawn : List ShaderUse → View → PrimValue → Bool
 is_prim_drawn uses v p = is_opaque p.os && is_plain uses p && is_dice (decide v p (whole_of 0))
@@ -59,12 +55,8 @@ abbrev pub is_frame_drawn : List ShaderUse → FrameValue → Bool
 is_frame_drawn uses f = is_sampled_once f.options && is_in_bytes f.options && list_all (is_prim_drawn uses f.camera) f.prims
 
 -- no file takes the place of the shader's stock text
-abbrev pub is_nothing : Option (List ℕ) → Bool
-is_nothing None = true
-is_nothing (Some bytes) = false
-
 abbrev pub is_stock : Files → ShaderUse → Bool
-is_stock files u = is_nothing (held_as files (file_of u.name))
+is_stock files u = is_none (held_as files (file_of u.name))
 
 abbrev pub is_drawn : Files → SceneValue → Bool
 is_drawn files s = list_all (is_stock files) s.uses && list_all (is_frame_drawn s.uses) s.frames

@@ -2,11 +2,14 @@ pub mod Texts
 pub mod Codes
 pub mod Command
 pub mod Causes
+pub mod Notes
 pub mod Pictures
 pub mod Shaders
 pub mod Bindings
 pub mod Drawn
 pub mod Verdict
+pub mod Run
 pub mod Answers
 pub mod Reading
-pub mod Done
+pub mod Film
+pub mod Still

@@ -1,32 +1,43 @@
 -- What reading shaders comes to.
-use Rattle.std.specs.Prelude.{◌≡◌, ℕ, Bool, List, [], ◌∷◌, ◌++◌, Vec, Result, Ok, Err, All, if◌then◌else◌}
-use Rattle.std.specs.declared.alloc.Global.{Global}
+use Rattle.std.specs.Prelude.{◌≡◌, ℕ, Bool, is_none, List, [], ◌∷◌, ◌++◌, map, slice_get, Option, Some, Result, Ok, Err, All, if◌then◌else◌}
 use Rattle.std.specs.List.{list_any}
 use Rattle.std.specs.Str.{bytes_eq}
 use Rattle.outside.specs.Library.{Files, held_as}
-use Rattle.sl_ast.specs.Typed as T
-use Rattle.sl_ast.specs.declared.tree.Tree.{Tree}
+use Rattle.scene_state.specs.declared.uses.ShaderUse.{ShaderUse}
+use Rattle.sl_ast.specs.Typed.{Tree}
 use Rattle.sl_ast.specs.TreeView.{tree_of}
 use Rattle.render.specs.declared.refusal.Refusal.{Refusal}
 use Rattle.render.specs.declared.shaders.ReadShader.{ReadShader}
+use Rattle.render.specs.declared.shaders.UsedShaders.{UsedShaders}
+use Rattle.render.specs.declared.shaders.ShaderText.{ShaderText}
+use Rattle.render.specs.declared.accept.Accepted.{Accepted}
+use Rattle.scene_state.specs.Scene.{SceneValue}
 use Rattle.render.specs.Causes.{cause_in}
-use Rattle.render.specs.Shaders.{file_of, shader_tree, shaders_refused}
-use Rattle.render.specs.Drawn.{is_nothing}
+use Rattle.render.specs.Shaders.{file_of, text_with, tree_of_text, shader_tree, shaders_refused}
+use Rattle.render.specs.Bindings.{declared_names}
 use Rattle.render.specs.Answers.{Because}
 
 abbrev pub name_of : ReadShader → List ℕ
 name_of s = s.name
 
+abbrev pub tree_read : ReadShader → Tree
+tree_read s = tree_of s.tree
+
+abbrev pub declared_by : ReadShader → List (List ℕ)
+declared_by s = declared_names (tree_read s)
+
 abbrev pub is_from_stock : ReadShader → Bool
 is_from_stock s = s.stock
+
+-- the text of a shader whose file is held so, or why there is none
+abbrev pub GivesShaderText : List ℕ → Option (List ℕ) → Result ShaderText Refusal → Type 0
+GivesShaderText name held (Ok t) = (text_with held name ≡ Some t.bytes.items) × (is_none held ≡ t.stock)
+GivesShaderText name held (Err refusal) = Because refusal (cause_in (tree_of_text name (text_with held name)))
 
 -- what is held gives this tree, from a file or from the stock
 pub record IsReadOf (files : Files) (s : ReadShader) : Type 0 where
   pub tree : shader_tree files s.name ≡ Ok (tree_of s.tree)
-  pub stock : is_nothing (held_as files (file_of s.name)) ≡ s.stock
-
-abbrev pub read_of : Tree × Bool → T.Tree
-read_of t = tree_of t.0
+  pub stock : is_none (held_as files (file_of s.name)) ≡ s.stock
 
 -- a shader of that name is read, or refused
 abbrev pub ReadsShader : Files → List ℕ → Result ReadShader Refusal → Type 0
@@ -39,9 +50,16 @@ ReadsNext files name old new (Ok x) = All (IsReadOf files) old → All (IsReadOf
 ReadsNext files name old new (Err refusal) = Because refusal (cause_in (shader_tree files name))
 
 -- the shaders of these names are read, or one is refused
-abbrev pub ReadsShaders : Files → List (List ℕ) → Result (Vec ReadShader Global) Refusal → Type 0
-ReadsShaders files names (Ok shaders) = All (IsReadOf files) shaders.items
+abbrev pub ReadsShaders : Files → List (List ℕ) → Result UsedShaders Refusal → Type 0
+ReadsShaders files names (Ok shaders) = All (IsReadOf files) shaders.read
 ReadsShaders files names (Err refusal) = Because refusal (shaders_refused files names)
+
+-- beside each use stands the place of the shader of its name
+abbrev pub named_use : ShaderUse → Option (List ℕ)
+named_use u = Some u.name
+
+abbrev pub ArePlaced : List ShaderUse → UsedShaders → Type 0
+ArePlaced uses shaders = map (slice_get (map name_of shaders.read)) shaders.of_use ≡ map named_use uses
 
 abbrev pub is_among : List ℕ → List (List ℕ) → Bool
 is_among name names = list_any (λ n. bytes_eq n name) names
@@ -52,3 +70,6 @@ with_once names name = if is_among name names then names else names ++ name ∷ 
 
 abbrev pub file_once : List (List ℕ) → List ℕ → List (List ℕ)
 file_once names name = if is_among name names then [] else file_of name ∷ []
+
+abbrev pub scene_in : Accepted → SceneValue
+scene_in a = a.scene

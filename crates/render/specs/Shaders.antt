@@ -11,6 +11,7 @@ use Rattle.sl_parser.specs.Files.{parsed}
 use Rattle.sl_types.specs.Found.{Found}
 use Rattle.sl_types.specs.Checked.{checked}
 use Rattle.render.specs.declared.code.Code.TheVariants.{M10}
+use Rattle.render.specs.declared.refusal.FileId.TheVariants.{Shader}
 use Rattle.render.specs.Codes.{of_syntax, of_type}
 use Rattle.render.specs.Causes.{Cause, Missing, At, Reads, cause_in, first_of}
 
@@ -35,22 +36,22 @@ shader_text files name = text_with (held_as files (file_of name)) name
 
 -- the typed tree of a shader's text, or its first fault: its size, its grammar, then its types
 abbrev pub tree_of_checked : List ℕ → Found Tree → Reads Tree
-tree_of_checked file (Ok tree) = Ok tree
-tree_of_checked file (Err (code, line)) = Err (At file (of_type code) line)
+tree_of_checked name (Ok tree) = Ok tree
+tree_of_checked name (Err (code, line)) = Err (At (Shader name) line (of_type code))
 
 abbrev pub tree_of_parsed : List ℕ → Result syntax.Shader (SlCode × ℕ) → Reads Tree
-tree_of_parsed file (Ok shader) = tree_of_checked file (checked shader)
-tree_of_parsed file (Err (code, line)) = Err (At file (of_syntax code) line)
+tree_of_parsed name (Ok shader) = tree_of_checked name (checked shader)
+tree_of_parsed name (Err (code, line)) = Err (At (Shader name) line (of_syntax code))
 
 abbrev pub tree_of_bytes : List ℕ → List ℕ → Reads Tree
-tree_of_bytes file bytes = if nat_lt most_shader_bytes (length bytes) then Err (At file M10 1) else tree_of_parsed file (parsed bytes)
+tree_of_bytes name bytes = if nat_lt most_shader_bytes (length bytes) then Err (At (Shader name) 1 M10) else tree_of_parsed name (parsed bytes)
 
 abbrev pub tree_of_text : List ℕ → Option (List ℕ) → Reads Tree
-tree_of_text file None = Err (Missing file)
-tree_of_text file (Some bytes) = tree_of_bytes file bytes
+tree_of_text name None = Err (Missing (file_of name))
+tree_of_text name (Some bytes) = tree_of_bytes name bytes
 
 unfoldable pub shader_tree : Files → List ℕ → Reads Tree
-shader_tree files name = tree_of_text (file_of name) (shader_text files name)
+shader_tree files name = tree_of_text name (shader_text files name)
 
 -- these texts without that one
 abbrev pub without : List ℕ → List (List ℕ) → List (List ℕ)

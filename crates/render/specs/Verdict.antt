@@ -10,7 +10,8 @@ use Rattle.scene_state.specs.Steps as steps
 use Rattle.render.specs.declared.code.Code.TheVariants.{U0, M10}
 use Rattle.render.specs.declared.command.Action.{Action}
 use Rattle.render.specs.declared.command.Action.TheVariants.{Render, Check}
-use Rattle.render.specs.Causes.{Cause, Missing, At, Reads}
+use Rattle.render.specs.declared.refusal.FileId.TheVariants.{Scene}
+use Rattle.render.specs.Causes.{Cause, Missing, At, Reads, unless}
 use Rattle.render.specs.Codes.{status_of_code, of_lex, of_request, of_state}
 use Rattle.render.specs.Command.{Command, command_of}
 use Rattle.render.specs.Shaders.{shader_names, shaders_refused, shaders_asked}
@@ -22,26 +23,35 @@ use Rattle.render.specs.Pictures.{frames_of}
 abbrev pub most_bytes : ℕ
 most_bytes = 16777216
 
--- the scene of a file of that name, or its first fault: its size, its tokens, its requests, then its graphics state
-abbrev pub scene_of_state : List ℕ → Result SceneValue steps.Placed → Reads SceneValue
-scene_of_state name (Ok scene) = Ok scene
-scene_of_state name (Err (code, line)) = Err (At name (of_state code) line)
+-- the text that is held under a name, or why it isn't read
+abbrev pub text_of_held : List ℕ → Option (List ℕ) → Reads (List ℕ)
+text_of_held name None = Err (Missing name)
+text_of_held name (Some bytes) = if nat_lt most_bytes (length bytes) then Err (At Scene 1 M10) else Ok bytes
 
-abbrev pub scene_of_requests : List ℕ → Result (List reading.Read) reading.Placed → Reads SceneValue
-scene_of_requests name (Ok requests) = scene_of_state name (steps.scene_of requests)
-scene_of_requests name (Err (code, line)) = Err (At name (of_request code) line)
+-- the scene of a text, or its first fault: its tokens, its requests, then its graphics state
+abbrev pub scene_of_state : Result SceneValue steps.Placed → Reads SceneValue
+scene_of_state (Ok scene) = Ok scene
+scene_of_state (Err (code, line)) = Err (At Scene line (of_state code))
 
-abbrev pub scene_of_tokens : List ℕ → Result (List Token) tokens.Placed → Reads SceneValue
-scene_of_tokens name (Ok ts) = scene_of_requests name (reading.requests_of ts)
-scene_of_tokens name (Err (code, line)) = Err (At name (of_lex code) line)
+abbrev pub scene_of_requests : Result (List reading.Read) reading.Placed → Reads SceneValue
+scene_of_requests (Ok requests) = scene_of_state (steps.scene_of requests)
+scene_of_requests (Err (code, line)) = Err (At Scene line (of_request code))
 
-abbrev pub scene_of_held : List ℕ → Option (List ℕ) → Reads SceneValue
-scene_of_held name None = Err (Missing name)
-scene_of_held name (Some bytes) = if nat_lt most_bytes (length bytes) then Err (At name M10 1) else scene_of_tokens name (tokens.tokens_of bytes)
+abbrev pub scene_of_tokens : Result (List Token) tokens.Placed → Reads SceneValue
+scene_of_tokens (Ok ts) = scene_of_requests (reading.requests_of ts)
+scene_of_tokens (Err (code, line)) = Err (At Scene line (of_lex code))
 
--- the scene that is held under a name
-unfoldable pub scene_held : Files → List ℕ → Reads SceneValue
-scene_held files name = scene_of_held name (held_as files name)
+unfoldable pub scene_of_text : List ℕ → Reads SceneValue
+scene_of_text text = scene_of_tokens (tokens.tokens_of text)
+
+-- a scene is accepted where its shaders are right, by first use, and then the parameters of its shader requests
+abbrev pub accepted_scene : Files → Reads SceneValue → Reads SceneValue
+accepted_scene files (Ok scene) = unless (shaders_refused files (shader_names scene.uses)) (unless (uses_refused files scene.uses) (Ok scene))
+accepted_scene files (Err cause) = Err cause
+
+-- the accepted scene of a text over the files that are held
+abbrev pub accepted : Files → List ℕ → Reads SceneValue
+accepted files text = accepted_scene files (scene_of_text text)
 
 pub data Verdict : Type 0 where
   Usage : Verdict
@@ -49,28 +59,22 @@ pub data Verdict : Type 0 where
   Accepted : (action : Action) → (scene : SceneValue) → Verdict
 
 -- to be rendered, a scene has to be one that is drawn so far
-abbrev pub verdict_if_drawn : Command → Action → Bool → SceneValue → Verdict
-verdict_if_drawn c Render true scene = Accepted Render scene
-verdict_if_drawn c Render false scene = Refused (At c.name U0 1)
-verdict_if_drawn c Check drawn scene = Accepted Check scene
+abbrev pub verdict_if_drawn : Action → Bool → SceneValue → Verdict
+verdict_if_drawn Render true scene = Accepted Render scene
+verdict_if_drawn Render false scene = Refused (At Scene 1 U0)
+verdict_if_drawn Check drawn scene = Accepted Check scene
 
--- a refusal, if there is one
-abbrev pub unless : Option Cause → Verdict → Verdict
-unless (Some cause) verdict = Refused cause
-unless None verdict = verdict
+abbrev pub verdict_of_scene : Action → Files → Reads SceneValue → Verdict
+verdict_of_scene action files (Ok scene) = verdict_if_drawn action (is_drawn files scene) scene
+verdict_of_scene action files (Err cause) = Refused cause
 
--- a scene's shaders come by first use, and then the parameters of its shader requests
-abbrev pub verdict_of_scene : Command → Files → SceneValue → Verdict
-verdict_of_scene c files scene =
-    unless (shaders_refused files (shader_names scene.uses)) (unless (uses_refused files c.name scene.uses) (verdict_if_drawn c c.action (is_drawn files scene) scene))
-
-abbrev pub verdict_of_read : Command → Files → Reads SceneValue → Verdict
-verdict_of_read c files (Ok scene) = verdict_of_scene c files scene
-verdict_of_read c files (Err cause) = Refused cause
+abbrev pub verdict_of_text : Action → Files → Reads (List ℕ) → Verdict
+verdict_of_text action files (Ok text) = verdict_of_scene action files (accepted files text)
+verdict_of_text action files (Err cause) = Refused cause
 
 abbrev pub verdict_of_command : Option Command → Files → Verdict
 verdict_of_command None files = Usage
-verdict_of_command (Some c) files = verdict_of_read c files (scene_held files c.name)
+verdict_of_command (Some c) files = verdict_of_text c.action files (text_of_held c.name (held_as files c.name))
 
 -- the verdict of a command's words over the files that are held
 abbrev pub verdict : List (List ℕ) → Files → Verdict
@@ -78,7 +82,7 @@ verdict words files = verdict_of_command (command_of words) files
 
 abbrev pub status_of_cause : Cause → ℕ
 status_of_cause (Missing file) = 6
-status_of_cause (At file code line) = status_of_code code
+status_of_cause (At file line code) = status_of_code code
 
 abbrev pub status_of : Verdict → ℕ
 status_of Usage = 2
@@ -95,9 +99,13 @@ abbrev pub asked_for_scene : Files → Reads SceneValue → List (List ℕ)
 asked_for_scene files (Ok scene) = shaders_asked files (shader_names scene.uses)
 asked_for_scene files (Err cause) = []
 
+abbrev pub asked_for_text : Files → Reads (List ℕ) → List (List ℕ)
+asked_for_text files (Ok text) = asked_for_scene files (scene_of_text text)
+asked_for_text files (Err cause) = []
+
 abbrev pub asked_for_command : Option Command → Files → List (List ℕ)
 asked_for_command None files = []
-asked_for_command (Some c) files = c.name ∷ asked_for_scene files (scene_held files c.name)
+asked_for_command (Some c) files = c.name ∷ asked_for_text files (text_of_held c.name (held_as files c.name))
 
 abbrev pub asked_of : List (List ℕ) → Files → List (List ℕ)
 asked_of words files = asked_for_command (command_of words) files

@@ -1,5 +1,5 @@
 // The codes of refused scenes and shaders.
-ghost use Rattle.std.specs.Prelude.{◌≡◌};
+ghost use Rattle.std.specs.Prelude.{◌≡◌, ◌≤◌};
 ghost use Rattle.render.specs.Codes.{text_of, status_of_code, of_lex, of_request, of_state, of_syntax, of_type};
 
 use rib_lex::LexCode;
@@ -162,16 +162,21 @@ impl Code {
 
     /// The status of a run that is refused by this code.
     pub fn status(self) -> u8
-        ensures { result ≡ status_of_code self }
+        ensures status { result ≡ status_of_code self }
+        ensures least { 3 ≤ result }
+        ensures most { result ≤ 5 }
     {
         match self {
+            Code::L1 | Code::L2 | Code::L3 | Code::L4 => 3,
+            Code::S1 | Code::S2 | Code::S3 | Code::S4 | Code::S5 => 3,
+            Code::N1 | Code::N2 | Code::N3 | Code::N4 | Code::N5 => 3,
+            Code::P1 | Code::P2 | Code::P3 | Code::U0 => 3,
             Code::T1 | Code::T2 | Code::T3 | Code::T4 | Code::T5 | Code::T6 => 4,
             Code::T7 | Code::T8 | Code::T9 | Code::T10 | Code::T11 => 4,
             Code::B1 | Code::B2 | Code::B3 => 4,
             Code::G1 | Code::G2 | Code::G3 | Code::G4 | Code::G5 => 5,
             Code::M1 | Code::M2 | Code::M3 | Code::M4 | Code::M5 | Code::M6 | Code::M7 => 5,
             Code::M8 | Code::M10 => 5,
-            _ => 3,
         }
     }
 }

@@ -3,7 +3,7 @@ ghost use Rattle.std.specs.Prelude.{◌≡◌, false, IfOk, option_map, codes};
 ghost use Rattle.clap.specs.Matches.{found_of, first_value};
 ghost use Rattle.clap.specs.Simple.{app_of};
 ghost use Rattle.clap.specs.Walk.{rule_of};
-ghost use Rattle.render.specs.Command.{reyes, action_rule, name_rule, bucket_rule, grid_points_rule, stats_rule, action_named, command_for, command_of, found};
+ghost use Rattle.render.specs.Command.{reyes, action_rule, name_rule, bucket_rule, grid_points_rule, stats_rule, action_named, number_in, is_set, options_for, command_for, command_of, command_view};
 ghost use Rattle.render.specs.Texts.{texts};
 
 use clap::builder::ValueParser;
@@ -19,6 +19,26 @@ pub(crate) enum Action {
     Render,
     /// It is read to its end, and nothing is written.
     Check,
+}
+
+/// The options of a command.
+#[derive(Debug, Clone, Copy, PartialEq, Eq)]
+pub(crate) struct RunOptions {
+    /// The side of a bucket in pixels, 4 to 64.
+    pub bucket: u32,
+    /// The most points of the grids that are held shaded at one time, 289 to 1,000,000.
+    pub grid_points: u32,
+    /// Whether a note tells what was done.
+    pub stats: bool,
+}
+
+/// What a command asks for.
+#[derive(Debug, Clone, Copy)]
+pub(crate) struct SceneCommand<'a> {
+    pub action: Action,
+    /// The scene's name.
+    pub name: &'a str,
+    pub options: RunOptions,
 }
 
 fn action_arg<'a>(alloc: Global) -> Arg<'a>
@@ -90,21 +110,58 @@ fn action_named(action: &str) -> Option<Action>
     }
 }
 
+// The number that a text writes, where it is one in this range.
+fn number_in(low: u32, high: u32, text: &str) -> Option<u32>
+    ensures { result ≡ number_in low high text.now }
+{
+    match text.parse::<u32>() {
+        Ok(number) if low <= number && number <= high => Some(number),
+        _ => None,
+    }
+}
+
+fn is_set(text: Option<&str>) -> bool
+    ensures { result ≡ is_set (option_map (λ t. t.now) text.entry) }
+{
+    match text {
+        Some(text) => text == "true",
+        None => false,
+    }
+}
+
+// The options among the words that clap found.
+fn options_found(matches: &ArgMatches<'_>) -> Option<RunOptions>
+    ensures { result ≡ options_for (first_value (found_of matches.now) (codes "bucket")) (first_value (found_of matches.now) (codes "grid-points")) (first_value (found_of matches.now) (codes "stats")) }
+{
+    Some(RunOptions {
+        bucket: number_in(4, 64, matches.get_str("bucket")?)?,
+        grid_points: number_in(289, 1000000, matches.get_str("grid-points")?)?,
+        stats: is_set(matches.get_str("stats")),
+    })
+}
+
 // The command among the words that clap found, where the action is one that is built.
-fn command_found<'a>(matches: &ArgMatches<'a>) -> Option<(Action, &'a str)>
-    ensures { option_map found result ≡ command_for (first_value (found_of matches.now) (codes "action")) (first_value (found_of matches.now) (codes "name")) }
+fn command_found<'a>(matches: &ArgMatches<'a>) -> Option<SceneCommand<'a>>
+    ensures { option_map command_view result ≡ command_for (first_value (found_of matches.now) (codes "action")) (first_value (found_of matches.now) (codes "name"))
+        (options_for (first_value (found_of matches.now) (codes "bucket")) (first_value (found_of matches.now) (codes "grid-points")) (first_value (found_of matches.now) (codes "stats"))) }
 {
     let action = matches.get_str("action")?;
     let name = matches.get_str("name")?;
-    Some((action_named(action)?, name))
+    let options = options_found(matches)?;
+    let action = action_named(action)?;
+    Some(SceneCommand {
+        action,
+        name,
+        options,
+    })
 }
 
-/// What a command asks for, and the name of its scene, where its words are in order.
+/// What a command asks for, where its words are in order.
 pub(crate) fn scene_command<'a>(
     alloc: Global,
     words: &'a [&'a str],
-) -> Result<Option<(Action, &'a str)>, NoMemory>
-    ensures { IfOk result (λ n. option_map found n ≡ command_of (texts words.now)) }
+) -> Result<Option<SceneCommand<'a>>, NoMemory>
+    ensures { IfOk result (λ c. option_map command_view c ≡ command_of (texts words.now)) }
 {
     let Ok(command) = command(alloc) else {
         return Err(NoMemory);

@@ -1,16 +1,17 @@
-// The picture of a frame, by the plain program: all cells of all primitives, looked through at each sample.
-ghost use Rattle.std.specs.Prelude.{◌≡◌, ◌≤◌, ◌++◌, ◌∷◌, [], IfOk, IfSome, MatchOption};
+// The picture of a frame, by the plain program: all cells of all primitives on the raster, looked through at each sample.
+ghost use Rattle.std.specs.Prelude.{◌≡◌, ◌≤◌, ◌++◌, ◌∷◌, [], length, IfOk, IfSome, MatchOption};
 ghost use Rattle.bound_split.specs.Leaves.{pending};
-ghost use Rattle.std.specs.List.{flat_map};
 ghost use Rattle.bound_split.specs.declared.splits.Decision.TheVariants.{Dice};
-ghost use Rattle.picture.specs.Cells.{quads_of};
-ghost use Rattle.render.specs.Pictures.{decide, leaf_cells, prim_quads, film_of, picture_bytes};
+ghost use Rattle.render.specs.Pictures.{decide, leaf_cells, picture_bytes};
+ghost use Rattle.render.specs.Still.{quads_of, prim_quads, prims_quads};
 
-use crate::drawn::whole_patch;
+use crate::whole::{Film, pixels};
 use bound_split::{Leaf, Walk};
 use dice::positions;
+use filter_ppm::{band_bytes, header};
 use fixed_math::{List, NoMemory};
-use picture::{Cell, Film, Quad, band_bytes, cells_of_grid, header, pixels, quad_of};
+use hider::{Cell, Quad, cells_of_grid, quad_of};
+use patches::Piece;
 use scene_state::{Frame, Prim};
 use std::alloc::Global;
 use transforms::Camera;
@@ -43,7 +44,7 @@ fn push_quad(
     cell: &Cell,
     quads: &mut Vec<Quad>,
 ) -> Result<(), NoMemory>
-    ensures { IfOk result (λ _. quads.new.items ≡ quads.old.items ++ quads_of camera.now prim.now.one_sided prim.now.flip (cell.now ∷ [])) }
+    ensures { IfOk result (λ _. quads.new.items ≡ quads.old.items ++ quads_of camera.now prim.now (cell.now ∷ [])) }
 {
     if let Some(quad) = quad_of(camera, cell, prim.one_sided, prim.flip) {
         quads.push(quad)?;
@@ -58,7 +59,7 @@ fn push_quads(
     cells: &[Cell],
     quads: &mut Vec<Quad>,
 ) -> Result<(), NoMemory>
-    ensures { IfOk result (λ _. quads.new.items ≡ quads.old.items ++ quads_of camera.now prim.now.one_sided prim.now.flip cells.now) }
+    ensures { IfOk result (λ _. quads.new.items ≡ quads.old.items ++ quads_of camera.now prim.now cells.now) }
 {
     for cell in cells {
         push_quad(camera, prim, cell, quads)?;
@@ -76,16 +77,17 @@ fn next_leaf(walk: &mut Walk, camera: &Camera, prim: &Prim) -> Option<Leaf>
     walk.next(&prim.patch, camera, prim.rate, prim.bound)
 }
 
-// Appends what the camera sees of a primitive, leaf by leaf.
+// Appends what the camera sees of primitive `number` of a frame, leaf by leaf.
 fn push_prim(
     alloc: Global,
     camera: &Camera,
+    number: u32,
     prim: &Prim,
     quads: &mut Vec<Quad>,
 ) -> Result<(), NoMemory>
-    ensures { IfOk result (λ _. quads.new.items ≡ quads.old.items ++ prim_quads camera.now prim.now) }
+    ensures { IfOk result (λ _. quads.new.items ≡ quads.old.items ++ prim_quads camera.now number prim.now) }
 {
-    let mut walk = Walk::new(whole_patch());
+    let mut walk = Walk::new(Piece::whole(number));
     while let Some(leaf) = next_leaf(&mut walk, camera, prim) {
         let cells = cells_in(alloc, prim, &leaf)?;
         push_quads(camera, prim, &cells, quads)?;
@@ -95,11 +97,12 @@ fn push_prim(
 
 // What the camera sees of all primitives.
 fn quads_in(alloc: Global, camera: &Camera, prims: &[Prim]) -> Result<Vec<Quad>, NoMemory>
-    ensures { IfOk result (λ quads. quads.items ≡ flat_map (prim_quads camera.now) prims.now) }
+    requires { length prims.now ≤ 65536 }
+    ensures { IfOk result (λ quads. quads.items ≡ prims_quads camera.now prims.now) }
 {
     let mut quads = Vec::new(alloc);
-    for prim in prims {
-        push_prim(alloc, camera, prim, &mut quads)?;
+    for number in 0..prims.len() {
+        push_prim(alloc, camera, number as u32, &prims[number], &mut quads)?;
     }
     Ok(quads)
 }
@@ -113,7 +116,7 @@ pub(crate) fn draw(alloc: Global, frame: &Frame) -> Result<Drawn, NoMemory>
     let (width, height) = (view.width, view.height);
     let options = frame.options;
     // here is told that all options are in order
-    let _limits = options.limits();
+    options.ranges_known();
     let quads = quads_in(alloc, &frame.camera, frame.prims.as_slice())?;
     let film = Film {
         width,

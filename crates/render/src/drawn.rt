@@ -15,19 +15,6 @@ use patches::Piece;
 use scene_state::{Filter, Frame, Options, Prim, Scene, ShaderUse};
 use transforms::Camera;
 
-/// A patch as one piece.
-pub(crate) fn whole_patch() -> Piece
-    ensures { result ≡ whole_of 0 }
-{
-    Piece {
-        prim: 0,
-        a: 0,
-        i: 0,
-        b: 0,
-        j: 0,
-    }
-}
-
 fn is_one(number: Num) -> bool
     ensures { result ≡ is_one number }
 {
@@ -64,7 +51,7 @@ fn is_plain(uses: &[ShaderUse], prim: &Prim) -> bool
 fn is_diced(camera: &Camera, prim: &Prim) -> bool
     ensures { result ≡ is_dice (decide camera.now prim.now (whole_of 0)) }
 {
-    match decide(&prim.patch, &whole_patch(), camera, prim.rate, prim.bound) {
+    match decide(&prim.patch, &Piece::whole(0), camera, prim.rate, prim.bound) {
         Decision::Dice { .. } => true,
         Decision::SplitU | Decision::SplitV => false,
     }

@@ -1,6 +1,7 @@
 //! The renderer as one call: words and files in, pictures out.
 #![tactic(auto)]
 
+mod accept;
 mod bindings;
 mod code;
 mod command;
@@ -10,12 +11,9 @@ mod load;
 mod program;
 mod refusal;
 mod shaders;
+mod whole;
 mod write;
 
 pub use code::Code;
 pub use program::run;
-
-#[cfg(test)]
-mod shader_tests;
-#[cfg(test)]
-mod tests;
+pub use refusal::{FileId, Refusal};

@@ -1,20 +1,22 @@
 // The whole program, as one call.
-ghost use Rattle.std.specs.Prelude.{◌≡◌, ◌≢◌, ◌≤◌, ◌⊎◌, false, Some, None};
+ghost use Rattle.std.specs.Prelude.{◌≡◌, ◌≢◌, ◌≤◌, ◌⊎◌, true, false, Some, IfOk, option_map, string_bytes};
 ghost use Rattle.outside.specs.Causes.{Rose, Told};
-ghost use Rattle.outside.specs.Frames.{AddsFront};
 ghost use Rattle.outside.specs.Asked.{AsksFront};
 ghost use Rattle.render.specs.Texts.{texts};
-ghost use Rattle.render.specs.Command.{command_of};
-ghost use Rattle.render.specs.Verdict.{verdict, verdict_of_command, status_of, pictures_of, asked_for_command, asked_of};
-ghost use Rattle.render.specs.Done.{IsDone, IsComplete};
-ghost use Rattle.render.specs.Answers.{Agrees, IsToRender, ComesBefore, number_of};
-ghost use Rattle.render.specs.declared.program.Answer.TheVariants.{Done, Usage, Refused, WriteFault, Exhausted};
-ghost use Rattle.render.specs.declared.refusal.Refusal.TheVariants.{ReadFault, NoMemory};
+ghost use Rattle.render.specs.Run.{IsUsage, draws, draws_action, IsAccepted, HasStatus, AnswersVerdict, IsRefused, AddsFrames, AddsFirstFrames, AsksFirstNames};
+ghost use Rattle.render.specs.Command.{command_view};
+ghost use Rattle.render.specs.Verdict.{verdict, verdict_of_command, asked_for_command};
+ghost use Rattle.render.specs.Causes.{Cause};
+ghost use Rattle.render.specs.Notes.{name_in_notes, fault_line, note_of};
+ghost use Rattle.render.specs.Answers.{Agrees, ComesBefore, number_of, cause_told};
+ghost use Rattle.render.specs.declared.program.Answer.TheVariants.{Usage, Refused, WriteFault, NoMemory as OutOfMemory};
+ghost use Rattle.render.specs.declared.refusal.Refusal.TheVariants.{ReadFault};
 
-use crate::command::{Action, scene_command};
+use crate::command::{Action, SceneCommand, scene_command};
 use crate::load::load;
-use crate::refusal::Refusal;
+use crate::refusal::{FileId, Refusal};
 use crate::write::{Stop, write_frames};
+use fixed_math::NoMemory;
 use outside::{FrameSink, Library, Notes};
 use std::alloc::Global;
 
@@ -23,97 +25,142 @@ use std::alloc::Global;
 enum Answer {
     Done,
     Usage,
-    /// No frame was begun.
+    /// The library lacks the scene.
+    NoScene,
     Refused(Refusal),
     WriteFault,
-    /// Memory ran out behind some first frames.
-    Exhausted,
+    /// Memory ran out, maybe behind some first frames.
+    NoMemory,
 }
 
-// What is asked for and done, where the words are a command.
+// Carries out a command.
 fn obeyed<L: Library, O: FrameSink>(
     alloc: Global,
-    action: Action,
-    name: &str,
+    command: &SceneCommand<'_>,
     library: &mut L,
     frames: &mut O,
 ) -> Answer
     requires { O.is_open frames.old ≡ false }
     ensures command { result ≢ Usage }
-    ensures verdict { Told (L.held library.old) (λ files. Agrees result (verdict_of_command (Some (record { action = action; name = name.now })) files) (O.written frames.old) (O.written frames.new)) }
+    ensures verdict { Told (L.held library.old) (λ files. Agrees command.now.name.now result (verdict_of_command (Some (command_view command.now)) files) (O.written frames.old) (O.written frames.new)) }
     ensures before { ComesBefore result → O.written frames.new ≡ O.written frames.old }
     ensures closed { result ≢ WriteFault → O.is_open frames.new ≡ false }
-    ensures asked { Told (L.held library.old) (λ files. AsksFront (asked_for_command (Some (record { action = action; name = name.now })) files) (L.asked library.old) (L.asked library.new)) }
+    ensures unwritten { draws_action command.now.action ≡ false → O.written frames.new ≡ O.written frames.old }
+    ensures drawn { result ≡ WriteFault → draws_action command.now.action ≡ true }
+    ensures held { L.held library.new ≡ L.held library.old }
+    ensures asked { Told (L.held library.old) (λ files. AsksFront (asked_for_command (Some (command_view command.now)) files) (L.asked library.old) (L.asked library.new)) }
     ensures library_later { L.faults library.old ≤ L.faults library.new }
     ensures sink_later { O.faults frames.old ≤ O.faults frames.new }
     ensures read { result ≡ Refused ReadFault → Rose (L.faults library.old) (L.faults library.new) }
     ensures write { result ≡ WriteFault → Rose (O.faults frames.old) (O.faults frames.new) }
 {
-    let scene = match load(alloc, library, action, name) {
-        Ok(scene) => scene,
+    let scene = match load(alloc, library, command) {
+        Ok(Some(scene)) => scene,
+        Ok(None) => return Answer::NoScene,
         Err(refusal) => return Answer::Refused(refusal),
     };
-    match action {
+    match command.action {
         Action::Check => Answer::Done,
         Action::Render => match write_frames(alloc, frames, scene.frames.as_slice()) {
             Ok(()) => Answer::Done,
             Err(Stop::Stopped) => Answer::WriteFault,
-            Err(Stop::NoMemory) => Answer::Exhausted,
+            Err(Stop::NoMemory) => Answer::NoMemory,
         },
     }
 }
 
-// All but the note.
-fn answered<L: Library, O: FrameSink>(
+// All but the note: what the words come to, and the scene's name.
+fn answered<'a, L: Library, O: FrameSink>(
     alloc: Global,
-    words: &[&str],
+    words: &'a [&'a str],
     library: &mut L,
     frames: &mut O,
-) -> Answer
+) -> (Answer, &'a str)
     requires { O.is_open frames.old ≡ false }
-    ensures usage { result ≡ Usage → command_of (texts words.now) ≡ None }
-    ensures usage_known { command_of (texts words.now) ≡ None → (result ≡ Usage) ⊎ (result ≡ Refused NoMemory) }
-    ensures verdict { Told (L.held library.old) (λ files. Agrees result (verdict (texts words.now) files) (O.written frames.old) (O.written frames.new)) }
-    ensures before { ComesBefore result → O.written frames.new ≡ O.written frames.old }
-    ensures closed { result ≢ WriteFault → O.is_open frames.new ≡ false }
-    ensures asked { Told (L.held library.old) (λ files. AsksFront (asked_of (texts words.now) files) (L.asked library.old) (L.asked library.new)) }
+    ensures usage { result.0 ≡ Usage → IsUsage (texts words.now) }
+    ensures usage_known { IsUsage (texts words.now) → (result.0 ≡ Usage) ⊎ (result.0 ≡ OutOfMemory) }
+    ensures verdict { Told (L.held library.old) (λ files. Agrees result.1.now result.0 (verdict (texts words.now) files) (O.written frames.old) (O.written frames.new)) }
+    ensures before { ComesBefore result.0 → O.written frames.new ≡ O.written frames.old }
+    ensures closed { result.0 ≢ WriteFault → O.is_open frames.new ≡ false }
+    ensures unwritten { draws (texts words.now) ≡ false → O.written frames.new ≡ O.written frames.old }
+    ensures drawn { result.0 ≡ WriteFault → draws (texts words.now) ≡ true }
+    ensures held { L.held library.new ≡ L.held library.old }
+    ensures asked { Told (L.held library.old) (λ files. AsksFirstNames (texts words.now) files (L.asked library.old) (L.asked library.new)) }
     ensures library_later { L.faults library.old ≤ L.faults library.new }
     ensures sink_later { O.faults frames.old ≤ O.faults frames.new }
-    ensures read { result ≡ Refused ReadFault → Rose (L.faults library.old) (L.faults library.new) }
-    ensures write { result ≡ WriteFault → Rose (O.faults frames.old) (O.faults frames.new) }
+    ensures read { result.0 ≡ Refused ReadFault → Rose (L.faults library.old) (L.faults library.new) }
+    ensures write { result.0 ≡ WriteFault → Rose (O.faults frames.old) (O.faults frames.new) }
 {
     match scene_command(alloc, words) {
-        Ok(Some((action, name))) => obeyed(alloc, action, name, library, frames),
-        Ok(None) => Answer::Usage,
-        Err(_) => Answer::Refused(Refusal::NoMemory),
+        Ok(Some(command)) => (obeyed(alloc, &command, library, frames), command.name),
+        Ok(None) => (Answer::Usage, ""),
+        Err(_) => (Answer::NoMemory, ""),
     }
 }
 
-// The status of an answer.
-fn status(answer: &Answer) -> u8
-    ensures { result ≡ number_of answer.now }
+// The note of a fault in a file.
+fn fault_note(
+    alloc: Global,
+    scene: &str,
+    file: &FileId,
+    line: u32,
+    code: &str,
+) -> Result<String, NoMemory>
+    ensures { IfOk result (λ n. string_bytes n ≡ fault_line (name_in_notes scene.now file.now) line code.now) }
+{
+    Ok(match file {
+        FileId::Scene => format!(in alloc; "{scene}:{line}: {code}\n")?,
+        FileId::Shader(name) => {
+            let name = name.as_str();
+            format!(in alloc; "{name}.sl:{line}: {code}\n")?
+        }
+    })
+}
+
+// The note of an answer, where the scene has this name. There is none of want of memory, whose note takes no memory.
+fn note(alloc: Global, scene: &str, answer: &Answer) -> Result<Option<String>, NoMemory>
+    ensures { (cause : Cause) → cause_told scene.now answer.now ≡ Some cause → IfOk result (λ n. option_map string_bytes n ≡ Some (note_of scene.now cause)) }
+{
+    let text = match answer {
+        Answer::Done => return Ok(None),
+        Answer::Usage => String::from_str(alloc, "usage\n")?,
+        Answer::NoScene => format!(in alloc; "{scene}: missing\n")?,
+        Answer::Refused(Refusal::At { file, line, code }) => {
+            fault_note(alloc, scene, file, *line, code.as_str())?
+        }
+        Answer::Refused(Refusal::Missing(file)) => {
+            let file = file.as_str();
+            format!(in alloc; "{file}: missing\n")?
+        }
+        Answer::Refused(Refusal::ReadFault) => String::from_str(alloc, "read fault\n")?,
+        Answer::WriteFault => String::from_str(alloc, "write fault\n")?,
+        Answer::Refused(Refusal::NoMemory) | Answer::NoMemory => return Err(NoMemory),
+    };
+    Ok(Some(text))
+}
+
+// Gives the line of a note to the user.
+fn tell<N: Notes>(notes: &mut N, note: &Result<Option<String>, NoMemory>) {
+    let _ = match note {
+        Ok(None) => Ok(()),
+        Ok(Some(text)) => notes.line(text.as_bytes()),
+        Err(_) => notes.line(b"no memory\n"),
+    };
+}
+
+// The status of an answer whose note is this.
+fn status(answer: &Answer, note: &Result<Option<String>, NoMemory>) -> u8
+    ensures number { (result ≡ number_of answer.now) ⊎ (result ≡ 9) }
+    ensures answers { (result ≡ 0) ⊎ ((2 ≤ result) × (result ≤ 9)) }
 {
     match answer {
+        _ if note.is_err() => 9,
         Answer::Done => 0,
         Answer::Usage => 2,
-        Answer::Refused(Refusal::At { code, .. }) => code.status(),
-        Answer::Refused(Refusal::Missing(_)) => 6,
-        Answer::Refused(Refusal::ReadFault) => 7,
+        Answer::NoScene => 6,
+        Answer::Refused(refusal) => refusal.status(),
         Answer::WriteFault => 8,
-        Answer::Refused(Refusal::NoMemory) | Answer::Exhausted => 9,
-    }
-}
-
-// The note of an answer.
-fn note(answer: &Answer) -> Option<&str> {
-    match answer {
-        Answer::Done => None,
-        Answer::Usage => Some("usage\n"),
-        Answer::Refused(Refusal::At { note, .. }) => Some(note.as_str()),
-        Answer::Refused(Refusal::Missing(note)) => Some(note.as_str()),
-        Answer::Refused(Refusal::ReadFault) => Some("read fault\n"),
-        Answer::WriteFault => Some("write fault\n"),
-        Answer::Refused(Refusal::NoMemory) | Answer::Exhausted => Some("no memory\n"),
+        Answer::NoMemory => 9,
     }
 }
 
@@ -137,33 +184,41 @@ pub fn run<'a, L: Library, O: FrameSink, N: Notes>(
 ) -> u8
     requires { O.is_open frames.old ≡ false }
 
+    // The answers, and what follows from the words alone.
+    ensures answers { (result ≡ 0) ⊎ ((2 ≤ result) × (result ≤ 9)) }
+    ensures usage { result ≡ 2 → IsUsage (texts words.now) }
+    ensures usage_known { IsUsage (texts words.now) → (result ≡ 2) ⊎ (result ≡ 9) }
+    ensures write_draws { result ≡ 8 → draws (texts words.now) ≡ true }
+    ensures undrawn { draws (texts words.now) ≡ false → O.written frames.new ≡ O.written frames.old }
+    ensures undrawn_closed { draws (texts words.now) ≡ false → O.is_open frames.new ≡ false }
+
     // 0: the entries added are exactly the frames of the accepted scene, each whole and ended; none where it was to be checked.
-    ensures done { result ≡ 0 → Told (L.held library.old) (λ files. IsDone (verdict (texts words.now) files) (O.written frames.old) (O.written frames.new)) }
+    ensures accepted { result ≡ 0 → Told (L.held library.old) (λ files. IsAccepted (texts words.now) files) }
+    ensures done { result ≡ 0 → Told (L.held library.old) (λ files. AddsFrames (texts words.now) files (O.written frames.old) (O.written frames.new)) }
 
     // Every answer leaves a prefix of the frames, and one before the first frame leaves nothing new.
-    ensures left { Told (L.held library.old) (λ files. AddsFront (pictures_of (verdict (texts words.now) files)) (O.written frames.old) (O.written frames.new)) }
+    ensures left { Told (L.held library.old) (λ files. AddsFirstFrames (texts words.now) files (O.written frames.old) (O.written frames.new)) }
     ensures before { 2 ≤ result → result ≤ 7 → O.written frames.new ≡ O.written frames.old }
-    ensures closed { result ≢ 8 → O.is_open frames.new ≡ false }
+    ensures closed { result ≢ 8 → result ≢ 9 → O.is_open frames.new ≡ false }
 
     // Each answer but want of memory has its cause.
-    ensures usage { result ≡ 2 → command_of (texts words.now) ≡ None }
-    ensures usage_known { command_of (texts words.now) ≡ None → (result ≡ 2) ⊎ (result ≡ 9) }
-    ensures verdict { result ≤ 6 → Told (L.held library.old) (λ files. status_of (verdict (texts words.now) files) ≡ result) }
+    ensures verdict { result ≤ 6 → Told (L.held library.old) (λ files. HasStatus (texts words.now) files result) }
     ensures read { result ≡ 7 → Rose (L.faults library.old) (L.faults library.new) }
     ensures write { result ≡ 8 → Rose (O.faults frames.old) (O.faults frames.new) }
-    ensures write_accepted { result ≡ 8 → Told (L.held library.old) (λ files. IsToRender (verdict (texts words.now) files)) }
+    ensures write_accepted { result ≡ 8 → Told (L.held library.old) (λ files. IsAccepted (texts words.now) files) }
 
-    // Where nothing failed, the answer is the verdict's or want of memory.
-    ensures complete { Told (L.held library.old) (λ files. IsComplete (status_of (verdict (texts words.now) files)) result (Rose (L.faults library.old) (L.faults library.new)) (Rose (O.faults frames.old) (O.faults frames.new))) }
+    // Where nothing failed, the answer is the verdict's or want of memory; where the scene is refused, the sink's faults don't matter.
+    ensures complete { (Rose (L.faults library.old) (L.faults library.new) → ⊥) → (Rose (O.faults frames.old) (O.faults frames.new) → ⊥) → Told (L.held library.old) (λ files. AnswersVerdict (texts words.now) files result) }
+    ensures complete_refused { (Rose (L.faults library.old) (L.faults library.new) → ⊥) → Told (L.held library.old) (λ files. IsRefused (texts words.now) files → AnswersVerdict (texts words.now) files result) }
 
-    // Only names that the verdict asks for were asked for, in its order.
-    ensures asked { Told (L.held library.old) (λ files. AsksFront (asked_of (texts words.now) files) (L.asked library.old) (L.asked library.new)) }
+    // Only names that the verdict asks for were asked for, in its order, and what is held stays.
+    ensures asked { Told (L.held library.old) (λ files. AsksFirstNames (texts words.now) files (L.asked library.old) (L.asked library.new)) }
+    ensures held { L.held library.new ≡ L.held library.old }
     ensures library_later { L.faults library.old ≤ L.faults library.new }
     ensures sink_later { O.faults frames.old ≤ O.faults frames.new }
 {
-    let answer = answered(alloc, words, library, frames);
-    if let Some(text) = note(&answer) {
-        let _ = notes.line(text.as_bytes());
-    }
-    status(&answer)
+    let (answer, scene) = answered(alloc, words, library, frames);
+    let note = note(alloc, scene, &answer);
+    tell(notes, &note);
+    status(&answer, &note)
 }

@@ -1,20 +1,49 @@
-// Why there is no scene.
-ghost use Rattle.std.specs.Prelude.{◌≡◌, ◌≢◌, Some, IsErrOf};
-ghost use Rattle.render.specs.Answers.{Because};
+// Why a scene isn't accepted.
+ghost use Rattle.std.specs.Prelude.{◌≡◌, ◌≢◌, ◌≤◌, Some};
+ghost use Rattle.render.specs.Answers.{Because, status_of_refusal};
 ghost use Rattle.render.specs.Causes as causes;
+ghost use Rattle.render.specs.declared.refusal.FileId.TheVariants.{Scene, Shader};
 ghost use Rattle.render.specs.declared.refusal.Refusal.TheVariants.{ReadFault, NoMemory as OutOfMemory};
 
 use crate::code::Code;
-use fixed_math::NoMemory;
+use fixed_math::{NoMemory, Text};
 use std::alloc::{AllocError, AllocFailed, Global};
 
-/// Why there is no scene, with the note for the user; a fault has its line in the file that the note names.
+/// A file that has a fault.
 #[derive(Drop)]
-pub(crate) enum Refusal {
-    Missing(String),
-    At { code: Code, line: u32, note: String },
+pub enum FileId {
+    /// The scene.
+    Scene,
+    /// The text of the shader of this name: `x.sl`, or the stock's.
+    Shader(Text),
+}
+
+/// Why a scene isn't accepted.
+#[derive(Drop)]
+pub enum Refusal {
+    /// A fault at a line of a file.
+    At { file: FileId, line: u32, code: Code },
+    /// The library lacks this file of a shader, and the stock lacks the shader.
+    Missing(Text),
+    /// The library failed.
     ReadFault,
     NoMemory,
+}
+
+impl Refusal {
+    /// The status of a run that is refused so.
+    pub fn status(&self) -> u8
+        ensures status { result ≡ status_of_refusal self.now }
+        ensures least { 3 ≤ result }
+        ensures most { result ≤ 9 }
+    {
+        match self {
+            Refusal::At { code, .. } => code.status(),
+            Refusal::Missing(_) => 6,
+            Refusal::ReadFault => 7,
+            Refusal::NoMemory => 9,
+        }
+    }
 }
 
 impl From<NoMemory> for Refusal {
@@ -41,25 +70,29 @@ impl<T: Drop> From<AllocFailed<T>> for Refusal {
     }
 }
 
-/// The refusal for a file that isn't there.
-pub(crate) fn missing(alloc: Global, file: &str) -> Refusal
-    ensures because { Because result (Some (causes.Missing file.now)) }
+/// The refusal by a code at a line of the scene.
+pub(crate) fn in_scene(code: Code, line: u32) -> Refusal
+    ensures because { Because result (Some (causes.At Scene line code)) }
     ensures held { result ≢ ReadFault }
 {
-    match format!(in alloc; "{file}: missing\n") {
-        Ok(note) => Refusal::Missing(note),
-        Err(_) => Refusal::NoMemory,
+    Refusal::At {
+        file: FileId::Scene,
+        line,
+        code,
     }
 }
 
-/// The refusal by a code at a line of a file.
-pub(crate) fn refused(alloc: Global, file: &str, code: Code, line: u32) -> Refusal
-    ensures because { Because result (Some (causes.At file.now code line)) }
+/// The refusal by a code at a line of a shader's text.
+pub(crate) fn in_shader(alloc: Global, name: &Text, code: Code, line: u32) -> Refusal
+    ensures because { Because result (Some (causes.At (Shader name.now) line code)) }
     ensures held { result ≢ ReadFault }
 {
-    let text = code.as_str();
-    match format!(in alloc; "{file}:{line}: {text}\n") {
-        Ok(note) => Refusal::At { code, line, note },
+    match name.copied(alloc) {
+        Ok(name) => Refusal::At {
+            file: FileId::Shader(name),
+            line,
+            code,
+        },
         Err(_) => Refusal::NoMemory,
     }
 }

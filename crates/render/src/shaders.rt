@@ -1,20 +1,21 @@
 // The shaders of a scene, from a library or the stock.
-ghost use Rattle.std.specs.Prelude.{◌≡◌, ◌≤◌, ◌∷◌, ◌++◌, [], IsErrOf, OnOk, OnErr, IfOk, map, length, string_bytes, option_map, true, false};
+ghost use Rattle.std.specs.Prelude.{◌≡◌, ◌≤◌, ◌∷◌, ◌++◌, [], IsErrOf, OnOk, OnErr, IfOk, Some, None, map, length, option_map, false, slice_get};
+ghost use Rattle.std.specs.Str.{IsAscii};
 ghost use Rattle.outside.specs.Causes.{Rose, Told};
 ghost use Rattle.outside.specs.Library.{held_as};
 ghost use Rattle.outside.specs.Asked.{AsksAll, AsksFront};
 ghost use Rattle.sl_ast.specs.ShaderView.{shader_of};
+ghost use Rattle.sl_ast.specs.TreeView.{tree_of};
 ghost use Rattle.sl_parser.specs.Files.{parsed};
 ghost use Rattle.sl_types.specs.Checked.{checked};
-ghost use Rattle.render.specs.Shaders.{file_of, stock_text, shader_tree, tree_of_checked, tree_of_parsed, tree_of_bytes, tree_of_text, shader_names, shaders_asked};
-ghost use Rattle.render.specs.Drawn.{is_nothing};
+ghost use Rattle.render.specs.Shaders.{file_of, stock_text, tree_of_checked, tree_of_parsed, tree_of_bytes, shader_names, shaders_asked};
 ghost use Rattle.render.specs.Answers.{Gives};
-ghost use Rattle.render.specs.Reading.{read_of, ReadsShader, ReadsNext, ReadsShaders, is_among, file_once, with_once, name_of};
+ghost use Rattle.render.specs.Reading.{GivesShaderText, ReadsShader, ReadsNext, ReadsShaders, ArePlaced, is_among, file_once, with_once, name_of};
 ghost use Rattle.render.specs.declared.refusal.Refusal.TheVariants.{ReadFault};
 
 use crate::code::{Code, of_syntax, of_type};
-use crate::refusal::{Refusal, missing, refused};
-use fixed_math::{NoMemory, Text};
+use crate::refusal::{Refusal, in_shader};
+use fixed_math::{List, Names, NoMemory, Text};
 use outside::{Fetch, Library};
 use scene_state::ShaderUse;
 use sl_ast::Tree;
@@ -33,48 +34,54 @@ pub(crate) struct ReadShader {
     pub stock: bool,
 }
 
-// The typed tree of an untyped one, and whether its text is the stock's.
-fn typed(
-    alloc: Global,
-    file: &str,
-    shader: &sl_ast::Shader,
+/// The shaders of a scene, each once, by first use, and beside each use the place of its shader.
+#[derive(Drop)]
+pub(crate) struct UsedShaders {
+    pub read: List<ReadShader>,
+    pub of_use: List<usize>,
+}
+
+/// A shader's text, and whether it is the stock's.
+#[derive(Drop)]
+struct ShaderText {
+    bytes: Vec<u8>,
     stock: bool,
-) -> Result<(Tree, bool), Refusal>
-    ensures gives { Gives read_of result (tree_of_checked file.now (checked (shader_of shader.now))) }
-    ensures stock { IfOk result (λ t. t.1 ≡ stock) }
+}
+
+// The typed tree of an untyped one.
+fn typed(alloc: Global, name: &Text, shader: &sl_ast::Shader) -> Result<Tree, Refusal>
+    ensures gives { Gives tree_of result (tree_of_checked name.now (checked (shader_of shader.now))) }
     ensures read { IsErrOf result ReadFault → ⊥ }
 {
     match check(alloc, shader) {
-        Ok(tree) => Ok((tree, stock)),
-        Err(TypeFault::At { code, line }) => Err(refused(alloc, file, of_type(code), line)),
+        Ok(tree) => Ok(tree),
+        Err(TypeFault::At { code, line }) => Err(in_shader(alloc, name, of_type(code), line)),
         Err(TypeFault::NoMemory) => Err(Refusal::NoMemory),
     }
 }
 
-// The same of a text that isn't too long.
-fn of_text(alloc: Global, file: &str, bytes: &[u8], stock: bool) -> Result<(Tree, bool), Refusal>
-    requires { length bytes.now ≤ 1048576 }
-    ensures gives { Gives read_of result (tree_of_parsed file.now (parsed bytes.now)) }
-    ensures stock { IfOk result (λ t. t.1 ≡ stock) }
+// The typed tree of a text that isn't too long.
+fn of_text(alloc: Global, name: &Text, text: &[u8]) -> Result<Tree, Refusal>
+    requires { length text.now ≤ 1048576 }
+    ensures gives { Gives tree_of result (tree_of_parsed name.now (parsed text.now)) }
     ensures read { IsErrOf result ReadFault → ⊥ }
 {
-    match parse(alloc, bytes) {
-        Ok(shader) => typed(alloc, file, &shader, stock),
-        Err(SlFault::At { code, line }) => Err(refused(alloc, file, of_syntax(code), line)),
+    match parse(alloc, text) {
+        Ok(shader) => typed(alloc, name, &shader),
+        Err(SlFault::At { code, line }) => Err(in_shader(alloc, name, of_syntax(code), line)),
         Err(SlFault::NoMemory) => Err(Refusal::NoMemory),
     }
 }
 
-// The same of a text.
-fn of_bytes(alloc: Global, file: &str, bytes: &[u8], stock: bool) -> Result<(Tree, bool), Refusal>
-    ensures gives { Gives read_of result (tree_of_bytes file.now bytes.now) }
-    ensures stock { IfOk result (λ t. t.1 ≡ stock) }
+// The typed tree of a text.
+fn of_bytes(alloc: Global, name: &Text, bytes: &[u8]) -> Result<Tree, Refusal>
+    ensures gives { Gives tree_of result (tree_of_bytes name.now bytes.now) }
     ensures read { IsErrOf result ReadFault → ⊥ }
 {
     if MOST_BYTES < bytes.len() as u64 {
-        return Err(refused(alloc, file, Code::M10, 1));
+        return Err(in_shader(alloc, name, Code::M10, 1));
     }
-    of_text(alloc, file, bytes, stock)
+    of_text(alloc, name, bytes)
 }
 
 #[tactic(auto, unfolding(crate::specs::Shaders::stock_text))]
@@ -84,57 +91,56 @@ fn stock_text(name: &str) -> Option<&'static str>
     stock::text(name)
 }
 
-// The same of the stock's text.
-fn of_stock(alloc: Global, name: &str, file: &str) -> Result<(Tree, bool), Refusal>
-    ensures gives { Gives read_of result (tree_of_text file.now (stock_text name.now)) }
-    ensures stock { IfOk result (λ t. t.1 ≡ true) }
+// The stock's text of a shader whose file isn't there.
+fn of_stock(alloc: Global, name: &Text, file: Text) -> Result<ShaderText, Refusal>
+    requires { file ≡ file_of name.now }
+    ensures gives { GivesShaderText name.now None result }
     ensures read { IsErrOf result ReadFault → ⊥ }
 {
-    match stock_text(name) {
-        Some(text) => of_bytes(alloc, file, text.as_bytes(), true),
-        None => Err(missing(alloc, file)),
-    }
-}
-
-// The typed tree of a shader whose file has that name, and whether its text is the stock's.
-fn read_tree<L: Library>(
-    alloc: Global,
-    library: &mut L,
-    name: &str,
-    file: &str,
-) -> Result<(Tree, bool), Refusal>
-    requires { file.now ≡ file_of name.now }
-    ensures held { L.held library.new ≡ L.held library.old }
-    ensures asked { AsksFront (file.now ∷ []) (L.asked library.old) (L.asked library.new) }
-    ensures asked_all { OnOk result (AsksAll (file.now ∷ []) (L.asked library.old) (L.asked library.new)) }
-    ensures gives { Told (L.held library.old) (λ files. Gives read_of result (shader_tree files name.now)) }
-    ensures stock { Told (L.held library.old) (λ files. IfOk result (λ t. is_nothing (held_as files file.now) ≡ t.1)) }
-    ensures later { L.faults library.old ≤ L.faults library.new }
-    ensures read { IsErrOf result ReadFault → Rose (L.faults library.old) (L.faults library.new) }
-{
-    let mut bytes = Vec::new(alloc);
-    match library.fetch(file, MOST_BYTES, &mut bytes) {
-        Fetch::Whole => of_bytes(alloc, file, &bytes, false),
-        Fetch::Missing => of_stock(alloc, name, file),
-        Fetch::TooLong => Err(refused(alloc, file, Code::M10, 1)),
-        Fetch::Failed => Err(Refusal::ReadFault),
-        Fetch::NoMemory => Err(Refusal::NoMemory),
+    match stock_text(name.as_str()) {
+        Some(text) => Ok(ShaderText {
+            bytes: Vec::from_slice(alloc, text.as_bytes())?,
+            stock: true,
+        }),
+        None => Err(Refusal::Missing(file)),
     }
 }
 
 // The file of a shader.
-fn file_of(alloc: Global, name: &str) -> Result<String, NoMemory>
-    ensures { IfOk result (λ f. string_bytes f ≡ file_of name.now) }
+#[tactic(auto, using(crate::proofs::FileNames::file_is_ascii))]
+fn file_of(alloc: Global, name: &Text) -> Result<Text, NoMemory>
+    ensures { IfOk result (λ f. f ≡ file_of name.now) }
 {
-    Ok(format!(in alloc; "{name}.sl")?)
+    let name = name.as_str();
+    let file = format!(in alloc; "{name}.sl")?;
+    Text::from_bytes(alloc, file.as_bytes())
 }
 
-// The shader of a name, with its tree.
-fn named(alloc: Global, name: &Text, tree: Tree, stock: bool) -> Result<ReadShader, NoMemory>
-    ensures { IfOk result (λ s. s ≡ record { name = name.now; tree = tree; stock = stock }) }
+// The text of a shader: its file's, or the stock's.
+fn fetch_text<L: Library>(
+    alloc: Global,
+    library: &mut L,
+    name: &Text,
+) -> Result<ShaderText, Refusal>
+    ensures held { L.held library.new ≡ L.held library.old }
+    ensures asked { AsksFront (file_of name.now ∷ []) (L.asked library.old) (L.asked library.new) }
+    ensures asked_all { OnOk result (AsksAll (file_of name.now ∷ []) (L.asked library.old) (L.asked library.new)) }
+    ensures gives { Told (L.held library.old) (λ files. GivesShaderText name.now (held_as files (file_of name.now)) result) }
+    ensures later { L.faults library.old ≤ L.faults library.new }
+    ensures read { IsErrOf result ReadFault → Rose (L.faults library.old) (L.faults library.new) }
 {
-    let name = Text::from_bytes(alloc, name.as_str().as_bytes())?;
-    Ok(ReadShader { name, tree, stock })
+    let file = file_of(alloc, name)?;
+    let mut bytes = Vec::new(alloc);
+    match library.fetch(file.as_str(), MOST_BYTES, &mut bytes) {
+        Fetch::Whole => Ok(ShaderText {
+            bytes,
+            stock: false,
+        }),
+        Fetch::Missing => of_stock(alloc, name, file),
+        Fetch::TooLong => Err(in_shader(alloc, name, Code::M10, 1)),
+        Fetch::Failed => Err(Refusal::ReadFault),
+        Fetch::NoMemory => Err(Refusal::NoMemory),
+    }
 }
 
 // Reads the shader of a name.
@@ -151,30 +157,25 @@ fn read_shader<L: Library>(
     ensures later { L.faults library.old ≤ L.faults library.new }
     ensures read { IsErrOf result ReadFault → Rose (L.faults library.old) (L.faults library.new) }
 {
-    let file = file_of(alloc, name.as_str())?;
-    let (tree, stock) = read_tree(alloc, library, name.as_str(), file.as_str())?;
-    Ok(named(alloc, name, tree, stock)?)
+    let text = fetch_text(alloc, library, name)?;
+    let tree = of_bytes(alloc, name, &text.bytes)?;
+    Ok(ReadShader {
+        name: name.copied(alloc)?,
+        tree,
+        stock: text.stock,
+    })
 }
 
-// Whether the shader of a name is among those that are read.
-fn is_read(shaders: &[ReadShader], name: &str) -> bool
-    ensures { result ≡ is_among name.now (map name_of shaders.now) }
-{
-    for shader in shaders {
-        if shader.name.as_str() == name {
-            return true;
-        }
-    }
-    false
-}
-
-// Reads the shader of a name behind those that are read.
-fn read_next<L: Library>(
+// Reads the shader of a name behind those that are read, whose names are in the table too.
+fn read_next<'a, L: Library>(
     alloc: Global,
     library: &mut L,
+    names: &mut Names<'a>,
     shaders: &mut Vec<ReadShader>,
-    name: &Text,
+    name: &'a Text,
 ) -> Result<(), Refusal>
+    requires { names.old ≡ map name_of shaders.old.items }
+    ensures table { OnOk result (names.new ≡ map name_of shaders.new.items) }
     ensures held { L.held library.new ≡ L.held library.old }
     ensures asked { AsksFront (file_of name.now ∷ []) (L.asked library.old) (L.asked library.new) }
     ensures asked_all { OnOk result (AsksAll (file_of name.now ∷ []) (L.asked library.old) (L.asked library.new)) }
@@ -185,16 +186,21 @@ fn read_next<L: Library>(
 {
     let read = read_shader(alloc, library, name)?;
     shaders.push(read)?;
+    names.push(name)?;
     Ok(())
 }
 
-// The same, but where the shader of that name is read already.
-fn read_once<L: Library>(
+// The same, but where the shader of that name is read already; gives the shader's place.
+fn read_once<'a, L: Library>(
     alloc: Global,
     library: &mut L,
+    names: &mut Names<'a>,
     shaders: &mut Vec<ReadShader>,
-    name: &Text,
-) -> Result<(), Refusal>
+    name: &'a Text,
+) -> Result<usize, Refusal>
+    requires { names.old ≡ map name_of shaders.old.items }
+    ensures table { OnOk result (names.new ≡ map name_of shaders.new.items) }
+    ensures place { IfOk result (λ p. slice_get (map name_of shaders.new.items) p ≡ Some name.now) }
     ensures held { L.held library.new ≡ L.held library.old }
     ensures asked { AsksFront (file_once (map name_of shaders.old.items) name.now) (L.asked library.old) (L.asked library.new) }
     ensures asked_all { OnOk result (AsksAll (file_once (map name_of shaders.old.items) name.now) (L.asked library.old) (L.asked library.new)) }
@@ -204,10 +210,14 @@ fn read_once<L: Library>(
     ensures later { L.faults library.old ≤ L.faults library.new }
     ensures read { IsErrOf result ReadFault → Rose (L.faults library.old) (L.faults library.new) }
 {
-    if is_read(shaders, name.as_str()) {
-        return Ok(());
+    match names.place_of(name) {
+        Some(place) => Ok(place),
+        None => {
+            let place = names.len();
+            read_next(alloc, library, names, shaders, name)?;
+            Ok(place)
+        }
     }
-    read_next(alloc, library, shaders, name)
 }
 
 /// Reads the shaders of a scene by first use, each once, up to the first that is refused.
@@ -215,17 +225,24 @@ pub(crate) fn read_shaders<L: Library>(
     alloc: Global,
     library: &mut L,
     uses: &[ShaderUse],
-) -> Result<Vec<ReadShader>, Refusal>
+) -> Result<UsedShaders, Refusal>
     ensures held { L.held library.new ≡ L.held library.old }
     ensures asked { Told (L.held library.old) (λ files. AsksFront (shaders_asked files (shader_names uses.now)) (L.asked library.old) (L.asked library.new)) }
-    ensures names { IfOk result (λ shaders. map name_of shaders.items ≡ shader_names uses.now) }
+    ensures names { IfOk result (λ s. map name_of s.read ≡ shader_names uses.now) }
+    ensures placed { IfOk result (λ s. ArePlaced uses.now s) }
     ensures reads { Told (L.held library.old) (λ files. ReadsShaders files (shader_names uses.now) result) }
     ensures later { L.faults library.old ≤ L.faults library.new }
     ensures read { IsErrOf result ReadFault → Rose (L.faults library.old) (L.faults library.new) }
 {
+    let mut names = Names::new(alloc);
     let mut shaders = Vec::new(alloc);
+    let mut of_use = Vec::new(alloc);
     for shader in uses {
-        read_once(alloc, library, &mut shaders, &shader.name)?;
+        let place = read_once(alloc, library, &mut names, &mut shaders, &shader.name)?;
+        of_use.push(place)?;
     }
-    Ok(shaders)
+    Ok(UsedShaders {
+        read: List(shaders),
+        of_use: List(of_use),
+    })
 }

@@ -6,16 +6,21 @@ use outside::{FileLibrary, FileSink, StderrNotes};
 use render::run;
 use std::alloc::Global;
 use std::env;
+use std::io::ErrorKind;
 use std::process::ExitCode;
 use std::rt::Env;
 
-/// The words that the program was started with. A word that isn't text is left out, and the command is then refused.
+/// The words that the program was started with, or none where one of them isn't text: the command is then refused.
 fn words<R: Env + AllocGlobal>(rt: &R) -> Result<Vec<String>, NoMemory> {
     let mut words = Vec::new(rt.alloc());
-    if let Ok(args) = env::args(rt) {
-        for word in args {
-            words.push(word)?;
+    match env::args(rt) {
+        Ok(args) => {
+            for word in args {
+                words.push(word)?;
+            }
         }
+        Err(error) if error.kind() == ErrorKind::OutOfMemory => return Err(NoMemory),
+        Err(_) => {}
     }
     Ok(words)
 }

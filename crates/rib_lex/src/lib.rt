@@ -14,8 +14,6 @@ mod laws;
 mod lex;
 mod number;
 mod strings;
-#[cfg(test)]
-mod tests;
 mod token;
 
 pub use decimal::Decimal;

@@ -1,7 +1,9 @@
 -- What it means for the arguments and the list of a request that no code stands in them.
-use Rattle.std.proofs.Common.{◌≡◌, ℕ, zero, suc, ◌∷◌, [], List, ℤ, pos, ◌≤ℤ◌, ◌<ℤ◌, Option, Some, None, length, Bool, true, false, not, ◌&&◌, ◌||◌, refl, sym, ap, ◌∙◌, nat_le, int_lt, cond, is_some, option_map, arith}
+use Rattle.std.proofs.Common.{◌≡◌, ℕ, zero, suc, ◌∷◌, [], List, ℤ, pos, ◌≤ℤ◌, ◌<ℤ◌, Option, Some, None, length, Bool, true, false, not, ◌&&◌, ◌||◌, refl, sym, ap, ◌∙◌, int_lt, cond, codes, is_some, option_map, arith}
 use Rattle.std.proofs.lemmas.Int.{ints}
 use Rattle.std.specs.List.{slice_get}
+use Rattle.std.specs.Option.{option_or}
+use Rattle.std.specs.Str.{bytes_eq}
 use Rattle.rib_lex.specs.declared.decimal.Decimal.{Decimal}
 use Rattle.rib_lex.specs.Decimal.{num, whole}
 use Rattle.rib_reader.specs.declared.args.Arg.{Arg}
@@ -21,26 +23,16 @@ use Rattle.rib_reader.specs.declared.follows.Follows.{Follows}
 use Rattle.rib_reader.specs.declared.follows.Follows.TheVariants as follows
 use Rattle.rib_reader.specs.declared.params.Kind.{Kind}
 use Rattle.rib_reader.specs.declared.params.Kind.TheVariants as kinds
+use Rattle.rib_reader.specs.declared.params.Class.{Class}
 use Rattle.rib_reader.specs.declared.params.Values.{Values}
 use Rattle.rib_reader.specs.declared.params.Values.TheVariants as held
 use Rattle.rib_reader.specs.declared.faults.RibCode.{RibCode}
 use Rattle.rib_reader.specs.declared.faults.RibCode.TheVariants.{S2, S3}
 use Rattle.rib_reader.specs.Table.{row_of, shapes_of, rules_of, words_in}
-use Rattle.rib_reader.specs.Rules.{rank, lower, when, are_whole, fits, fit, word_in, word_at, number_in, raw_at, whole_in, whole_at, numbers_in, numbers_at, is_outside, is_below, is_not_less, is_among, is_one, is_none_of, rule_code, rules_from, args_code, levels_code, tail_with, follows_of}
-use Rattle.rib_reader.specs.Lists.{is_points, needed, is_as_needed, is_vertex, kind_code, has_points, is_geometry, numbers_held, points_from, points_in, is_of_kind, own_code, param_code, params_from, whole_code, params_code, request_code}
-
-some_either : (t : Bool) (a b : RibCode) → cond t (Some a) (Some b) ≡ None → ⊥
-some_either true a b e = cc
-some_either false a b e = cc
-
-pub lower_none : (a b : Option RibCode) → lower a b ≡ None → (a ≡ None) × (b ≡ None)
-lower_none None b e = (refl, e)
-lower_none (Some a) None e = (e, refl)
-lower_none (Some a) (Some b) e = absurd (some_either (nat_le (rank a) (rank b)) a b e)
-
-pub when_none : (t : Bool) (code : RibCode) → when t code ≡ None → t ≡ false
-when_none true code e = absurd cc
-when_none false code e = refl
+use Rattle.rib_reader.specs.Rules.{when, lowest, are_whole, fits, fit, word_in, word_at, number_in, raw_at, whole_in, whole_at, numbers_in, numbers_at, is_outside, is_below, is_not_less, is_among, is_one, is_none_of, rule_code, args_code, levels_code, tail_with, follows_of}
+use Rattle.rib_reader.specs.Holding.{is_named, last_named}
+use Rattle.rib_reader.specs.Lists.{is_points, needed, is_as_needed, is_vertex, kind_code, name_code, count_code, is_geometry, numbers_held, numbers_given, points_in, is_of_kind, own_code, param_code, whole_code, params_code, request_code}
+use Rattle.rib_reader.proofs.Lowest.{lower_none, when_none, lowest_none}
 
 not_false : (t : Bool) → not t ≡ false → t ≡ true
 not_false true e = refl
@@ -62,35 +54,16 @@ or_right : (a b : Bool) → (a || b) ≡ false → b ≡ false
 or_right true b e = absurd cc
 or_right false b e = e
 
-same_rule : (q r : Rule) → Some q ≡ Some r → q ≡ r
-same_rule q r e = cc
-
--- no code stands in the rules of a row: none was met before, and each of them holds
-rules_hold : (code : Option RibCode) (rs : List Rule) (args : List Arg) → rules_from code rs args ≡ None
-    → (code ≡ None) × ((k : ℕ) (r : Rule) → slice_get rs k ≡ Some r → rule_code r args ≡ None)
-rules_hold code [] args e = (e, λ k r there. absurd (nothing k r there))
-  where
-    nothing : (k : ℕ) (r : Rule) → slice_get [] k ≡ Some r → ⊥
-    nothing k r there = cc
-rules_hold code (q ∷ rs) args e =
-    let rest = rules_hold (lower code (rule_code q args)) rs args e in
-    let both = lower_none code (rule_code q args) rest.0 in
-    (both.0, at both.1 rest.1)
-  where
-    at : rule_code q args ≡ None → ((k : ℕ) (r : Rule) → slice_get rs k ≡ Some r → rule_code r args ≡ None)
-        → (k : ℕ) (r : Rule) → slice_get (q ∷ rs) k ≡ Some r → rule_code r args ≡ None
-    at first others zero r there = rw (same_rule q r there) at first
-    at first others (suc k) r there = others k r there
-
 args_stand : (name : Req) (args : List Arg) (params : List Param) → request_code name args params ≡ None
-    → (when (not (fit (shapes_of name) args)) S3 ≡ None) × ((k : ℕ) (r : Rule) → slice_get (rules_of name) k ≡ Some r → rule_code r args ≡ None)
+    → (when (not (fit (shapes_of name) args)) S3 ≡ None) × (lowest (λ r. rule_code r args) (rules_of name) ≡ None)
 args_stand name args params e =
-    rules_hold (when (not (fit (shapes_of name) args)) S3) (rules_of name) args (lower_none (args_code name args) (params_code (follows_of name args) params) e).0
+    lower_none (when (not (fit (shapes_of name) args)) S3) (lowest (λ r. rule_code r args) (rules_of name))
+    (lower_none (args_code name args) (params_code (follows_of name args) params) e).0
 
 -- each rule of the row holds
 pub rule_holds : (name : Req) (args : List Arg) (params : List Param) → request_code name args params ≡ None
     → (k : ℕ) (r : Rule) → slice_get (rules_of name) k ≡ Some r → rule_code r args ≡ None
-rule_holds name args params e = (args_stand name args params e).1
+rule_holds name args params e k r there = lowest_none (λ r. rule_code r args) (rules_of name) (args_stand name args params e).1 k r there
 
 -- the arguments are of the row's kinds
 pub args_fit : (name : Req) (args : List Arg) (params : List Param) → request_code name args params ≡ None → fit (shapes_of name) args ≡ true
@@ -255,30 +228,13 @@ none_of name args params place t e there k words h =
     let holds = rule_holds name args params e k (NoneOf place words) h in
     sym (ap (is_one words) there) ∙ when_none (is_one words (word_at args place)) S2 holds
 
-same_param : (q p : Param) → Some q ≡ Some p → q ≡ p
-same_param q p e = cc
-
-params_hold : (follows : Follows) (code : Option RibCode) (ps : List Param) → params_from follows code ps ≡ None
-    → (code ≡ None) × ((k : ℕ) (p : Param) → slice_get ps k ≡ Some p → param_code follows p ≡ None)
-params_hold follows code [] e = (e, λ k p there. absurd (nothing k p there))
-  where
-    nothing : (k : ℕ) (p : Param) → slice_get [] k ≡ Some p → ⊥
-    nothing k p there = cc
-params_hold follows code (q ∷ ps) e =
-    let rest = params_hold follows (lower code (param_code follows q)) ps e in
-    let both = lower_none code (param_code follows q) rest.0 in
-    (both.0, at both.1 rest.1)
-  where
-    at : param_code follows q ≡ None → ((k : ℕ) (p : Param) → slice_get ps k ≡ Some p → param_code follows p ≡ None)
-        → (k : ℕ) (p : Param) → slice_get (q ∷ ps) k ≡ Some p → param_code follows p ≡ None
-    at first others zero p there = rw (same_param q p there) at first
-    at first others (suc k) p there = others k p there
-
 -- no code stands in the list: not in the whole of it, and in none of its variables
 pub list_holds : (name : Req) (args : List Arg) (params : List Param) → request_code name args params ≡ None
     → (whole_code (follows_of name args) params ≡ None) × ((k : ℕ) (p : Param) → slice_get params k ≡ Some p → param_code (follows_of name args) p ≡ None)
 list_holds name args params e =
-    params_hold (follows_of name args) (whole_code (follows_of name args) params) params (lower_none (args_code name args) (params_code (follows_of name args) params) e).1
+    let f : Follows = follows_of name args in
+    let both = lower_none (whole_code f params) (lowest (param_code f) params) (lower_none (args_code name args) (params_code f params) e).1 in
+    (both.0, λ k p there. lowest_none (param_code f) params both.1 k p there)
 
 -- the values of a variable are of its kind, and its list's own condition holds
 pub param_holds : (follows : Follows) (p : Param) → param_code follows p ≡ None → (is_of_kind p.kind p.values ≡ true) × (own_code follows p ≡ None)
@@ -344,11 +300,11 @@ geometry_needs tails.Points word h = refl
 geometry_needs tails.Variables word h = either_bicubic (is_one Bicubic word)
 
 -- a primitive's points are there
-points_there : (f : Follows) (ps : List Param) → needs_points f ≡ true → whole_code f ps ≡ None → has_points ps ≡ true
+points_there : (f : Follows) (ps : List Param) → needs_points f ≡ true → whole_code f ps ≡ None → is_named (codes "P") ps ≡ true
 unfolding needs_points
-points_there follows.Points ps n e = not_false (has_points ps) (when_none (not (has_points ps)) S3 e)
-points_there follows.Variables ps n e = not_false (has_points ps) (when_none (not (has_points ps)) S3 e)
-points_there follows.Bicubic ps n e = not_false (has_points ps) (when_none (not (has_points ps)) S3 e)
+points_there follows.Points ps n e = not_false (is_named (codes "P") ps) (when_none (not (is_named (codes "P") ps)) S3 e)
+points_there follows.Variables ps n e = not_false (is_named (codes "P") ps) (when_none (not (is_named (codes "P") ps)) S3 e)
+points_there follows.Bicubic ps n e = not_false (is_named (codes "P") ps) (when_none (not (is_named (codes "P") ps)) S3 e)
 points_there follows.Nothing ps n e = absurd cc
 points_there follows.Anything ps n e = absurd cc
 points_there follows.Free ps n e = absurd cc
@@ -356,16 +312,16 @@ points_there follows.Bound ps n e = absurd cc
 points_there follows.Parameters ps n e = absurd cc
 
 -- each variable is of the kind that its name needs
-kind_stands : (f : Follows) (p : Param) → needs_points f ≡ true → own_code f p ≡ None → kind_code p ≡ None
+kind_stands : (f : Follows) (name : List ℕ) (class : Class) (k : Kind) → needs_points f ≡ true → name_code f name class k ≡ None → kind_code name k ≡ None
 unfolding needs_points
-kind_stands follows.Points p n e = (lower_none (kind_code p) (when (not (is_points p.name)) S2) e).0
-kind_stands follows.Variables p n e = e
-kind_stands follows.Bicubic p n e = (lower_none (kind_code p) (when (is_vertex p.class && not (is_points p.name)) S2) e).0
-kind_stands follows.Nothing p n e = absurd cc
-kind_stands follows.Anything p n e = absurd cc
-kind_stands follows.Free p n e = absurd cc
-kind_stands follows.Bound p n e = absurd cc
-kind_stands follows.Parameters p n e = absurd cc
+kind_stands follows.Points name class k n e = (lower_none (kind_code name k) (when (not (is_points name)) S2) e).0
+kind_stands follows.Variables name class k n e = e
+kind_stands follows.Bicubic name class k n e = (lower_none (kind_code name k) (when (is_vertex class && not (is_points name)) S2) e).0
+kind_stands follows.Nothing name class k n e = absurd cc
+kind_stands follows.Anything name class k n e = absurd cc
+kind_stands follows.Free name class k n e = absurd cc
+kind_stands follows.Bound name class k n e = absurd cc
+kind_stands follows.Parameters name class k n e = absurd cc
 
 numbers_of_points : (k : Kind) (v : Values) → is_as_needed (Some kinds.Point) k ≡ true → is_of_kind k v ≡ true → is_some (numbers_held v) ≡ true
 numbers_of_points k (held.Numbers xs) a b = refl
@@ -384,19 +340,38 @@ points_needed name rest h = ap (λ b. cond b (Some kinds.Point) rest) h
 point_numbers : (f : Follows) (p : Param) → needs_points f ≡ true → param_code f p ≡ None → is_points p.name ≡ true → is_some (numbers_held p.values) ≡ true
 point_numbers f p n e named =
     let both = param_holds f p e in
-    let kind = not_false (is_as_needed (needed p.name) p.kind) (when_none (not (is_as_needed (needed p.name) p.kind)) S3 (kind_stands f p n both.1)) in
+    let fits = (lower_none (name_code f p.name p.class p.kind) (count_code f p.kind p.values) both.1).0 in
+    let kind = not_false (is_as_needed (needed p.name) p.kind) (when_none (not (is_as_needed (needed p.name) p.kind)) S3 (kind_stands f p.name p.class p.kind n fits)) in
     let point : is_as_needed (Some kinds.Point) p.kind ≡ true = sym (ap (λ o. is_as_needed o p.kind) (points_needed p.name _ named)) ∙ kind in
     numbers_of_points p.kind p.values point both.0
 
-last_stands : (f : Follows) (found : Option (List ℤ)) (ps : List Param) → ((k : ℕ) (p : Param) → slice_get ps k ≡ Some p → is_points p.name ≡ true → is_some (numbers_held p.values) ≡ true)
-    → (is_some found || has_points ps) ≡ true → is_some (points_from found ps) ≡ true
-last_stands f (Some xs) [] each h = refl
-last_stands f None [] each h = h
-last_stands f found (p ∷ ps) each h = last_stands f (cond (is_points p.name) (numbers_held p.values) found) ps (λ k q there. each (suc k) q there) (either (is_points p.name) refl)
+none_named : (name : List ℕ) (ps : List Param) → is_named name ps ≡ false → last_named name ps ≡ None
+none_named name [] h = refl
+none_named name (p ∷ ps) h =
+    ap (λ o. option_or o (cond (bytes_eq p.name name) (Some p) None)) (none_named name ps (or_right (bytes_eq p.name name) (is_named name ps) h))
+    ∙ ap (λ b. cond b (Some p) None) (or_left (bytes_eq p.name name) (is_named name ps) h)
+
+or_first : (a b : Bool) → (a || b) ≡ true → b ≡ false → a ≡ true
+or_first true b h is = refl
+or_first false true h is = absurd cc
+or_first false false h is = absurd cc
+
+last_stands : (ps : List Param) → ((k : ℕ) (p : Param) → slice_get ps k ≡ Some p → is_points p.name ≡ true → is_some (numbers_held p.values) ≡ true)
+    → is_named (codes "P") ps ≡ true → is_some (points_in ps) ≡ true
+last_stands [] each h = absurd cc
+last_stands (p ∷ ps) each h = behind (last_stands ps (λ k q there. each (suc k) q there)) (is_named (codes "P") ps) refl
   where
-    either : (b : Bool) → is_points p.name ≡ b → (is_some (cond b (numbers_held p.values) found) || has_points ps) ≡ true
-    either true is = ap (λ s. s || has_points ps) (each zero p refl is)
-    either false is = ap (λ b. is_some found || (b || has_points ps)) (sym is) ∙ h
+    kept : (o mine : Option Param) → is_some (numbers_given o) ≡ true → is_some (numbers_given (option_or o mine)) ≡ true
+    kept (Some q) mine s = s
+    kept None mine s = absurd cc
+
+    behind : (is_named (codes "P") ps ≡ true → is_some (points_in ps) ≡ true) → (b : Bool) → is_named (codes "P") ps ≡ b → is_some (numbers_given (option_or (last_named (codes "P") ps) (cond (is_points p.name) (Some p) None))) ≡ true
+    behind others true is = kept (last_named (codes "P") ps) (cond (is_points p.name) (Some p) None) (others is)
+    behind others false is =
+        let named : is_points p.name ≡ true = or_first (is_points p.name) (is_named (codes "P") ps) h is in
+        ap (λ o. is_some (numbers_given (option_or o (cond (is_points p.name) (Some p) None)))) (none_named (codes "P") ps is)
+        ∙ ap (λ b. is_some (numbers_given (cond b (Some p) None))) named
+        ∙ each zero p refl named
 
 -- the points of a primitive stand in its list
 pub points_stand : (name : Req) (args : List Arg) (params : List Param) → request_code name args params ≡ None → is_geometry (row_of name).tail ≡ true → points_in params ≡ None → ⊥
@@ -404,7 +379,7 @@ points_stand name args params e h none =
     let f : Follows = follows_of name args in
     let needs : needs_points f ≡ true = geometry_needs (row_of name).tail (word_at args 0) h in
     let list = list_holds name args params e in
-    let stands = last_stands f None params (λ k p there named. point_numbers f p needs (list.1 k p there) named) (points_there f params needs list.0) in
+    let stands = last_stands params (λ k p there named. point_numbers f p needs (list.1 k p there) named) (points_there f params needs list.0) in
     empty_is (points_in params) stands none
   where
     empty_is : (o : Option (List ℤ)) → is_some o ≡ true → o ≡ None → ⊥

@@ -1,5 +1,10 @@
 pub mod Ascii
+pub mod Lowest
+pub mod Dictionary
+pub mod LastNamed
+pub mod PairByPair
 pub mod Joins
 pub mod Fits
 pub mod Joining
 pub mod Spelling
+pub mod FirstWord

@@ -1,11 +1,13 @@
 pub mod Entries
 pub mod Names
 pub mod Words
+pub mod Declarations
 pub mod Values
 pub mod Table
-pub mod Answers
 pub mod Rules
+pub mod Holding
 pub mod Lists
+pub mod PairSteps
 pub mod Reading
 pub mod Laws
 pub mod Levels

@@ -1,5 +1,5 @@
 -- The list behind a request's arguments: pairs of a token and a value.
-use Rattle.std.specs.Prelude.{ℕ, ℤ, Bool, true, false, not, ◌||◌, ◌&&◌, ◌==◌, List, [], ◌∷◌, ◌++◌, Option, Some, None, Result, Ok, Err, if◌then◌else◌, length, codes, map}
+use Rattle.std.specs.Prelude.{◌≡◌, refl, ℕ, ℤ, pos, Bool, true, false, not, ◌||◌, ◌&&◌, ◌==◌, List, [], ◌∷◌, Option, Some, None, is_none, option_map, Result, Ok, Err, if◌then◌else◌, length, codes, map, filter_map}
 use Rattle.std.specs.Str.{bytes_eq}
 use Rattle.rib_lex.specs.declared.decimal.Decimal.{Decimal}
 use Rattle.rib_lex.specs.Decimal.{num}
@@ -21,10 +21,9 @@ use Rattle.rib_reader.specs.declared.faults.RibCode.{RibCode}
 use Rattle.rib_reader.specs.declared.faults.RibCode.TheVariants.{S2, S3, S5}
 use Rattle.rib_reader.specs.declared.declared.Declared.{Declared}
 use Rattle.rib_reader.specs.declared.listing.Listing.{Listing}
-use Rattle.rib_reader.specs.declared.listing.Settled.{Settled}
-use Rattle.rib_reader.specs.declared.listing.Settled.TheVariants.{Kept, Ignored, Bad}
 use Rattle.rib_reader.specs.Words.{token_of}
-use Rattle.rib_reader.specs.Rules.{lower, when, args_code, follows_of}
+use Rattle.rib_reader.specs.Rules.{lower, when, lowest, args_code, follows_of}
+use Rattle.rib_reader.specs.Holding.{is_named, last_named}
 
 -- a value as numbers or as strings; the array without items is both
 abbrev pub numbers_of : Arg → Option (List Decimal)
@@ -38,80 +37,25 @@ strings_of (Strings ts) = Some ts
 strings_of (Numbers []) = Some []
 strings_of _ = None
 
-abbrev pub with_numbers : Declared → Option (List Decimal) → Settled
-with_numbers d (Some ds) = Kept record { name = d.name; class = d.class; kind = d.kind; values = held.Numbers (map num ds) }
-with_numbers d None = Bad S3
-
-abbrev pub with_strings : Declared → Option (List (List ℕ)) → Settled
-with_strings d (Some ts) = Kept record { name = d.name; class = d.class; kind = d.kind; values = held.Strings ts }
-with_strings d None = Bad S3
-
 abbrev pub is_string : Kind → Bool
 is_string kinds.Str = true
 is_string _ = false
 
--- what a token declares, with a value of its kind
-abbrev pub with_value : Result Declared RibCode → Arg → Settled
-with_value (Ok d) v = if is_string d.kind then with_strings d (strings_of v) else with_numbers d (numbers_of v)
-with_value (Err code) v = Bad code
+-- a value of that kind
+abbrev pub values_of : Kind → Arg → Option Values
+values_of k v = if is_string k then option_map (λ ts. held.Strings ts) (strings_of v) else option_map (λ ds. held.Numbers (map num ds)) (numbers_of v)
 
--- the displacement bound: one number
-abbrev pub bound_in : Option (List Decimal) → Settled
-bound_in (Some (d ∷ [])) = Kept record { name = codes "sphere"; class = classes.Uniform; kind = kinds.Float; values = held.Numbers (num d ∷ []) }
-bound_in _ = Bad S5
+-- a pair of a list: a token, and the value behind it, if there is one; or a place at which no string stands for a token
+pub data Pair : Type 0 where
+  Of : (token : List ℕ) → (value : Option Arg) → Pair
+  NoToken : Pair
 
-abbrev pub is_sphere : List ℕ → Bool
-is_sphere t = bytes_eq t (codes "sphere") || bytes_eq t (codes "float sphere")
-
--- what a token with its value gives
-abbrev pub settled : Follows → List Declared → List ℕ → Arg → Settled
-settled Bound dict t v = if is_sphere t then bound_in (numbers_of v) else Bad S5
-settled Free dict t v = Ignored
-settled _ dict t v = with_value (token_of dict t) v
-
--- nothing so far: a token that waits for its value, whether the reading is over, the lowest code, and what is kept
-abbrev pub empty : Listing
-empty = record { pending = None; over = false; fault = None; params = [] }
-
-abbrev pub with_code : Listing → RibCode → Listing
-with_code l code = record { pending = None; over = l.over; fault = lower l.fault (Some code); params = l.params }
-
-abbrev pub with_settled : Listing → Settled → Listing
-with_settled l (Kept p) = record { pending = None; over = l.over; fault = l.fault; params = l.params ++ p ∷ [] }
-with_settled l Ignored = record { pending = None; over = l.over; fault = l.fault; params = l.params }
-with_settled l (Bad code) = with_code l code
-
--- no string stands for a token: the reading is over
-abbrev pub stopped : Listing → Listing
-stopped l = record { pending = None; over = true; fault = lower l.fault (Some S3); params = l.params }
-
-abbrev pub begun : Listing → Arg → Listing
-begun l (Str t) = record { pending = Some t; over = l.over; fault = l.fault; params = l.params }
-begun l _ = stopped l
-
-abbrev pub with_next : Follows → List Declared → Listing → Option (List ℕ) → Arg → Listing
-with_next follows dict l (Some t) v = with_settled l (settled follows dict t v)
-with_next follows dict l None v = begun l v
-
--- one value more
-abbrev pub listed : Follows → List Declared → Listing → Arg → Listing
-listed follows dict l v = if l.over then l else with_next follows dict l l.pending v
-
--- a token without its value
-abbrev pub end_with : Listing → Option (List ℕ) → Listing
-end_with l (Some t) = with_code l S3
-end_with l None = l
-
-abbrev pub list_from : Follows → List Declared → Listing → List Arg → Listing
-list_from follows dict l [] = end_with l l.pending
-list_from follows dict l (v ∷ vs) = list_from follows dict (listed follows dict l v) vs
-
--- what is read of these values
-abbrev pub list_of : Follows → List Declared → List Arg → Listing
-list_of Anything dict vs = empty
-list_of Nothing dict [] = empty
-list_of Nothing dict (v ∷ vs) = with_code empty S3
-list_of follows dict vs = list_from follows dict empty vs
+-- the pairs of a list, up to the first place at which no string stands for a token
+abbrev pub pairs_of : List Arg → List Pair
+pairs_of [] = []
+pairs_of (Str t ∷ []) = Of t None ∷ []
+pairs_of (Str t ∷ v ∷ vs) = Of t (Some v) ∷ pairs_of vs
+pairs_of _ = NoToken ∷ []
 
 -- how many numbers or strings a value of that kind has
 abbrev pub width : Kind → ℕ
@@ -155,43 +99,119 @@ abbrev pub is_vertex : Class → Bool
 is_vertex classes.Vertex = true
 is_vertex _ = false
 
-abbrev pub kind_code : Param → Option RibCode
-kind_code p = when (not (is_as_needed (needed p.name) p.kind)) S3
+abbrev pub kind_code : List ℕ → Kind → Option RibCode
+kind_code name k = when (not (is_as_needed (needed name) k)) S3
 
-abbrev pub count_code : Param → Option RibCode
-count_code p = when (not (count p.values == width p.kind)) S5
+-- the displacement bound
+abbrev pub is_bound : List ℕ → Kind → Bool
+is_bound name kinds.Float = bytes_eq name (codes "sphere")
+is_bound name _ = false
+
+-- what a list says of a variable's name, class and kind
+abbrev pub name_code : Follows → List ℕ → Class → Kind → Option RibCode
+name_code Bound name class k = when (not (is_bound name k)) S5
+name_code Points name class k = lower (kind_code name k) (when (not (is_points name)) S2)
+name_code Variables name class k = kind_code name k
+name_code Bicubic name class k = lower (kind_code name k) (when (is_vertex class && not (is_points name)) S2)
+name_code _ name class k = None
+
+abbrev pub is_counted : Follows → Bool
+is_counted Bound = true
+is_counted Parameters = true
+is_counted _ = false
+
+-- what it says of the number of its numbers or strings
+abbrev pub count_code : Follows → Kind → Values → Option RibCode
+count_code follows k values = when (is_counted follows && not (count values == width k)) S5
+
+-- ---- pairs
+
+abbrev pub is_sphere : List ℕ → Bool
+is_sphere t = bytes_eq t (codes "sphere") || bytes_eq t (codes "float sphere")
+
+abbrev pub bound : Declared
+bound = record { name = codes "sphere"; class = classes.Uniform; kind = kinds.Float }
+
+-- the name, class and kind that a token stands for
+abbrev pub meaning_in : Follows → List Declared → List ℕ → Result Declared RibCode
+meaning_in Bound dict t = if is_sphere t then Ok bound else Err S5
+meaning_in _ dict t = token_of dict t
+
+-- a value that isn't of its token's kind
+abbrev pub misfit_code : Follows → RibCode
+misfit_code Bound = S5
+misfit_code _ = S3
+
+abbrev pub values_code : Follows → Kind → Option Values → Option RibCode
+values_code follows k None = Some (misfit_code follows)
+values_code follows k (Some values) = count_code follows k values
+
+-- a value that is missing, that isn't of its token's kind, or that has a wrong number of numbers or strings
+abbrev pub value_code : Follows → Kind → Option Arg → Option RibCode
+value_code follows k None = Some S3
+value_code follows k (Some v) = values_code follows k (values_of k v)
+
+abbrev pub missing_code : Option Arg → Option RibCode
+missing_code v = when (is_none v) S3
+
+-- name, class and kind are judged from the token, whatever the value is
+abbrev pub judged : Follows → Result Declared RibCode → Option Arg → Option RibCode
+judged follows (Err code) v = lower (Some code) (missing_code v)
+judged follows (Ok d) v = lower (name_code follows d.name d.class d.kind) (value_code follows d.kind v)
+
+-- the lowest code that stands in a pair
+abbrev pub pair_code : Follows → List Declared → Pair → Option RibCode
+pair_code follows dict NoToken = Some S3
+pair_code Free dict (Of t v) = missing_code v
+pair_code follows dict (Of t v) = judged follows (meaning_in follows dict t) v
+
+abbrev pub with_values : Declared → Option Values → Option Param
+with_values d (Some values) = Some record { name = d.name; class = d.class; kind = d.kind; values = values }
+with_values d None = None
+
+abbrev pub given : Result Declared RibCode → Option Arg → Option Param
+given (Ok d) (Some v) = with_values d (values_of d.kind v)
+given _ _ = None
+
+-- the variable of a pair
+abbrev pub variable_of : Follows → List Declared → Pair → Option Param
+variable_of follows dict NoToken = None
+variable_of Free dict (Of t v) = None
+variable_of follows dict (Of t v) = given (meaning_in follows dict t) v
+
+abbrev pub nothing : Listing
+nothing = record { fault = None; params = [] }
+
+-- the lowest code of the pairs, and their variables
+abbrev pub of_pairs : Follows → List Declared → List Pair → Listing
+of_pairs follows dict ps = record { fault = lowest (pair_code follows dict) ps; params = filter_map (variable_of follows dict) ps }
+
+-- what is read of a list
+abbrev pub list_of : Follows → List Declared → List Arg → Listing
+list_of Anything dict vs = nothing
+list_of Nothing dict vs = record { fault = when (not (length vs == 0)) S3; params = [] }
+list_of follows dict vs = of_pairs follows dict (pairs_of vs)
+
+-- ---- what holds of the variables that are kept
 
 -- the code of a variable in that list
 abbrev pub own_code : Follows → Param → Option RibCode
-own_code Bound p = count_code p
-own_code Parameters p = count_code p
-own_code Points p = lower (kind_code p) (when (not (is_points p.name)) S2)
-own_code Variables p = kind_code p
-own_code Bicubic p = lower (kind_code p) (when (is_vertex p.class && not (is_points p.name)) S2)
-own_code _ p = None
+own_code follows p = lower (name_code follows p.name p.class p.kind) (count_code follows p.kind p.values)
 
 abbrev pub param_code : Follows → Param → Option RibCode
 param_code follows p = lower (when (not (is_of_kind p.kind p.values)) S3) (own_code follows p)
 
-abbrev pub params_from : Follows → Option RibCode → List Param → Option RibCode
-params_from follows code [] = code
-params_from follows code (p ∷ ps) = params_from follows (lower code (param_code follows p)) ps
-
-abbrev pub has_points : List Param → Bool
-has_points [] = false
-has_points (p ∷ ps) = is_points p.name || has_points ps
-
 -- what the list as a whole must have
 abbrev pub whole_code : Follows → List Param → Option RibCode
 whole_code Bound ps = when (length ps == 0) S5
-whole_code Points ps = when (not (has_points ps)) S3
-whole_code Variables ps = when (not (has_points ps)) S3
-whole_code Bicubic ps = when (not (has_points ps)) S3
+whole_code Points ps = when (not (is_named (codes "P") ps)) S3
+whole_code Variables ps = when (not (is_named (codes "P") ps)) S3
+whole_code Bicubic ps = when (not (is_named (codes "P") ps)) S3
 whole_code Parameters ps = None
 whole_code _ ps = when (not (length ps == 0)) S3
 
 abbrev pub params_code : Follows → List Param → Option RibCode
-params_code follows ps = params_from follows (whole_code follows ps) ps
+params_code follows ps = lower (whole_code follows ps) (lowest (param_code follows) ps)
 
 -- the lowest code that stands in the arguments and the list of a request
 abbrev pub request_code : Req → List Arg → List Param → Option RibCode
@@ -207,10 +227,41 @@ abbrev pub numbers_held : Values → Option (List ℤ)
 numbers_held (held.Numbers xs) = Some xs
 numbers_held (held.Strings ts) = None
 
--- the numbers of the last P
-abbrev pub points_from : Option (List ℤ) → List Param → Option (List ℤ)
-points_from found [] = found
-points_from found (p ∷ ps) = points_from (if is_points p.name then numbers_held p.values else found) ps
+abbrev pub numbers_given : Option Param → Option (List ℤ)
+numbers_given (Some p) = numbers_held p.values
+numbers_given None = None
 
+-- the numbers of the last P
 abbrev pub points_in : List Param → Option (List ℤ)
-points_in ps = points_from None ps
+points_in ps = numbers_given (last_named (codes "P") ps)
+
+-- worked values
+abbrev one_of : List ℕ → Kind → Param
+one_of name k = record { name = name; class = classes.Uniform; kind = k; values = held.Numbers (pos 0 ∷ []) }
+
+-- a class or kind that isn't one shows without a value too
+no_value : pair_code Parameters [] (Of (codes "foo float x") None) ≡ Some S2
+no_value = refl
+
+undeclared : pair_code Parameters [] (Of (codes "foo") None) ≡ Some S3
+undeclared = refl
+
+stops_at : pairs_of (Str (codes "a") ∷ Str (codes "b") ∷ Numbers [] ∷ Str (codes "c") ∷ []) ≡ Of (codes "a") (Some (Str (codes "b"))) ∷ NoToken ∷ []
+stops_at = refl
+
+-- a variable of another class than the list takes shows whatever its value is
+vertex : pair_code Bicubic [] (Of (codes "vertex float x") (Some (Str (codes "y")))) ≡ Some S2
+vertex = refl
+
+other_than_points : pair_code Points [] (Of (codes "Cs") None) ≡ Some S2
+other_than_points = refl
+
+-- the bound of another name or kind
+another_name : params_code Bound (one_of (codes "cube") kinds.Float ∷ []) ≡ Some S5
+another_name = refl
+
+another_kind : params_code Bound (one_of (codes "sphere") kinds.Color ∷ []) ≡ Some S5
+another_kind = refl
+
+a_bound : params_code Bound (one_of (codes "sphere") kinds.Float ∷ []) ≡ None
+a_bound = refl

@@ -86,6 +86,15 @@ is_inner _ = true
 abbrev pub is_value : Token → Bool
 is_value t = is_inner t.kind
 
+abbrev pub word_of : TokenKind → Option (List ℕ)
+word_of (kinds.Str text) = Some text
+word_of _ = None
+
+-- the string that the first token is
+abbrev pub first_word : List Token → Option (List ℕ)
+first_word [] = None
+first_word (t ∷ ts) = word_of t.kind
+
 abbrev pub with_front : List Read → Result (List Read) Placed → Result (List Read) Placed
 with_front front (Ok rs) = Ok (front ++ rs)
 with_front front (Err e) = Err e
@@ -131,6 +140,19 @@ left_out = refl
 two_of_three : requests_of (word (kinds.Name (codes "Format")) ∷ word (kinds.Number (digit 2)) ∷ word (kinds.Number (digit 2)) ∷ []) ≡ Err (S3, 1)
 unfolding whole_magnitude
 two_of_three = refl
+
+-- the lowest code of all conditions
+type_without_value : requests_of (word (kinds.Name (codes "Surface")) ∷ word (kinds.Str (codes "a")) ∷ word (kinds.Str (codes "foo float x")) ∷ []) ≡ Err (S2, 1)
+type_without_value = refl
+
+second_word_alone : requests_of (word (kinds.Name (codes "Declare")) ∷ word (kinds.Number (digit 5)) ∷ word (kinds.Str (codes "foo")) ∷ []) ≡ Err (S2, 1)
+second_word_alone = refl
+
+array_as_basis : requests_of (word (kinds.Name (codes "Basis")) ∷ word kinds.Open ∷ word kinds.Close ∷ []) ≡ Err (S2, 1)
+array_as_basis = refl
+
+array_as_step : requests_of (word (kinds.Name (codes "Basis")) ∷ word (kinds.Str (codes "bezier")) ∷ word kinds.Open ∷ word kinds.Close ∷ []) ≡ Err (S3, 1)
+array_as_step = refl
 
 undeclared : requests_of (word (kinds.Name (codes "Surface")) ∷ word (kinds.Str (codes "a")) ∷ word (kinds.Str (codes "Kx")) ∷ word (kinds.Number (digit 1)) ∷ []) ≡ Err (S4, 1)
 undeclared = refl

@@ -1,7 +1,7 @@
 -- What a row of the table says of a request's arguments. Each condition is looked at by itself, whatever else is wrong, and
 -- the lowest code that stands is the request's.
 use Rattle.std.specs.Prelude.{ℕ, ℤ, pos, Bool, true, false, not, ◌||◌, ◌&&◌, ◌==◌, nat_le, int_lt, is_some, List, [], ◌∷◌, ◌++◌, Option, Some, None, Result, Ok, Err, if◌then◌else◌, length, option_map}
-use Rattle.std.specs.List.{slice_get}
+use Rattle.std.specs.List.{slice_get, list_any, list_all}
 use Rattle.std.specs.Str.{bytes_eq}
 use Rattle.rib_lex.specs.declared.decimal.Decimal.{Decimal}
 use Rattle.rib_lex.specs.Decimal.{num, whole}
@@ -22,7 +22,9 @@ use Rattle.rib_reader.specs.declared.follows.Follows.TheVariants as follows
 use Rattle.rib_reader.specs.declared.faults.RibCode.{RibCode}
 use Rattle.rib_reader.specs.declared.faults.RibCode.TheVariants.{S1, S2, S3, S4, S5}
 use Rattle.rib_reader.specs.declared.declared.Declared.{Declared}
-use Rattle.rib_reader.specs.Words.{words_of, declared_as}
+use Rattle.rib_reader.specs.declared.params.Class.{Class}
+use Rattle.rib_reader.specs.declared.params.Kind.{Kind}
+use Rattle.rib_reader.specs.Words.{declared_type, with_type}
 use Rattle.rib_reader.specs.Table.{words_in, row_of, shapes_of, rules_of}
 
 abbrev pub rank : RibCode → ℕ
@@ -42,9 +44,13 @@ abbrev pub when : Bool → RibCode → Option RibCode
 when true code = Some code
 when false code = None
 
+-- the lowest code that stands in one of these
+abbrev pub lowest : {A : Type 0} → (A → Option RibCode) → List A → Option RibCode
+lowest code [] = None
+lowest code (x ∷ xs) = lower (code x) (lowest code xs)
+
 abbrev pub are_whole : List Decimal → Bool
-are_whole [] = true
-are_whole (d ∷ ds) = is_some (whole d) && are_whole ds
+are_whole ds = list_all (λ d. is_some (whole d)) ds
 
 -- an argument is of that kind
 abbrev pub fits : Shape → Arg → Bool
@@ -118,8 +124,7 @@ is_not_less (Some a) (Some b) = not (int_lt a b)
 is_not_less _ _ = false
 
 abbrev pub is_among : List (List ℕ) → List ℕ → Bool
-is_among [] text = false
-is_among (w ∷ ws) text = bytes_eq text w || is_among ws text
+is_among words text = list_any (bytes_eq text) words
 
 -- it is there, and is one of these words
 abbrev pub is_one : Words → Option (List ℕ) → Bool
@@ -131,14 +136,14 @@ abbrev pub is_none_of : Words → Option (List ℕ) → Bool
 is_none_of words (Some t) = not (is_among (words_in words) t)
 is_none_of words None = false
 
-abbrev pub is_array : Arg → Bool
-is_array (Numbers ds) = true
-is_array (Strings ts) = true
+abbrev pub is_array : Option Arg → Bool
+is_array (Some (Numbers ds)) = true
+is_array (Some (Strings ts)) = true
 is_array _ = false
 
-abbrev pub has_array : List Arg → Bool
-has_array [] = false
-has_array (a ∷ rest) = is_array a || has_array rest
+-- an array stands at a place
+abbrev pub is_array_at : List Arg → ℕ → Bool
+is_array_at args n = is_array (slice_get args n)
 
 -- the greatest level, and the range that is written
 abbrev pub levels_code : Option ℤ → Option ℤ → Option ℤ → Option RibCode
@@ -146,13 +151,14 @@ levels_code one low high = lower
     (when (is_less (Some (pos 255)) one) S2)
     (when (is_below one (pos 1) || is_below low (pos 0) || is_less high low || is_less one high) S3)
 
-abbrev pub code_in : Result Declared RibCode → Option RibCode
-code_in (Ok d) = None
+abbrev pub code_in : Result (Class × Kind) RibCode → Option RibCode
+code_in (Ok type) = None
 code_in (Err code) = Some code
 
-abbrev pub declare_code : Option (List ℕ) → Option (List ℕ) → Option RibCode
-declare_code (Some name) (Some text) = code_in (declared_as name (words_of text))
-declare_code _ _ = None
+-- the second word of `Declare` is judged whatever the first one is
+abbrev pub declare_code : Option (List ℕ) → Option RibCode
+declare_code (Some text) = code_in (declared_type text)
+declare_code None = None
 
 -- the code of a rule that doesn't hold
 abbrev pub rule_code : Rule → List Arg → Option RibCode
@@ -162,19 +168,14 @@ rule_code (Rising first second) args = when (is_not_less (raw_at args first) (ra
 rule_code (Only place raw) args = when (is_outside (raw_at args place) raw raw) S2
 rule_code (OneOf place words code) args = when (is_none_of words (word_at args place)) code
 rule_code (NoneOf place words) args = when (is_one words (word_at args place)) S2
-rule_code NoArray args = when (has_array args) S2
+rule_code (NoArray place) args = when (is_array_at args place) S2
 rule_code Levels args = if is_one Modes (word_at args 0) then levels_code (whole_at args 1) (whole_at args 2) (whole_at args 3) else None
-rule_code Declaration args = declare_code (word_at args 0) (word_at args 1)
+rule_code Declaration args = declare_code (word_at args 1)
 rule_code Unsupported args = Some S2
-
--- the lowest code of these rules, beside one that was met before
-abbrev pub rules_from : Option RibCode → List Rule → List Arg → Option RibCode
-rules_from code [] args = code
-rules_from code (r ∷ rs) args = rules_from (lower code (rule_code r args)) rs args
 
 -- the lowest code that stands in the arguments
 abbrev pub args_code : Req → List Arg → Option RibCode
-args_code name args = rules_from (when (not (fit (shapes_of name) args)) S3) (rules_of name) args
+args_code name args = lower (when (not (fit (shapes_of name) args)) S3) (lowest (λ r. rule_code r args) (rules_of name))
 
 -- a patch or mesh of that name is bicubic, and the attribute of that name a bound
 abbrev pub tail_with : Tail → Option (List ℕ) → Follows
@@ -201,12 +202,12 @@ joined reqs.Opacity values = three_as_one values
 joined _ values = values
 
 -- the names that are declared behind a request
-abbrev pub with_declared : List Declared → Result Declared RibCode → List Declared
-with_declared dict (Ok d) = dict ++ d ∷ []
-with_declared dict (Err code) = dict
+abbrev pub with_declared : List Declared → List ℕ → Result (Class × Kind) RibCode → List Declared
+with_declared dict name (Ok type) = dict ++ with_type name type ∷ []
+with_declared dict name (Err code) = dict
 
 abbrev pub with_words : List Declared → Option (List ℕ) → Option (List ℕ) → List Declared
-with_words dict (Some name) (Some text) = with_declared dict (declared_as name (words_of text))
+with_words dict (Some name) (Some text) = with_declared dict name (declared_type text)
 with_words dict _ _ = dict
 
 abbrev pub dict_after : List Declared → Req → List Arg → List Declared

@@ -1,5 +1,6 @@
 -- The words of a text, and what they declare (RenderMan Interface 3.2, section 3).
-use Rattle.std.specs.Prelude.{◌≡◌, refl, ℕ, Bool, ◌||◌, ◌==◌, List, [], ◌∷◌, ◌++◌, Option, Some, None, Result, Ok, Err, if◌then◌else◌, codes, length, option_map}
+use Rattle.std.specs.Prelude.{◌≡◌, refl, ℕ, Bool, ◌||◌, ◌==◌, List, [], ◌∷◌, ◌++◌, Option, Some, None, Result, Ok, Err, if◌then◌else◌, codes, length}
+use Rattle.std.specs.Option.{option_or}
 use Rattle.std.specs.Str.{bytes_eq}
 use Rattle.rib_reader.specs.declared.params.Class.{Class}
 use Rattle.rib_reader.specs.declared.params.Class.TheVariants.{Uniform, Varying, Vertex}
@@ -27,41 +28,46 @@ words_from words word (b ∷ bs) = if is_white b then words_from (with_word word
 abbrev pub words_of : List ℕ → List (List ℕ)
 words_of text = words_from [] [] text
 
--- a name with its class and kind, where these words are one
-abbrev pub typed : Option Class → Option Kind → List ℕ → Result Declared RibCode
-typed (Some class) (Some kind) name = Ok record { name = name; class = class; kind = kind }
-typed _ _ name = Err S2
+-- a class and a kind, where these words are
+abbrev pub typed : Option Class → Option Kind → Result (Class × Kind) RibCode
+typed (Some class) (Some kind) = Ok (class, kind)
+typed _ _ = Err S2
+
+-- the type that words give: a kind, or a class before it
+abbrev pub type_of : List (List ℕ) → Result (Class × Kind) RibCode
+type_of (kind ∷ []) = typed (Some Uniform) (entry_of kind_names kind)
+type_of (class ∷ kind ∷ []) = typed (entry_of class_names class) (entry_of kind_names kind)
+type_of _ = Err S3
+
+-- what the second word of `Declare` says
+abbrev pub declared_type : List ℕ → Result (Class × Kind) RibCode
+declared_type text = type_of (words_of text)
+
+abbrev pub with_type : List ℕ → Class × Kind → Declared
+with_type name type = record { name = name; class = type.0; kind = type.1 }
+
+abbrev pub named_so : List ℕ → Result (Class × Kind) RibCode → Result Declared RibCode
+named_so name (Ok type) = Ok (with_type name type)
+named_so name (Err code) = Err code
 
 -- an inline declaration: a kind and a name, or a class before them
 abbrev pub inline_of : List (List ℕ) → Result Declared RibCode
-inline_of (kind ∷ name ∷ []) = typed (Some Uniform) (entry_of kind_names kind) name
-inline_of (class ∷ kind ∷ name ∷ []) = typed (entry_of class_names class) (entry_of kind_names kind) name
+inline_of (kind ∷ name ∷ []) = named_so name (typed (Some Uniform) (entry_of kind_names kind))
+inline_of (class ∷ kind ∷ name ∷ []) = named_so name (typed (entry_of class_names class) (entry_of kind_names kind))
 inline_of _ = Err S4
 
--- what `Declare` says of a name: a kind, or a class before it
-abbrev pub declared_as : List ℕ → List (List ℕ) → Result Declared RibCode
-declared_as name (kind ∷ []) = typed (Some Uniform) (entry_of kind_names kind) name
-declared_as name (class ∷ kind ∷ []) = typed (entry_of class_names class) (entry_of kind_names kind) name
-declared_as name _ = Err S3
+-- the class and kind of the last declaration of a name
+abbrev pub last_type : List Declared → List ℕ → Option (Class × Kind)
+last_type [] name = None
+last_type (d ∷ ds) name = option_or (last_type ds name) (if bytes_eq d.name name then Some (d.class, d.kind) else None)
 
-abbrev pub with_type : List ℕ → Class × Kind → Declared
-with_type name t = record { name = name; class = t.0; kind = t.1 }
-
-abbrev pub predeclared : List ℕ → Option Declared
-predeclared name = option_map (with_type name) (entry_of variable_names name)
-
--- the last declaration of a name
-abbrev pub last_of : Option Declared → List Declared → List ℕ → Option Declared
-last_of found [] name = found
-last_of found (d ∷ ds) name = last_of (if bytes_eq d.name name then Some record { name = name; class = d.class; kind = d.kind } else found) ds name
-
-abbrev pub or_inline : Option Declared → List ℕ → Result Declared RibCode
-or_inline (Some d) token = Ok d
+abbrev pub or_inline : Option (Class × Kind) → List ℕ → Result Declared RibCode
+or_inline (Some type) token = Ok (with_type token type)
 or_inline None token = inline_of (words_of token)
 
 -- a token is a name that is declared, white space in it or not, else an inline declaration
 abbrev pub token_of : List Declared → List ℕ → Result Declared RibCode
-token_of dict token = or_inline (last_of (predeclared token) dict token) token
+token_of dict token = or_inline (option_or (last_type dict token) (entry_of variable_names token)) token
 
 -- worked values
 words : words_of (codes " uniform\tfloat \n Kx") ≡ codes "uniform" ∷ codes "float" ∷ codes "Kx" ∷ []
@@ -81,3 +87,9 @@ no_class = refl
 
 undeclared : token_of [] (codes "fo") ≡ Err S4
 undeclared = refl
+
+no_type_of_two : declared_type (codes "varying fixed") ≡ Err S2
+no_type_of_two = refl
+
+no_type_of_three : declared_type (codes "a b c") ≡ Err S3
+no_type_of_three = refl

@@ -1,5 +1,5 @@
 ghost use Rattle.std.specs.Prelude.{◌≡◌, option_map};
-ghost use Rattle.rib_reader.specs.Rules.{are_whole, fits, fit, word_at, number_at, raw_at, whole_at, numbers_at, is_array, has_array};
+ghost use Rattle.rib_reader.specs.Rules.{are_whole, fits, fit, word_at, number_at, raw_at, whole_at, numbers_at, is_array_at};
 
 use crate::args::Arg;
 use crate::table::Shape;
@@ -9,12 +9,7 @@ use rib_lex::Decimal;
 fn are_whole(numbers: &[Decimal]) -> bool
     ensures { result ≡ are_whole numbers.now }
 {
-    for number in numbers {
-        if number.whole().is_none() {
-            return false;
-        }
-    }
-    true
+    numbers.iter().all(|number| number.whole().is_some())
 }
 
 fn shape_fits(shape: Shape, arg: &Arg) -> bool
@@ -93,20 +88,12 @@ pub fn numbers_in(args: &[Arg], place: usize) -> Option<&[Decimal]>
     }
 }
 
-fn is_array(arg: &Arg) -> bool
-    ensures { result ≡ is_array arg.now }
+/// Whether an array stands at that place.
+pub fn is_array_at(args: &[Arg], place: usize) -> bool
+    ensures { result ≡ is_array_at args.now place }
 {
-    matches!(arg, Arg::Numbers(_) | Arg::Strings(_))
-}
-
-/// Whether an argument is an array.
-pub fn has_array(args: &[Arg]) -> bool
-    ensures { result ≡ has_array args.now }
-{
-    for arg in args {
-        if is_array(arg) {
-            return true;
-        }
-    }
-    false
+    matches!(
+        args.get(place),
+        Some(Arg::Numbers(_)) | Some(Arg::Strings(_))
+    )
 }

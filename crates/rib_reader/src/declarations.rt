@@ -1,14 +1,13 @@
-ghost use Rattle.std.specs.Prelude.{◌≡◌, ◌<◌, IfOk, option_map};
+ghost use Rattle.std.specs.Prelude.{◌≡◌, IfOk};
 ghost use Rattle.std.specs.Str.{IsAscii};
-ghost use Rattle.rib_reader.specs.Words.{is_white, with_word, words_of, typed, inline_of, declared_as, with_type, predeclared, last_of, token_of};
-ghost use Rattle.rib_reader.specs.Answers.{Gives};
-ghost use Rattle.rib_reader.specs.Names.{entry_of, class_names, kind_names};
+ghost use Rattle.rib_reader.specs.Words.{is_white, with_word, words_of, typed, type_of, named_so, inline_of, declared_type, last_type, token_of};
+ghost use Rattle.std.specs.Option.{option_or};
+ghost use Rattle.rib_reader.specs.Names.{entry_of, class_names, kind_names, variable_names};
 
-use crate::declared::Declared;
+use crate::declared::{Declarations, Declared};
 use crate::faults::RibCode;
 use crate::names::{class_named, kind_named, variable_named};
 use crate::params::{Class, Kind};
-use crate::texts::copy;
 use fixed_math::{List, NoMemory, Text};
 use std::alloc::Global;
 
@@ -48,31 +47,6 @@ fn words(alloc: Global, text: &[u8]) -> Result<List<Text>, NoMemory>
     Ok(words)
 }
 
-/// What a token stands for, or the code of why for nothing.
-#[derive(Drop)]
-pub enum Meaning {
-    Is(Declared),
-    Not(RibCode),
-}
-
-fn typed_name(
-    alloc: Global,
-    class: Option<Class>,
-    kind: Option<Kind>,
-    name: &Text,
-) -> Result<Meaning, NoMemory>
-    ensures { Gives result (typed class kind name.now) }
-{
-    match (class, kind) {
-        (Some(class), Some(kind)) => Ok(Meaning::Is(Declared {
-            name: copy(alloc, name)?,
-            class,
-            kind,
-        })),
-        _ => Ok(Meaning::Not(RibCode::S2)),
-    }
-}
-
 fn class_in(word: &Text) -> Option<Class>
     ensures { result ≡ entry_of class_names word.now }
 {
@@ -85,62 +59,81 @@ fn kind_in(word: &Text) -> Option<Kind>
     kind_named(word.as_str())
 }
 
-// What the words of an inline declaration say.
-fn inline(alloc: Global, words: &[Text]) -> Result<Meaning, NoMemory>
-    ensures { Gives result (inline_of words.now) }
+fn typed(class: Option<Class>, kind: Option<Kind>) -> Result<(Class, Kind), RibCode>
+    ensures { result ≡ typed class kind }
+{
+    match (class, kind) {
+        (Some(class), Some(kind)) => Ok((class, kind)),
+        _ => Err(RibCode::S2),
+    }
+}
+
+// The type that words give.
+fn type_of(words: &[Text]) -> Result<(Class, Kind), RibCode>
+    ensures { result ≡ type_of words.now }
 {
     match words {
-        [kind, name] => typed_name(alloc, Some(Class::Uniform), kind_in(kind), name),
-        [class, kind, name] => typed_name(alloc, class_in(class), kind_in(kind), name),
-        _ => Ok(Meaning::Not(RibCode::S4)),
+        [kind] => typed(Some(Class::Uniform), kind_in(kind)),
+        [class, kind] => typed(class_in(class), kind_in(kind)),
+        _ => Err(RibCode::S3),
     }
 }
 
-// What the words of a `Declare` say of a name.
-fn declared_words(alloc: Global, name: &Text, words: &[Text]) -> Result<Meaning, NoMemory>
-    ensures { Gives result (declared_as name.now words.now) }
+/// What the second word of `Declare` says.
+pub fn declared_type(alloc: Global, text: &Text) -> Result<Result<(Class, Kind), RibCode>, NoMemory>
+    ensures { IfOk result (λ r. r ≡ declared_type text.now) }
 {
-    match words {
-        [kind] => typed_name(alloc, Some(Class::Uniform), kind_in(kind), name),
-        [class, kind] => typed_name(alloc, class_in(class), kind_in(kind), name),
-        _ => Ok(Meaning::Not(RibCode::S3)),
-    }
+    Ok(type_of(&words(alloc, text.as_str().as_bytes())?.0))
 }
 
-/// What `Declare` says of a name.
-pub fn declare(alloc: Global, name: &Text, text: &Text) -> Result<Meaning, NoMemory>
-    ensures { Gives result (declared_as name.now (words_of text.now)) }
-{
-    declared_words(alloc, name, &words(alloc, text.as_str().as_bytes())?.0)
-}
-
-// The class and kind of the last declaration of a name.
-fn type_of(declarations: &[Declared], name: &Text) -> Option<(Class, Kind)>
-    ensures { option_map (with_type name.now) result ≡ last_of (predeclared name.now) declarations.now name.now }
-{
-    let mut found = variable_named(name.as_str());
-    for declared in declarations {
-        if declared.name.as_str().as_bytes() == name.as_str().as_bytes() {
-            found = Some((declared.class, declared.kind));
-        }
-    }
-    found
-}
-
-/// What a token of a list stands for, behind these declarations.
-pub fn token_meaning(
+fn named_so(
     alloc: Global,
-    declarations: &[Declared],
-    token: &Text,
-) -> Result<Meaning, NoMemory>
-    ensures { Gives result (token_of declarations.now token.now) }
+    name: &Text,
+    typed: Result<(Class, Kind), RibCode>,
+) -> Result<Result<Declared, RibCode>, NoMemory>
+    ensures { IfOk result (λ r. r ≡ named_so name.now typed) }
 {
-    match type_of(declarations, token) {
-        Some((class, kind)) => Ok(Meaning::Is(Declared {
-            name: copy(alloc, token)?,
+    Ok(match typed {
+        Ok((class, kind)) => Ok(Declared {
+            name: name.copied(alloc)?,
             class,
             kind,
-        })),
+        }),
+        Err(code) => Err(code),
+    })
+}
+
+// What the words of an inline declaration say.
+fn inline(alloc: Global, words: &[Text]) -> Result<Result<Declared, RibCode>, NoMemory>
+    ensures { IfOk result (λ r. r ≡ inline_of words.now) }
+{
+    match words {
+        [kind, name] => named_so(alloc, name, typed(Some(Class::Uniform), kind_in(kind))),
+        [class, kind, name] => named_so(alloc, name, typed(class_in(class), kind_in(kind))),
+        _ => Ok(Err(RibCode::S4)),
+    }
+}
+
+// The type of a name that is declared, by the scene or from the start.
+fn known_type(declarations: &Declarations<'_>, name: &Text) -> Option<(Class, Kind)>
+    ensures { result ≡ option_or (last_type declarations.now name.now) (entry_of variable_names name.now) }
+{
+    match declarations.type_of(name) {
+        Some(typed) => Some(typed),
+        None => variable_named(name.as_str()),
+    }
+}
+
+/// What a token of a list stands for, behind these declarations, or the code of why for nothing.
+pub fn token_meaning(
+    alloc: Global,
+    declarations: &Declarations<'_>,
+    token: &Text,
+) -> Result<Result<Declared, RibCode>, NoMemory>
+    ensures { IfOk result (λ r. r ≡ token_of declarations.now token.now) }
+{
+    match known_type(declarations, token) {
+        Some(typed) => named_so(alloc, token, Ok(typed)),
         None => inline(alloc, &words(alloc, token.as_str().as_bytes())?.0),
     }
 }

@@ -1,9 +1,6 @@
 /// A name and what it stands for.
 #[derive(Clone, Copy)]
-pub struct Entry<T> {
-    pub name: &'static str,
-    pub value: T,
-}
+pub struct Entry<T>(pub &'static str, pub T);
 
 /// A word of a set.
 #[derive(Clone, Copy)]

@@ -1,15 +1,16 @@
-ghost use Rattle.std.specs.Prelude.{◌≡◌, ◌≤◌, IfOk, OnOk, length, take, drop};
+ghost use Rattle.std.specs.Prelude.{◌≡◌, ◌≤◌, IfOk, OnOk, length, take, drop, option_map};
 ghost use Rattle.std.specs.List.{prefix_len};
 ghost use Rattle.rib_reader.specs.Values.{scan_of};
-ghost use Rattle.rib_reader.specs.Rules.{joined, three_as_one, dict_after};
+ghost use Rattle.rib_reader.specs.Rules.{joined, three_as_one, word_at, dict_after};
+ghost use Rattle.rib_reader.specs.declared.req.Req.TheVariants.{Declare};
 ghost use Rattle.rib_reader.specs.Laws.{JoinLaw, SpellLaw, ReadLaw};
-ghost use Rattle.rib_reader.specs.Reading.{is_value, list_in, checked, of_values, of_scan, of_group, requests_of, GivesOne, GivesAll};
+ghost use Rattle.rib_reader.specs.Reading.{is_value, first_word, list_in, checked, of_values, of_scan, of_group, requests_of, GivesOne, GivesAll};
 
 use crate::args::Arg;
 use crate::arguments::word;
 use crate::codes::{code_when, lower_of};
-use crate::declarations::{Meaning, declare};
-use crate::declared::Declared;
+use crate::declarations::declared_type;
+use crate::declared::Declarations;
 use crate::faults::{RibCode, RibFault};
 use crate::list_faults::request_fault;
 use crate::listing::Listing;
@@ -21,7 +22,7 @@ use crate::request::Request;
 use crate::rows::row;
 use crate::rules::following;
 use crate::scans::scan;
-use fixed_math::{List, NoMemory};
+use fixed_math::{List, NoMemory, Text};
 use rib_lex::{Token, TokenKind};
 use std::alloc::Global;
 
@@ -65,7 +66,7 @@ fn split(values: &[Arg], n: usize) -> (&[Arg], &[Arg])
 // What is read of the values behind the arguments.
 fn listing(
     alloc: Global,
-    declarations: &[Declared],
+    declarations: &Declarations<'_>,
     name: Req,
     values: &[Arg],
 ) -> Result<Listing, NoMemory>
@@ -100,7 +101,7 @@ fn check(
 
 fn read_values(
     alloc: Global,
-    declarations: &[Declared],
+    declarations: &Declarations<'_>,
     name: Req,
     broken: bool,
     values: List<Arg>,
@@ -117,7 +118,7 @@ fn read_values(
 
 fn read_known(
     alloc: Global,
-    declarations: &[Declared],
+    declarations: &Declarations<'_>,
     name: Req,
     body: &[Token],
     line: u32,
@@ -132,7 +133,7 @@ fn read_known(
 // The request of a token with those behind it.
 fn read_group(
     alloc: Global,
-    declarations: &[Declared],
+    declarations: &Declarations<'_>,
     kind: &TokenKind,
     line: u32,
     body: &[Token],
@@ -158,21 +159,32 @@ fn read_group(
     }
 }
 
-// What a request declares holds from here on.
-fn note_declared(
-    alloc: Global,
-    declarations: &mut Vec<Declared>,
-    name: Req,
-    args: &[Arg],
-) -> Result<(), NoMemory>
-    ensures { OnOk result (declarations.new.items ≡ dict_after declarations.old.items name args.now) }
+// The string that the first of these tokens is.
+fn first_word(body: &[Token]) -> Option<&Text>
+    ensures { option_map (λ t. t.now) result ≡ first_word body.now }
 {
-    if !matches!(name, Req::Declare) {
+    match &body.first()?.kind {
+        TokenKind::Str(text) => Some(text),
+        _ => None,
+    }
+}
+
+// What a request with these tokens declares holds from here on.
+fn note_declared<'a>(
+    alloc: Global,
+    declarations: &mut Declarations<'a>,
+    request: &Request,
+    body: &'a [Token],
+) -> Result<(), NoMemory>
+    requires { request.now.name ≡ Declare → word_at request.now.args 0 ≡ first_word body.now }
+    ensures { OnOk result (declarations.new ≡ dict_after declarations.old request.now.name request.now.args) }
+{
+    if !matches!(request.name, Req::Declare) {
         return Ok(());
     }
-    if let (Some(name), Some(text)) = (word(args, 0), word(args, 1)) {
-        if let Meaning::Is(declared) = declare(alloc, name, text)? {
-            declarations.push(declared)?;
+    if let (Some(name), Some(text)) = (first_word(body), word(&request.args.0, 1)) {
+        if let Ok((class, kind)) = declared_type(alloc, text)? {
+            declarations.push(name, class, kind)?;
         }
     }
     Ok(())
@@ -197,12 +209,12 @@ fn read_all(alloc: Global, tokens: &[Token]) -> Result<Vec<Request>, RibFault>
     ensures { GivesAll result (requests_of tokens.now) }
 {
     let mut done = Vec::new(alloc);
-    let mut declarations = Vec::new(alloc);
+    let mut declarations = Declarations::new(alloc);
     let mut rest = tokens;
     while let Some((head, behind)) = rest.split_first() {
         let (body, after) = behind.split_at(body_len(behind));
         let request = read_group(alloc, &declarations, &head.kind, head.line, body)?;
-        note_declared(alloc, &mut declarations, request.name, &request.args.0)?;
+        note_declared(alloc, &mut declarations, &request, body)?;
         done.push(request)?;
         rest = after;
     }

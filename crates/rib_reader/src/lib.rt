@@ -14,6 +14,7 @@ mod entry;
 mod faults;
 mod follows;
 mod groups;
+mod later;
 mod levels;
 mod list_faults;
 mod list_values;
@@ -28,14 +29,13 @@ mod rules;
 mod scan;
 mod scans;
 mod table;
-#[cfg(test)]
-mod tests;
 mod texts;
 mod words;
 
 pub use args::Arg;
 pub use faults::{RibCode, RibFault};
 pub use groups::requests;
+pub use later::{holding, last_named};
 pub use levels::Levels;
 pub use params::{Class, Kind, Param, Values};
 pub use req::Req;

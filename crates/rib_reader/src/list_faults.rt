@@ -1,11 +1,13 @@
-ghost use Rattle.std.specs.Prelude.{◌≡◌, IfOk, option_map};
+ghost use Rattle.std.specs.Prelude.{◌≡◌, IfOk, option_map, codes};
 ghost use Rattle.rib_reader.specs.Rules.{follows_of};
-ghost use Rattle.rib_reader.specs.Lists.{width, count, is_of_kind, is_points, needed, is_as_needed, is_vertex, kind_code, count_code, own_code, param_code, params_from, has_points, whole_code, params_code, request_code, numbers_held, points_in};
+ghost use Rattle.rib_reader.specs.Holding.{is_named};
+ghost use Rattle.rib_reader.specs.Lists.{width, count, is_of_kind, is_points, needed, is_as_needed, is_vertex, is_bound, is_counted, kind_code, name_code, count_code, own_code, param_code, whole_code, params_code, request_code, numbers_held, points_in};
 
 use crate::args::Arg;
 use crate::codes::{code_when, lower_of};
 use crate::faults::RibCode;
 use crate::follows::Follows;
+use crate::later::last_named;
 use crate::list_values::is_string;
 use crate::params::{Class, Kind, Param, Values};
 use crate::req::Req;
@@ -82,16 +84,10 @@ fn is_as_needed(needed: Option<Kind>, kind: Kind) -> bool
     )
 }
 
-fn kind_fault(param: &Param) -> Option<RibCode>
-    ensures { result ≡ kind_code param.now }
+fn kind_fault(name: &Text, kind: Kind) -> Option<RibCode>
+    ensures { result ≡ kind_code name.now kind }
 {
-    code_when(!is_as_needed(needed(&param.name), param.kind), RibCode::S3)
-}
-
-fn count_fault(param: &Param) -> Option<RibCode>
-    ensures { result ≡ count_code param.now }
-{
-    code_when(count(&param.values) != width(param.kind), RibCode::S5)
+    code_when(!is_as_needed(needed(name), kind), RibCode::S3)
 }
 
 fn is_vertex(class: Class) -> bool
@@ -100,26 +96,58 @@ fn is_vertex(class: Class) -> bool
     matches!(class, Class::Vertex)
 }
 
+fn is_bound(name: &Text, kind: Kind) -> bool
+    ensures { result ≡ is_bound name.now kind }
+{
+    match kind {
+        Kind::Float => is_word(name, "sphere"),
+        _ => false,
+    }
+}
+
+/// What a list says of a variable's name, class and kind.
+pub fn name_fault(follows: Follows, name: &Text, class: Class, kind: Kind) -> Option<RibCode>
+    ensures { result ≡ name_code follows name.now class kind }
+{
+    match follows {
+        Follows::Bound => code_when(!is_bound(name, kind), RibCode::S5),
+        Follows::Points => lower_of(
+            kind_fault(name, kind),
+            code_when(!is_points(name), RibCode::S2),
+        ),
+        Follows::Variables => kind_fault(name, kind),
+        Follows::Bicubic => lower_of(
+            kind_fault(name, kind),
+            code_when(is_vertex(class) && !is_points(name), RibCode::S2),
+        ),
+        _ => None,
+    }
+}
+
+fn is_counted(follows: Follows) -> bool
+    ensures { result ≡ is_counted follows }
+{
+    matches!(follows, Follows::Bound | Follows::Parameters)
+}
+
+/// What a list says of the number of a variable's numbers or strings.
+pub fn count_fault(follows: Follows, kind: Kind, values: &Values) -> Option<RibCode>
+    ensures { result ≡ count_code follows kind values.now }
+{
+    code_when(
+        is_counted(follows) && count(values) != width(kind),
+        RibCode::S5,
+    )
+}
+
 // The code of a variable in that list.
 fn own_fault(follows: Follows, param: &Param) -> Option<RibCode>
     ensures { result ≡ own_code follows param.now }
 {
-    match follows {
-        Follows::Bound | Follows::Parameters => count_fault(param),
-        Follows::Points => lower_of(
-            kind_fault(param),
-            code_when(!is_points(&param.name), RibCode::S2),
-        ),
-        Follows::Variables => kind_fault(param),
-        Follows::Bicubic => lower_of(
-            kind_fault(param),
-            code_when(
-                is_vertex(param.class) && !is_points(&param.name),
-                RibCode::S2,
-            ),
-        ),
-        _ => None,
-    }
+    lower_of(
+        name_fault(follows, &param.name, param.class, param.kind),
+        count_fault(follows, param.kind, &param.values),
+    )
 }
 
 fn param_fault(follows: Follows, param: &Param) -> Option<RibCode>
@@ -132,14 +160,9 @@ fn param_fault(follows: Follows, param: &Param) -> Option<RibCode>
 }
 
 fn has_points(params: &[Param]) -> bool
-    ensures { result ≡ has_points params.now }
+    ensures { result ≡ is_named (codes "P") params.now }
 {
-    for param in params {
-        if is_points(&param.name) {
-            return true;
-        }
-    }
-    false
+    params.iter().any(|param| is_points(&param.name))
 }
 
 // The code of what the list as a whole must have.
@@ -179,13 +202,7 @@ fn numbers_held(values: &Values) -> Option<&[Num]>
 pub fn last_points(params: &[Param]) -> Option<&[Num]>
     ensures { option_map (λ n. n.now) result ≡ points_in params.now }
 {
-    let mut found = None;
-    for param in params {
-        if is_points(&param.name) {
-            found = numbers_held(&param.values);
-        }
-    }
-    found
+    numbers_held(&last_named(params, "P")?.values)
 }
 
 /// The lowest code that stands in the arguments and the list of a request.

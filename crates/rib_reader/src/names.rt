@@ -18,8 +18,8 @@ fn find<T: Copy>(entries: &[Entry<T>], name: &str) -> Option<T>
     ensures { result ≡ entry_of (map plain entries.now) name.now }
 {
     for entry in entries {
-        if entry.name.as_bytes() == name.as_bytes() {
-            return Some(entry.value);
+        if entry.0 == name {
+            return Some(entry.1);
         }
     }
     None
@@ -29,354 +29,99 @@ fn requests() -> &'static [Entry<Named>]
     ensures { map plain result.now ≡ request_names }
 {
     &[
-        Entry {
-            name: "FrameBegin",
-            value: Named::Known(Req::FrameBegin),
-        },
-        Entry {
-            name: "FrameEnd",
-            value: Named::Known(Req::FrameEnd),
-        },
-        Entry {
-            name: "WorldBegin",
-            value: Named::Known(Req::WorldBegin),
-        },
-        Entry {
-            name: "WorldEnd",
-            value: Named::Known(Req::WorldEnd),
-        },
-        Entry {
-            name: "AttributeBegin",
-            value: Named::Known(Req::AttributeBegin),
-        },
-        Entry {
-            name: "AttributeEnd",
-            value: Named::Known(Req::AttributeEnd),
-        },
-        Entry {
-            name: "TransformBegin",
-            value: Named::Known(Req::TransformBegin),
-        },
-        Entry {
-            name: "TransformEnd",
-            value: Named::Known(Req::TransformEnd),
-        },
-        Entry {
-            name: "Identity",
-            value: Named::Known(Req::Identity),
-        },
-        Entry {
-            name: "ReverseOrientation",
-            value: Named::Known(Req::ReverseOrientation),
-        },
-        Entry {
-            name: "Declare",
-            value: Named::Known(Req::Declare),
-        },
-        Entry {
-            name: "Format",
-            value: Named::Known(Req::Format),
-        },
-        Entry {
-            name: "FrameAspectRatio",
-            value: Named::Known(Req::FrameAspectRatio),
-        },
-        Entry {
-            name: "ScreenWindow",
-            value: Named::Known(Req::ScreenWindow),
-        },
-        Entry {
-            name: "CropWindow",
-            value: Named::Known(Req::CropWindow),
-        },
-        Entry {
-            name: "Clipping",
-            value: Named::Known(Req::Clipping),
-        },
-        Entry {
-            name: "Projection",
-            value: Named::Known(Req::Projection),
-        },
-        Entry {
-            name: "PixelSamples",
-            value: Named::Known(Req::PixelSamples),
-        },
-        Entry {
-            name: "PixelFilter",
-            value: Named::Known(Req::PixelFilter),
-        },
-        Entry {
-            name: "Exposure",
-            value: Named::Known(Req::Exposure),
-        },
-        Entry {
-            name: "Quantize",
-            value: Named::Known(Req::Quantize),
-        },
-        Entry {
-            name: "Display",
-            value: Named::Known(Req::Display),
-        },
-        Entry {
-            name: "Color",
-            value: Named::Known(Req::Color),
-        },
-        Entry {
-            name: "Opacity",
-            value: Named::Known(Req::Opacity),
-        },
-        Entry {
-            name: "ShadingRate",
-            value: Named::Known(Req::ShadingRate),
-        },
-        Entry {
-            name: "ShadingInterpolation",
-            value: Named::Known(Req::ShadingInterpolation),
-        },
-        Entry {
-            name: "Sides",
-            value: Named::Known(Req::Sides),
-        },
-        Entry {
-            name: "Orientation",
-            value: Named::Known(Req::Orientation),
-        },
-        Entry {
-            name: "Surface",
-            value: Named::Known(Req::Surface),
-        },
-        Entry {
-            name: "Displacement",
-            value: Named::Known(Req::Displacement),
-        },
-        Entry {
-            name: "Atmosphere",
-            value: Named::Known(Req::Atmosphere),
-        },
-        Entry {
-            name: "LightSource",
-            value: Named::Known(Req::LightSource),
-        },
-        Entry {
-            name: "Illuminate",
-            value: Named::Known(Req::Illuminate),
-        },
-        Entry {
-            name: "Attribute",
-            value: Named::Known(Req::Attribute),
-        },
-        Entry {
-            name: "Basis",
-            value: Named::Known(Req::Basis),
-        },
-        Entry {
-            name: "Translate",
-            value: Named::Known(Req::Translate),
-        },
-        Entry {
-            name: "Scale",
-            value: Named::Known(Req::Scale),
-        },
-        Entry {
-            name: "Rotate",
-            value: Named::Known(Req::Rotate),
-        },
-        Entry {
-            name: "Transform",
-            value: Named::Known(Req::Transform),
-        },
-        Entry {
-            name: "ConcatTransform",
-            value: Named::Known(Req::ConcatTransform),
-        },
-        Entry {
-            name: "Patch",
-            value: Named::Known(Req::Patch),
-        },
-        Entry {
-            name: "PatchMesh",
-            value: Named::Known(Req::PatchMesh),
-        },
-        Entry {
-            name: "Polygon",
-            value: Named::Known(Req::Polygon),
-        },
-        Entry {
-            name: "PointsPolygons",
-            value: Named::Known(Req::PointsPolygons),
-        },
-        Entry {
-            name: "version",
-            value: Named::Known(Req::Version),
-        },
-        Entry {
-            name: "ErrorHandler",
-            value: Named::Known(Req::ErrorHandler),
-        },
-        Entry {
-            name: "Hider",
-            value: Named::Known(Req::Hider),
-        },
-        Entry {
-            name: "Shutter",
-            value: Named::Known(Req::Shutter),
-        },
-        Entry {
-            name: "RelativeDetail",
-            value: Named::Known(Req::RelativeDetail),
-        },
-        Entry {
-            name: "GeometricApproximation",
-            value: Named::Known(Req::GeometricApproximation),
-        },
-        Entry {
-            name: "PixelVariance",
-            value: Named::Known(Req::PixelVariance),
-        },
-        Entry {
-            name: "Bound",
-            value: Named::Known(Req::Bound),
-        },
-        Entry {
-            name: "CoordinateSystem",
-            value: Named::Known(Req::CoordinateSystem),
-        },
-        Entry {
-            name: "Option",
-            value: Named::Known(Req::Option),
-        },
-        Entry {
-            name: "ReadArchive",
-            value: Named::LeftOut,
-        },
-        Entry {
-            name: "GeneralPolygon",
-            value: Named::LeftOut,
-        },
-        Entry {
-            name: "PointsGeneralPolygons",
-            value: Named::LeftOut,
-        },
-        Entry {
-            name: "NuPatch",
-            value: Named::LeftOut,
-        },
-        Entry {
-            name: "TrimCurve",
-            value: Named::LeftOut,
-        },
-        Entry {
-            name: "SubdivisionMesh",
-            value: Named::LeftOut,
-        },
-        Entry {
-            name: "Curves",
-            value: Named::LeftOut,
-        },
-        Entry {
-            name: "Points",
-            value: Named::LeftOut,
-        },
-        Entry {
-            name: "Blobby",
-            value: Named::LeftOut,
-        },
-        Entry {
-            name: "Hyperboloid",
-            value: Named::LeftOut,
-        },
-        Entry {
-            name: "Paraboloid",
-            value: Named::LeftOut,
-        },
-        Entry {
-            name: "Torus",
-            value: Named::LeftOut,
-        },
-        Entry {
-            name: "Sphere",
-            value: Named::LeftOut,
-        },
-        Entry {
-            name: "Cylinder",
-            value: Named::LeftOut,
-        },
-        Entry {
-            name: "Cone",
-            value: Named::LeftOut,
-        },
-        Entry {
-            name: "Disk",
-            value: Named::LeftOut,
-        },
-        Entry {
-            name: "SolidBegin",
-            value: Named::LeftOut,
-        },
-        Entry {
-            name: "ObjectBegin",
-            value: Named::LeftOut,
-        },
-        Entry {
-            name: "Detail",
-            value: Named::LeftOut,
-        },
-        Entry {
-            name: "DetailRange",
-            value: Named::LeftOut,
-        },
-        Entry {
-            name: "AreaLightSource",
-            value: Named::LeftOut,
-        },
-        Entry {
-            name: "Imager",
-            value: Named::LeftOut,
-        },
-        Entry {
-            name: "Interior",
-            value: Named::LeftOut,
-        },
-        Entry {
-            name: "Exterior",
-            value: Named::LeftOut,
-        },
-        Entry {
-            name: "Matte",
-            value: Named::LeftOut,
-        },
-        Entry {
-            name: "Deformation",
-            value: Named::LeftOut,
-        },
-        Entry {
-            name: "Skew",
-            value: Named::LeftOut,
-        },
-        Entry {
-            name: "Perspective",
-            value: Named::LeftOut,
-        },
-        Entry {
-            name: "CoordSysTransform",
-            value: Named::LeftOut,
-        },
-        Entry {
-            name: "TextureCoordinates",
-            value: Named::LeftOut,
-        },
-        Entry {
-            name: "ColorSamples",
-            value: Named::LeftOut,
-        },
-        Entry {
-            name: "DepthOfField",
-            value: Named::LeftOut,
-        },
-        Entry {
-            name: "MotionBegin",
-            value: Named::LeftOut,
-        },
+        Entry("FrameBegin", Named::Known(Req::FrameBegin)),
+        Entry("FrameEnd", Named::Known(Req::FrameEnd)),
+        Entry("WorldBegin", Named::Known(Req::WorldBegin)),
+        Entry("WorldEnd", Named::Known(Req::WorldEnd)),
+        Entry("AttributeBegin", Named::Known(Req::AttributeBegin)),
+        Entry("AttributeEnd", Named::Known(Req::AttributeEnd)),
+        Entry("TransformBegin", Named::Known(Req::TransformBegin)),
+        Entry("TransformEnd", Named::Known(Req::TransformEnd)),
+        Entry("Identity", Named::Known(Req::Identity)),
+        Entry("ReverseOrientation", Named::Known(Req::ReverseOrientation)),
+        Entry("Declare", Named::Known(Req::Declare)),
+        Entry("Format", Named::Known(Req::Format)),
+        Entry("FrameAspectRatio", Named::Known(Req::FrameAspectRatio)),
+        Entry("ScreenWindow", Named::Known(Req::ScreenWindow)),
+        Entry("CropWindow", Named::Known(Req::CropWindow)),
+        Entry("Clipping", Named::Known(Req::Clipping)),
+        Entry("Projection", Named::Known(Req::Projection)),
+        Entry("PixelSamples", Named::Known(Req::PixelSamples)),
+        Entry("PixelFilter", Named::Known(Req::PixelFilter)),
+        Entry("Exposure", Named::Known(Req::Exposure)),
+        Entry("Quantize", Named::Known(Req::Quantize)),
+        Entry("Display", Named::Known(Req::Display)),
+        Entry("Color", Named::Known(Req::Color)),
+        Entry("Opacity", Named::Known(Req::Opacity)),
+        Entry("ShadingRate", Named::Known(Req::ShadingRate)),
+        Entry(
+            "ShadingInterpolation",
+            Named::Known(Req::ShadingInterpolation),
+        ),
+        Entry("Sides", Named::Known(Req::Sides)),
+        Entry("Orientation", Named::Known(Req::Orientation)),
+        Entry("Surface", Named::Known(Req::Surface)),
+        Entry("Displacement", Named::Known(Req::Displacement)),
+        Entry("Atmosphere", Named::Known(Req::Atmosphere)),
+        Entry("LightSource", Named::Known(Req::LightSource)),
+        Entry("Illuminate", Named::Known(Req::Illuminate)),
+        Entry("Attribute", Named::Known(Req::Attribute)),
+        Entry("Basis", Named::Known(Req::Basis)),
+        Entry("Translate", Named::Known(Req::Translate)),
+        Entry("Scale", Named::Known(Req::Scale)),
+        Entry("Rotate", Named::Known(Req::Rotate)),
+        Entry("Transform", Named::Known(Req::Transform)),
+        Entry("ConcatTransform", Named::Known(Req::ConcatTransform)),
+        Entry("Patch", Named::Known(Req::Patch)),
+        Entry("PatchMesh", Named::Known(Req::PatchMesh)),
+        Entry("Polygon", Named::Known(Req::Polygon)),
+        Entry("PointsPolygons", Named::Known(Req::PointsPolygons)),
+        Entry("version", Named::Known(Req::Version)),
+        Entry("ErrorHandler", Named::Known(Req::ErrorHandler)),
+        Entry("Hider", Named::Known(Req::Hider)),
+        Entry("Shutter", Named::Known(Req::Shutter)),
+        Entry("RelativeDetail", Named::Known(Req::RelativeDetail)),
+        Entry(
+            "GeometricApproximation",
+            Named::Known(Req::GeometricApproximation),
+        ),
+        Entry("PixelVariance", Named::Known(Req::PixelVariance)),
+        Entry("Bound", Named::Known(Req::Bound)),
+        Entry("CoordinateSystem", Named::Known(Req::CoordinateSystem)),
+        Entry("Option", Named::Known(Req::Option)),
+        Entry("ReadArchive", Named::LeftOut),
+        Entry("GeneralPolygon", Named::LeftOut),
+        Entry("PointsGeneralPolygons", Named::LeftOut),
+        Entry("NuPatch", Named::LeftOut),
+        Entry("TrimCurve", Named::LeftOut),
+        Entry("SubdivisionMesh", Named::LeftOut),
+        Entry("Curves", Named::LeftOut),
+        Entry("Points", Named::LeftOut),
+        Entry("Blobby", Named::LeftOut),
+        Entry("Hyperboloid", Named::LeftOut),
+        Entry("Paraboloid", Named::LeftOut),
+        Entry("Torus", Named::LeftOut),
+        Entry("Sphere", Named::LeftOut),
+        Entry("Cylinder", Named::LeftOut),
+        Entry("Cone", Named::LeftOut),
+        Entry("Disk", Named::LeftOut),
+        Entry("SolidBegin", Named::LeftOut),
+        Entry("ObjectBegin", Named::LeftOut),
+        Entry("Detail", Named::LeftOut),
+        Entry("DetailRange", Named::LeftOut),
+        Entry("AreaLightSource", Named::LeftOut),
+        Entry("Imager", Named::LeftOut),
+        Entry("Interior", Named::LeftOut),
+        Entry("Exterior", Named::LeftOut),
+        Entry("Matte", Named::LeftOut),
+        Entry("Deformation", Named::LeftOut),
+        Entry("Skew", Named::LeftOut),
+        Entry("Perspective", Named::LeftOut),
+        Entry("CoordSysTransform", Named::LeftOut),
+        Entry("TextureCoordinates", Named::LeftOut),
+        Entry("ColorSamples", Named::LeftOut),
+        Entry("DepthOfField", Named::LeftOut),
+        Entry("MotionBegin", Named::LeftOut),
     ]
 }
 
@@ -384,26 +129,11 @@ fn classes() -> &'static [Entry<Class>]
     ensures { map plain result.now ≡ class_names }
 {
     &[
-        Entry {
-            name: "constant",
-            value: Class::Constant,
-        },
-        Entry {
-            name: "uniform",
-            value: Class::Uniform,
-        },
-        Entry {
-            name: "varying",
-            value: Class::Varying,
-        },
-        Entry {
-            name: "vertex",
-            value: Class::Vertex,
-        },
-        Entry {
-            name: "facevarying",
-            value: Class::FaceVarying,
-        },
+        Entry("constant", Class::Constant),
+        Entry("uniform", Class::Uniform),
+        Entry("varying", Class::Varying),
+        Entry("vertex", Class::Vertex),
+        Entry("facevarying", Class::FaceVarying),
     ]
 }
 
@@ -411,34 +141,13 @@ fn kinds() -> &'static [Entry<Kind>]
     ensures { map plain result.now ≡ kind_names }
 {
     &[
-        Entry {
-            name: "float",
-            value: Kind::Float,
-        },
-        Entry {
-            name: "integer",
-            value: Kind::Float,
-        },
-        Entry {
-            name: "color",
-            value: Kind::Color,
-        },
-        Entry {
-            name: "point",
-            value: Kind::Point,
-        },
-        Entry {
-            name: "vector",
-            value: Kind::Vector,
-        },
-        Entry {
-            name: "normal",
-            value: Kind::Normal,
-        },
-        Entry {
-            name: "string",
-            value: Kind::Str,
-        },
+        Entry("float", Kind::Float),
+        Entry("integer", Kind::Float),
+        Entry("color", Kind::Color),
+        Entry("point", Kind::Point),
+        Entry("vector", Kind::Vector),
+        Entry("normal", Kind::Normal),
+        Entry("string", Kind::Str),
     ]
 }
 
@@ -446,114 +155,33 @@ fn variables() -> &'static [Entry<(Class, Kind)>]
     ensures { map plain result.now ≡ variable_names }
 {
     &[
-        Entry {
-            name: "Ka",
-            value: (Class::Uniform, Kind::Float),
-        },
-        Entry {
-            name: "Kd",
-            value: (Class::Uniform, Kind::Float),
-        },
-        Entry {
-            name: "Ks",
-            value: (Class::Uniform, Kind::Float),
-        },
-        Entry {
-            name: "Kr",
-            value: (Class::Uniform, Kind::Float),
-        },
-        Entry {
-            name: "roughness",
-            value: (Class::Uniform, Kind::Float),
-        },
-        Entry {
-            name: "intensity",
-            value: (Class::Uniform, Kind::Float),
-        },
-        Entry {
-            name: "coneangle",
-            value: (Class::Uniform, Kind::Float),
-        },
-        Entry {
-            name: "conedeltaangle",
-            value: (Class::Uniform, Kind::Float),
-        },
-        Entry {
-            name: "beamdistribution",
-            value: (Class::Uniform, Kind::Float),
-        },
-        Entry {
-            name: "mindistance",
-            value: (Class::Uniform, Kind::Float),
-        },
-        Entry {
-            name: "maxdistance",
-            value: (Class::Uniform, Kind::Float),
-        },
-        Entry {
-            name: "distance",
-            value: (Class::Uniform, Kind::Float),
-        },
-        Entry {
-            name: "amplitude",
-            value: (Class::Uniform, Kind::Float),
-        },
-        Entry {
-            name: "fov",
-            value: (Class::Uniform, Kind::Float),
-        },
-        Entry {
-            name: "lightcolor",
-            value: (Class::Uniform, Kind::Color),
-        },
-        Entry {
-            name: "specularcolor",
-            value: (Class::Uniform, Kind::Color),
-        },
-        Entry {
-            name: "background",
-            value: (Class::Uniform, Kind::Color),
-        },
-        Entry {
-            name: "from",
-            value: (Class::Uniform, Kind::Point),
-        },
-        Entry {
-            name: "to",
-            value: (Class::Uniform, Kind::Point),
-        },
-        Entry {
-            name: "texturename",
-            value: (Class::Uniform, Kind::Str),
-        },
-        Entry {
-            name: "s",
-            value: (Class::Varying, Kind::Float),
-        },
-        Entry {
-            name: "t",
-            value: (Class::Varying, Kind::Float),
-        },
-        Entry {
-            name: "st",
-            value: (Class::Varying, Kind::Pair),
-        },
-        Entry {
-            name: "Cs",
-            value: (Class::Varying, Kind::Color),
-        },
-        Entry {
-            name: "Os",
-            value: (Class::Varying, Kind::Color),
-        },
-        Entry {
-            name: "N",
-            value: (Class::Varying, Kind::Normal),
-        },
-        Entry {
-            name: "P",
-            value: (Class::Vertex, Kind::Point),
-        },
+        Entry("Ka", (Class::Uniform, Kind::Float)),
+        Entry("Kd", (Class::Uniform, Kind::Float)),
+        Entry("Ks", (Class::Uniform, Kind::Float)),
+        Entry("Kr", (Class::Uniform, Kind::Float)),
+        Entry("roughness", (Class::Uniform, Kind::Float)),
+        Entry("intensity", (Class::Uniform, Kind::Float)),
+        Entry("coneangle", (Class::Uniform, Kind::Float)),
+        Entry("conedeltaangle", (Class::Uniform, Kind::Float)),
+        Entry("beamdistribution", (Class::Uniform, Kind::Float)),
+        Entry("mindistance", (Class::Uniform, Kind::Float)),
+        Entry("maxdistance", (Class::Uniform, Kind::Float)),
+        Entry("distance", (Class::Uniform, Kind::Float)),
+        Entry("amplitude", (Class::Uniform, Kind::Float)),
+        Entry("fov", (Class::Uniform, Kind::Float)),
+        Entry("lightcolor", (Class::Uniform, Kind::Color)),
+        Entry("specularcolor", (Class::Uniform, Kind::Color)),
+        Entry("background", (Class::Uniform, Kind::Color)),
+        Entry("from", (Class::Uniform, Kind::Point)),
+        Entry("to", (Class::Uniform, Kind::Point)),
+        Entry("texturename", (Class::Uniform, Kind::Str)),
+        Entry("s", (Class::Varying, Kind::Float)),
+        Entry("t", (Class::Varying, Kind::Float)),
+        Entry("st", (Class::Varying, Kind::Pair)),
+        Entry("Cs", (Class::Varying, Kind::Color)),
+        Entry("Os", (Class::Varying, Kind::Color)),
+        Entry("N", (Class::Varying, Kind::Normal)),
+        Entry("P", (Class::Vertex, Kind::Point)),
     ]
 }
 

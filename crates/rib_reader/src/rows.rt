@@ -38,104 +38,58 @@ pub fn row(name: Req) -> Row
         Req::Format => Row {
             shapes: &[Shape::Whole, Shape::Whole, Shape::Number],
             rules: &[
-                Rule::Within {
-                    place: 0,
-                    least: 1,
-                    most: 2_147_483_647,
-                },
-                Rule::Within {
-                    place: 1,
-                    least: 1,
-                    most: 2_147_483_647,
-                },
+                Rule::Within(0, 1, 2_147_483_647),
+                Rule::Within(1, 1, 2_147_483_647),
             ],
             tail: Tail::Empty,
         },
         Req::FrameAspectRatio => Row {
             shapes: &[Shape::Number],
-            rules: &[Rule::AtLeast { place: 0, raw: 1 }],
+            rules: &[Rule::AtLeast(0, 1)],
             tail: Tail::Empty,
         },
         Req::ScreenWindow => Row {
             shapes: &[Shape::Number, Shape::Number, Shape::Number, Shape::Number],
-            rules: &[
-                Rule::Rising {
-                    first: 0,
-                    second: 1,
-                },
-                Rule::Rising {
-                    first: 2,
-                    second: 3,
-                },
-            ],
+            rules: &[Rule::Rising(0, 1), Rule::Rising(2, 3)],
             tail: Tail::Empty,
         },
         Req::CropWindow => Row {
             shapes: &[Shape::Number, Shape::Number, Shape::Number, Shape::Number],
             rules: &[
-                Rule::Only { place: 0, raw: 0 },
-                Rule::Only {
-                    place: 1,
-                    raw: 65_536,
-                },
-                Rule::Only { place: 2, raw: 0 },
-                Rule::Only {
-                    place: 3,
-                    raw: 65_536,
-                },
+                Rule::Only(0, 0),
+                Rule::Only(1, 65_536),
+                Rule::Only(2, 0),
+                Rule::Only(3, 65_536),
             ],
             tail: Tail::Empty,
         },
         Req::Clipping => Row {
             shapes: &[Shape::Number, Shape::Number],
-            rules: &[
-                Rule::AtLeast { place: 0, raw: 1 },
-                Rule::Rising {
-                    first: 0,
-                    second: 1,
-                },
-            ],
+            rules: &[Rule::AtLeast(0, 1), Rule::Rising(0, 1)],
             tail: Tail::Empty,
         },
         Req::Projection => Row {
             shapes: &[Shape::Word],
-            rules: &[Rule::OneOf {
-                place: 0,
-                words: Words::Projections,
-                code: RibCode::S2,
-            }],
+            rules: &[Rule::OneOf(0, Words::Projections, RibCode::S2)],
             tail: Tail::Parameters,
         },
         Req::PixelSamples => Row {
             shapes: &[Shape::Number, Shape::Number],
-            rules: &[
-                Rule::AtLeast {
-                    place: 0,
-                    raw: 65_536,
-                },
-                Rule::AtLeast {
-                    place: 1,
-                    raw: 65_536,
-                },
-            ],
+            rules: &[Rule::AtLeast(0, 65_536), Rule::AtLeast(1, 65_536)],
             tail: Tail::Empty,
         },
         Req::PixelFilter => Row {
             shapes: &[Shape::Word, Shape::Number, Shape::Number],
             rules: &[
-                Rule::OneOf {
-                    place: 0,
-                    words: Words::Filters,
-                    code: RibCode::S2,
-                },
-                Rule::AtLeast { place: 1, raw: 256 },
-                Rule::AtLeast { place: 2, raw: 256 },
+                Rule::OneOf(0, Words::Filters, RibCode::S2),
+                Rule::AtLeast(1, 256),
+                Rule::AtLeast(2, 256),
             ],
             tail: Tail::Empty,
         },
         Req::Exposure => Row {
             shapes: &[Shape::Number, Shape::Number],
-            rules: &[Rule::AtLeast { place: 1, raw: 1 }],
+            rules: &[Rule::AtLeast(1, 1)],
             tail: Tail::Empty,
         },
         Req::Quantize => Row {
@@ -151,11 +105,7 @@ pub fn row(name: Req) -> Row
         },
         Req::Display => Row {
             shapes: &[Shape::Word, Shape::Word, Shape::Word],
-            rules: &[Rule::OneOf {
-                place: 2,
-                words: Words::Modes,
-                code: RibCode::S2,
-            }],
+            rules: &[Rule::OneOf(2, Words::Modes, RibCode::S2)],
             tail: Tail::Free,
         },
         Req::Color | Req::Opacity => Row {
@@ -171,39 +121,21 @@ pub fn row(name: Req) -> Row
         Req::ShadingInterpolation => Row {
             shapes: &[Shape::Word],
             rules: &[
-                Rule::OneOf {
-                    place: 0,
-                    words: Words::Interpolations,
-                    code: RibCode::S3,
-                },
-                Rule::NoneOf {
-                    place: 0,
-                    words: Words::Smooth,
-                },
+                Rule::OneOf(0, Words::Interpolations, RibCode::S3),
+                Rule::NoneOf(0, Words::Smooth),
             ],
             tail: Tail::Empty,
         },
         Req::Sides => Row {
             shapes: &[Shape::Whole],
-            rules: &[Rule::Within {
-                place: 0,
-                least: 1,
-                most: 2,
-            }],
+            rules: &[Rule::Within(0, 1, 2)],
             tail: Tail::Empty,
         },
         Req::Orientation => Row {
             shapes: &[Shape::Word],
             rules: &[
-                Rule::OneOf {
-                    place: 0,
-                    words: Words::Orientations,
-                    code: RibCode::S3,
-                },
-                Rule::NoneOf {
-                    place: 0,
-                    words: Words::Handed,
-                },
+                Rule::OneOf(0, Words::Orientations, RibCode::S3),
+                Rule::NoneOf(0, Words::Handed),
             ],
             tail: Tail::Empty,
         },
@@ -219,11 +151,7 @@ pub fn row(name: Req) -> Row
         },
         Req::Illuminate => Row {
             shapes: &[Shape::Whole, Shape::Whole],
-            rules: &[Rule::Within {
-                place: 1,
-                least: 0,
-                most: 1,
-            }],
+            rules: &[Rule::Within(1, 0, 1)],
             tail: Tail::Empty,
         },
         Req::Attribute => Row {
@@ -234,27 +162,12 @@ pub fn row(name: Req) -> Row
         Req::Basis => Row {
             shapes: &[Shape::Word, Shape::Whole, Shape::Word, Shape::Whole],
             rules: &[
-                Rule::NoArray,
-                Rule::OneOf {
-                    place: 0,
-                    words: Words::Bases,
-                    code: RibCode::S2,
-                },
-                Rule::Within {
-                    place: 1,
-                    least: 1,
-                    most: 2_147_483_647,
-                },
-                Rule::OneOf {
-                    place: 2,
-                    words: Words::Bases,
-                    code: RibCode::S2,
-                },
-                Rule::Within {
-                    place: 3,
-                    least: 1,
-                    most: 2_147_483_647,
-                },
+                Rule::NoArray(0),
+                Rule::OneOf(0, Words::Bases, RibCode::S2),
+                Rule::Within(1, 1, 2_147_483_647),
+                Rule::NoArray(2),
+                Rule::OneOf(2, Words::Bases, RibCode::S2),
+                Rule::Within(3, 1, 2_147_483_647),
             ],
             tail: Tail::Empty,
         },
@@ -276,15 +189,8 @@ pub fn row(name: Req) -> Row
         Req::Patch => Row {
             shapes: &[Shape::Word],
             rules: &[
-                Rule::OneOf {
-                    place: 0,
-                    words: Words::Patches,
-                    code: RibCode::S3,
-                },
-                Rule::NoneOf {
-                    place: 0,
-                    words: Words::Bicubic,
-                },
+                Rule::OneOf(0, Words::Patches, RibCode::S3),
+                Rule::NoneOf(0, Words::Bicubic),
             ],
             tail: Tail::Points,
         },
@@ -298,31 +204,11 @@ pub fn row(name: Req) -> Row
             ],
             rules: &[
                 Rule::Unsupported,
-                Rule::OneOf {
-                    place: 0,
-                    words: Words::Patches,
-                    code: RibCode::S3,
-                },
-                Rule::Within {
-                    place: 1,
-                    least: 1,
-                    most: 65_536,
-                },
-                Rule::OneOf {
-                    place: 2,
-                    words: Words::Wraps,
-                    code: RibCode::S3,
-                },
-                Rule::Within {
-                    place: 3,
-                    least: 1,
-                    most: 65_536,
-                },
-                Rule::OneOf {
-                    place: 4,
-                    words: Words::Wraps,
-                    code: RibCode::S3,
-                },
+                Rule::OneOf(0, Words::Patches, RibCode::S3),
+                Rule::Within(1, 1, 65_536),
+                Rule::OneOf(2, Words::Wraps, RibCode::S3),
+                Rule::Within(3, 1, 65_536),
+                Rule::OneOf(4, Words::Wraps, RibCode::S3),
             ],
             tail: Tail::Variables,
         },

@@ -1,10 +1,10 @@
 ghost use Rattle.std.specs.Prelude.{◌≡◌, IfOk};
-ghost use Rattle.rib_reader.specs.Rules.{is_outside, is_below, is_less, is_not_less, is_one, is_none_of, word_at, levels_code, declare_code, rule_code, rules_from, args_code, follows_of};
+ghost use Rattle.rib_reader.specs.Rules.{is_outside, is_below, is_less, is_not_less, is_one, is_none_of, word_at, levels_code, declare_code, lowest, rule_code, args_code, follows_of};
 
 use crate::args::Arg;
-use crate::arguments::{has_array, raw, shapes_fit, whole, word};
+use crate::arguments::{is_array_at, raw, shapes_fit, whole, word};
 use crate::codes::{code_when, lower_of};
-use crate::declarations::{Meaning, declare};
+use crate::declarations::declared_type;
 use crate::faults::RibCode;
 use crate::follows::Follows;
 use crate::req::Req;
@@ -83,14 +83,11 @@ fn levels(one: Option<i64>, low: Option<i64>, high: Option<i64>) -> Option<RibCo
 }
 
 fn declaration(alloc: Global, args: &[Arg]) -> Result<Option<RibCode>, NoMemory>
-    ensures { IfOk result (λ r. r ≡ declare_code (word_at args.now 0) (word_at args.now 1)) }
+    ensures { IfOk result (λ r. r ≡ declare_code (word_at args.now 1)) }
 {
-    match (word(args, 0), word(args, 1)) {
-        (Some(name), Some(text)) => match declare(alloc, name, text)? {
-            Meaning::Is(_) => Ok(None),
-            Meaning::Not(code) => Ok(Some(code)),
-        },
-        _ => Ok(None),
+    match word(args, 1) {
+        Some(text) => Ok(declared_type(alloc, text)?.err()),
+        None => Ok(None),
     }
 }
 
@@ -99,24 +96,22 @@ fn rule_fault(alloc: Global, rule: Rule, args: &[Arg]) -> Result<Option<RibCode>
     ensures { IfOk result (λ r. r ≡ rule_code rule args.now) }
 {
     Ok(match rule {
-        Rule::Within { place, least, most } => {
+        Rule::Within(place, least, most) => {
             code_when(is_outside(whole(args, place), least, most), RibCode::S3)
         }
-        Rule::AtLeast { place, raw: least } => {
-            code_when(is_below(raw(args, place), least), RibCode::S3)
-        }
-        Rule::Rising { first, second } => {
+        Rule::AtLeast(place, least) => { code_when(is_below(raw(args, place), least), RibCode::S3) }
+        Rule::Rising(first, second) => {
             code_when(
                 is_not_less(raw(args, first), raw(args, second)),
                 RibCode::S3,
             )
         }
-        Rule::Only { place, raw: same } => {
+        Rule::Only(place, same) => {
             code_when(is_outside(raw(args, place), same, same), RibCode::S2)
         }
-        Rule::OneOf { place, words, code } => code_when(is_none_of(words, args, place), code),
-        Rule::NoneOf { place, words } => code_when(is_one(words, args, place), RibCode::S2),
-        Rule::NoArray => code_when(has_array(args), RibCode::S2),
+        Rule::OneOf(place, words, code) => code_when(is_none_of(words, args, place), code),
+        Rule::NoneOf(place, words) => code_when(is_one(words, args, place), RibCode::S2),
+        Rule::NoArray(place) => code_when(is_array_at(args, place), RibCode::S2),
         Rule::Levels => {
             if is_one(Words::Modes, args, 0) {
                 levels(whole(args, 1), whole(args, 2), whole(args, 3))
@@ -129,20 +124,15 @@ fn rule_fault(alloc: Global, rule: Rule, args: &[Arg]) -> Result<Option<RibCode>
     })
 }
 
-// The lowest code of these rules and of what was met before.
-fn rules_fault(
-    alloc: Global,
-    before: Option<RibCode>,
-    rules: &[Rule],
-    args: &[Arg],
-) -> Result<Option<RibCode>, NoMemory>
-    ensures { IfOk result (λ r. r ≡ rules_from before rules.now args.now) }
+// The lowest code of a row's rules.
+fn rules_fault(alloc: Global, rules: &[Rule], args: &[Arg]) -> Result<Option<RibCode>, NoMemory>
+    ensures { IfOk result (λ r. r ≡ lowest (λ q. rule_code q args.now) rules.now) }
 {
-    let mut fault = before;
-    for rule in rules {
-        fault = lower_of(fault, rule_fault(alloc, *rule, args)?);
-    }
-    Ok(fault)
+    let Some((rule, rules)) = rules.split_first() else {
+        return Ok(None);
+    };
+    let first = rule_fault(alloc, *rule, args)?;
+    Ok(lower_of(first, rules_fault(alloc, rules, args)?))
 }
 
 /// The lowest code that stands in the arguments.
@@ -151,7 +141,7 @@ pub fn args_fault(alloc: Global, name: Req, args: &[Arg]) -> Result<Option<RibCo
 {
     let row = row(name);
     let unfit = code_when(!shapes_fit(row.shapes, args), RibCode::S3);
-    rules_fault(alloc, unfit, row.rules, args)
+    Ok(lower_of(unfit, rules_fault(alloc, row.rules, args)?))
 }
 
 /// What follows the arguments.

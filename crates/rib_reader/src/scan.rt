@@ -1,7 +1,6 @@
 ghost use Rattle.std.specs.Prelude.{◌≡◌, IfOk, OnOk};
 
 use crate::args::Arg;
-use crate::texts::copy;
 use fixed_math::{List, NoMemory, Text};
 use rib_lex::{Decimal, TokenKind};
 use std::alloc::Global;
@@ -57,7 +56,7 @@ impl Scan {
         match kind {
             TokenKind::Name(_) => self.broken = true,
             TokenKind::Str(text) => {
-                let text = copy(alloc, text)?;
+                let text = text.copied(alloc)?;
                 if self.inside {
                     self.strings.0.push(text)?;
                 } else {

@@ -31,43 +31,23 @@ pub enum Words {
     Bounds,
 }
 
-/// What a row of the table says of the values of the arguments.
+/// What a row of the table says of the values of the arguments. Arguments are named by their places.
 #[derive(Debug, Clone, Copy, PartialEq, Eq)]
 pub enum Rule {
-    /// The whole number at this place lies from `least` to `most`, or S3.
-    Within {
-        place: usize,
-        least: i64,
-        most: i64,
-    },
-    /// The number at this place has at least this raw, or S3.
-    AtLeast {
-        place: usize,
-        raw: i64,
-    },
+    /// The whole number there lies from the first number to the second, or S3.
+    Within(usize, i64, i64),
+    /// The number there has at least this raw, or S3.
+    AtLeast(usize, i64),
     /// The number at the first place is less than that at the second, or S3.
-    Rising {
-        first: usize,
-        second: usize,
-    },
-    /// The number at this place has this raw, or S2.
-    Only {
-        place: usize,
-        raw: i64,
-    },
-    /// The string at this place is one of these words, or that code.
-    OneOf {
-        place: usize,
-        words: Words,
-        code: RibCode,
-    },
-    /// The string at this place is none of these words, or S2.
-    NoneOf {
-        place: usize,
-        words: Words,
-    },
-    /// No argument is an array, or S2.
-    NoArray,
+    Rising(usize, usize),
+    /// The number there has this raw, or S2.
+    Only(usize, i64),
+    /// The string there is one of these words, or that code.
+    OneOf(usize, Words, RibCode),
+    /// The string there is none of these words, or S2.
+    NoneOf(usize, Words),
+    /// No array stands there, or S2.
+    NoArray(usize),
     /// What `Quantize` says of its numbers.
     Levels,
     /// What `Declare` says of its second word.

@@ -52,6 +52,3 @@ pub fn time(x: u32, y: u32, cell: u32) -> u16
 {
     (hash_of(x, y, cell, 2) >> 16) as u16
 }
-
-#[cfg(test)]
-mod tests;

@@ -1,6 +1,7 @@
 -- The shaders that attributes, lights' numbers and primitives name stay there, and keep their kinds.
 use Rattle.std.proofs.Common.{◌≡◌, refl, subst, ℕ, zero, suc, ◌-◌, ℤ, Bool, true, false, List, [], ◌∷◌, ◌++◌, length, set, Option, Some, None, Result, Ok, Err, All, slice_get, slice_index_or, if◌then◌else◌, arith, not, is_some, nat_le, ◌==◌}
 use Rattle.std.specs.Ordering.{int_eq}
+use Rattle.std.specs.Option.{option_or}
 use Rattle.std.proofs.lemmas.List.Elements.{All-append, All-take, All-filter}
 use Rattle.rib_reader.specs.declared.req.Req.{Req}
 use Rattle.rib_reader.specs.declared.req.Req.TheVariants as reqs
@@ -18,7 +19,7 @@ use Rattle.scene_state.specs.Scene.{PrimValue, FrameValue, IsUse, IsSomeUse, Has
 use Rattle.scene_state.specs.Choices.{ChoiceValues, chosen, view_of}
 use Rattle.scene_state.specs.Looks.{look_after, is_single}
 use Rattle.scene_state.specs.Shaders.{with_request, placed_in, placed, some_placed, all_placed, light_of, with_light, without_light, is_among}
-use Rattle.scene_state.specs.State.{most_blocks, most_frames, most_lights, with_frame, name_or, moved, scaled, turned, of_rows, points_of, near_points, prim_of, Stepped, first_state, closed, opened, innermost, frame_ended, attributes_ended, transform_ended, world_with, frame_made, frame_of, world_ended, with_choices, option_set, display_set, with_current, with_before, space_of, use_of, next_shader, with_shader, light_added, light_made, handle_for, illuminated_by, light_named, with_prim, patch_near, patch_with, patch_of_numbers, patch_in, patch_set}
+use Rattle.scene_state.specs.State.{most_blocks, most_frames, most_lights, with_frame, name_or, moved, scaled, turned, of_rows, points_of, points_in_range, prim_of, Stepped, first_state, closed, opened, innermost, frame_ended, attributes_ended, transform_ended, world_with, frame_made, frame_of, world_ended, with_choices, option_set, display_set, with_current, with_before, space_of, use_of, next_shader, with_shader, light_added, light_made, handle_for, illuminated_by, light_named, with_prim, patch_in_range, patch_with, patch_of_numbers, patch_in, patch_set}
 use Rattle.scene_state.specs.Steps.{with_surface, with_displacement, with_atmosphere, look_set, step, after, and_then, Placed, state_from}
 use Rattle.scene_state.specs.declared.fault.StateCode.{StateCode}
 use Rattle.scene_state.specs.declared.fault.StateCode.TheVariants.{N1, N2, N5, M1, M2, M3, M4}
@@ -166,21 +167,23 @@ some_use_keeps : (s t : Shaders) (kind : ShaderKind) (o : Option ℕ) → Keeps 
 some_use_keeps s t kind None f h = tt
 some_use_keeps s t kind (Some n) f h = f.uses kind n h
 
-pub all_placed_keeps : (s : Shaders) (done ks : List ℕ) → Keeps s (all_placed s done ks).0
-all_placed_keeps s done [] = keeps_same s
-all_placed_keeps s done (k ∷ ks) =
+pub all_placed_keeps : (s : Shaders) (ks : List ℕ) → Keeps s (all_placed s ks).0
+all_placed_keeps s [] = keeps_same s
+all_placed_keeps s (k ∷ ks) =
     let p = placed s k in
-    keeps_both s p.0 (all_placed p.0 (done ++ p.1 ∷ []) ks).0 (placed_keeps s k) (all_placed_keeps p.0 (done ++ p.1 ∷ []) ks)
+    keeps_both s p.0 (all_placed p.0 ks).0 (placed_keeps s k) (all_placed_keeps p.0 ks)
 
-pub all_placed_are : (s : Shaders) (kind : ShaderKind) (done ks : List ℕ) → All (IsUse s.uses kind) done → All (IsShader s kind) ks
-    → All (IsUse (all_placed s done ks).0.uses kind) (all_placed s done ks).1
-all_placed_are s kind done [] before all = before
-all_placed_are s kind done (k ∷ ks) before all =
+all_first : {A : Type 0} (P : A → Type 0) (x : A) (xs : List A) → P x → All P xs → All P (x ∷ xs)
+all_first P x xs p all zero d h = p
+all_first P x xs p all (suc k) d h = all k d (omega (arith, h))
+
+pub all_placed_are : (s : Shaders) (kind : ShaderKind) (ks : List ℕ) → All (IsShader s kind) ks → All (IsUse (all_placed s ks).0.uses kind) (all_placed s ks).1
+all_placed_are s kind [] all = all_none (IsUse s.uses kind)
+all_placed_are s kind (k ∷ ks) all =
     let p = placed s k in
-    let keeps = placed_keeps s k in
-    all_placed_are p.0 kind (done ++ p.1 ∷ []) ks
-    (all_more (IsUse p.0.uses kind) done p.1 (all_then (IsUse s.uses kind) (IsUse p.0.uses kind) done (keeps.uses kind) before) (placed_is s kind k (all 0 k (omega arith))))
-    (λ j d h. keeps.shaders kind (slice_index_or ks j d) (all (suc j) d (omega (arith, h))))
+    all_first (IsUse (all_placed p.0 ks).0.uses kind) p.1 (all_placed p.0 ks).1
+    ((all_placed_keeps p.0 ks).uses kind p.1 (placed_is s kind k (all 0 k (omega arith))))
+    (all_placed_are p.0 kind ks (λ j d h. (placed_keeps s k).shaders kind (slice_index_or ks j d) (all (suc j) d (omega (arith, h)))))
 
 -- ---- states
 
@@ -410,15 +413,19 @@ some_either : (s : Shaders) (b : Bool) (x y : Option ℕ) → IsSomeShader s kin
 some_either s true x y p q = p
 some_either s false x y p q = q
 
-found_is : (s : Shaders) (hs : List Handle) (number : ℤ) (found : Option ℕ) → All (IsHandle s) hs → IsSomeShader s kinds.Light found → IsSomeShader s kinds.Light (light_of hs number found)
-found_is s [] number found all before = before
-found_is s (h ∷ hs) number found all before =
-    found_is s hs number (if int_eq h.number number then Some h.light else found) (λ k d l. all (suc k) d (omega (arith, l)))
-    (some_either s (int_eq h.number number) (Some h.light) found (all 0 h (omega arith)) before)
+or_is : (s : Shaders) (x y : Option ℕ) → IsSomeShader s kinds.Light x → IsSomeShader s kinds.Light y → IsSomeShader s kinds.Light (option_or x y)
+or_is s None y p q = q
+or_is s (Some k) y p q = p
+
+found_is : (s : Shaders) (hs : List Handle) (number : ℤ) → All (IsHandle s) hs → IsSomeShader s kinds.Light (light_of hs number)
+found_is s [] number all = tt
+found_is s (h ∷ hs) number all =
+    or_is s (light_of hs number) (if int_eq h.number number then Some h.light else None) (found_is s hs number (λ k d l. all (suc k) d (omega (arith, l))))
+    (some_either s (int_eq h.number number) (Some h.light) None (all 0 h (omega arith)) tt)
 
 named_is : (s : Shaders) (number : Option ℤ) (hs : List Handle) → All (IsHandle s) hs → IsSomeShader s kinds.Light (light_named number hs)
 named_is s None hs all = tt
-named_is s (Some number) hs all = found_is s hs number None all tt
+named_is s (Some number) hs all = found_is s hs number all
 
 with_light_are : (s : Shaders) (k : ℕ) (lights : List ℕ) → IsShader s kinds.Light k → All (IsShader s kinds.Light) lights → All (IsShader s kinds.Light) (with_light k lights)
 with_light_are s k lights is all = all_either (IsShader s kinds.Light) (is_among k lights) lights (lights ++ k ∷ []) all (all_more (IsShader s kinds.Light) lights k all is)
@@ -445,11 +452,11 @@ good_prim r object patch s g =
     let d = some_placed s.shaders a.displacement in
     let f = placed d.0 a.surface in
     let v = some_placed f.0 a.atmosphere in
-    let l = all_placed v.0 [] a.lights in
+    let l = all_placed v.0 a.lights in
     let to_d = some_placed_keeps s.shaders a.displacement in
     let d_f = placed_keeps d.0 a.surface in
     let f_v = some_placed_keeps f.0 a.atmosphere in
-    let v_l = all_placed_keeps v.0 [] a.lights in
+    let v_l = all_placed_keeps v.0 a.lights in
     let f_l = keeps_both f.0 v.0 l.0 f_v v_l in
     let d_l = keeps_both d.0 f.0 l.0 d_f f_l in
     let to_f = keeps_both s.shaders d.0 f.0 to_d d_f in
@@ -463,19 +470,19 @@ good_prim r object patch s g =
         surface = f_l.uses kinds.Surface f.1 (placed_is d.0 kinds.Surface a.surface (to_d.shaders kinds.Surface a.surface w.surface));
         displacement = some_use_keeps d.0 l.0 kinds.Displacement d.1 d_l (some_placed_is s.shaders kinds.Displacement a.displacement w.displacement);
         atmosphere = some_use_keeps v.0 l.0 kinds.Volume v.1 v_l (some_placed_is f.0 kinds.Volume a.atmosphere (some_keeps s.shaders f.0 kinds.Volume a.atmosphere to_f w.atmosphere));
-        lights = all_placed_are v.0 kinds.Light [] a.lights (all_none (IsUse v.0.uses kinds.Light)) (all_then (IsShader s.shaders kinds.Light) (IsShader v.0 kinds.Light) a.lights (to_v.shaders kinds.Light) w.lights);
+        lights = all_placed_are v.0 kinds.Light a.lights (all_then (IsShader s.shaders kinds.Light) (IsShader v.0 kinds.Light) a.lights (to_v.shaders kinds.Light) w.lights);
       };
       frames = h.frames;
     }
 
-good_near : (r : Read) (object : Map) (o : Option (List Vec3)) (s : State) → IsGood s → GoodStep (patch_near r object o s)
-good_near r object None s g = tt
-good_near r object (Some ps) s g = good_prim r object (Bilinear ps) s g
+good_in_range : (r : Read) (object : Map) (o : Option (List Vec3)) (s : State) → IsGood s → GoodStep (patch_in_range r object o s)
+good_in_range r object None s g = tt
+good_in_range r object (Some ps) s g = good_prim r object (Bilinear ps) s g
 
 good_patch_with : (r : Read) (object : Map) (o : Option (List Vec3)) (s : State) → IsGood s → GoodStep (patch_with r object o s)
 good_patch_with r object None s g = tt
 good_patch_with r object (Some ps) s g =
-    either (nat_le most_prims (length s.prims)) (Err M3) (patch_near r object (near_points object ps) s) tt (good_near r object (near_points object ps) s g)
+    either (nat_le most_prims (length s.prims)) (Err M3) (patch_in_range r object (points_in_range object ps) s) tt (good_in_range r object (points_in_range object ps) s g)
 
 good_numbers : (r : Read) (object : Map) (o : Option (List ℤ)) (s : State) → IsGood s → GoodStep (patch_of_numbers r object o s)
 good_numbers r object None s g = tt
@@ -490,7 +497,7 @@ good_patch r s g = either (is_some s.world) (patch_in r (space_of s) s) (Err N5)
 
 -- ---- the whole list
 
-good_step : (name : Req) (r : Read) (s : State) → IsGood s → GoodStep (step name r s)
+pub good_step : (name : Req) (r : Read) (s : State) → IsGood s → GoodStep (step name r s)
 good_step reqs.FrameBegin r s g = either (length s.blocks == 0) (opened (InFrame s.attributes s.current s.choices s.name) s) (Err N1) (good_opened (InFrame s.attributes s.current s.choices s.name) s g.attributes g) tt
 good_step reqs.FrameEnd r s g = good_frame_end (innermost s.blocks) s (good_innermost s g) g
 good_step reqs.WorldBegin r s g = either (is_some s.world) (Err N1) (world_with (camera_of (view_of s.choices)) s) tt (good_world_with (camera_of (view_of s.choices)) s g)
@@ -558,7 +565,7 @@ good_from : (s : State) (rs : List Read) → IsGood s → GoodPlaced (state_from
 good_from s [] g = g
 good_from s (r ∷ rs) g = good_then (after r s) r.line (λ t. state_from t rs) (good_step r.name r s g) (λ t h. good_from t rs h)
 
-first_good : IsGood first_state
+pub first_good : IsGood first_state
 first_good = record {
   attributes = record { surface = refl; displacement = tt; atmosphere = tt; lights = all_none (IsShader first_state.shaders kinds.Light) };
   blocks = all_none (BlockWears first_state.shaders);

@@ -1,2 +1,5 @@
 mod Words
 pub mod Keeping
+pub mod Places
+pub mod FirstUse
+pub mod Order

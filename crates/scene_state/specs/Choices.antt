@@ -14,6 +14,7 @@ use Rattle.rib_reader.specs.declared.req.Req.{Req}
 use Rattle.rib_reader.specs.declared.req.Req.TheVariants as reqs
 use Rattle.rib_reader.specs.declared.args.Arg.{Arg}
 use Rattle.rib_reader.specs.Rules.{word_at, raw_at, whole_at, is_one}
+use Rattle.rib_reader.specs.Holding.{last_named}
 use Rattle.rib_reader.specs.Reading.{Read}
 use Rattle.scene_state.specs.Settings.{OptionValues}
 use Rattle.scene_state.specs.declared.filter.Filter.{Filter}
@@ -111,11 +112,6 @@ abbrev pub first_number : Values → Option ℤ
 first_number (Numbers (x ∷ xs)) = Some x
 first_number _ = None
 
--- the parameter of that name that holds: the last one
-abbrev pub last_named : List ℕ → Option Param → List Param → Option Param
-last_named name found [] = found
-last_named name found (p ∷ ps) = last_named name (if bytes_eq p.name name then Some p else found) ps
-
 -- its number, and 90 degrees where it is none
 abbrev pub degrees_in : Option Param → ℤ
 degrees_in None = right_angle
@@ -123,7 +119,7 @@ degrees_in (Some p) = if is_float p.kind then unwrap_or (first_number p.values) 
 
 -- Projection: the field of view of a perspective, and none of an orthographic one
 abbrev pub field_in : List Arg → List Param → Option ℤ
-field_in args params = if is_word (word_at args 0) (codes "perspective") then Some (degrees_in (last_named (codes "fov") None params)) else None
+field_in args params = if is_word (word_at args 0) (codes "perspective") then Some (degrees_in (last_named (codes "fov") params)) else None
 
 -- the number of samples, rounded down, and at most 16
 abbrev pub with_samples : Option ℤ → Option ℤ → ChoiceValues → Result ChoiceValues StateCode

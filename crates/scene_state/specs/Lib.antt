@@ -1,5 +1,6 @@
 pub mod Settings
 pub mod Scene
+pub mod FirstUse
 pub mod Choices
 pub mod Looks
 pub mod Shaders

@@ -8,8 +8,9 @@ use Rattle.rib_reader.specs.declared.args.Arg.{Arg}
 use Rattle.rib_reader.specs.declared.params.Param.{Param}
 use Rattle.rib_reader.specs.declared.req.Req.{Req}
 use Rattle.rib_reader.specs.declared.req.Req.TheVariants as reqs
+use Rattle.rib_reader.specs.Holding.{last_named}
 use Rattle.rib_reader.specs.Rules.{word_at, raw_at, whole_at, numbers_at}
-use Rattle.scene_state.specs.Choices.{one, is_word, first_number, last_named}
+use Rattle.scene_state.specs.Choices.{one, is_word, first_number}
 
 -- How a primitive looks beside its shaders: colour and opacity; the shading rate; whether it is seen from one side alone, and whether
 -- that side is turned; and how far displacement may move it, in camera space.
@@ -61,7 +62,7 @@ number_of None = None
 -- Attribute: the displacement bound, of which the last one holds; other attributes are without effect
 abbrev pub with_attribute : List Arg → List Param → LookValues → LookValues
 with_attribute args params l =
-    if is_word (word_at args 0) (codes "displacementbound") then with_bound (number_of (last_named (codes "sphere") None params)) l else l
+    if is_word (word_at args 0) (codes "displacementbound") then with_bound (number_of (last_named (codes "sphere") params)) l else l
 
 -- the look behind a request for a part of it
 abbrev pub look_after : Req → List Arg → List Param → LookValues → LookValues

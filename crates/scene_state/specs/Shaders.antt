@@ -1,6 +1,7 @@
 -- Shader requests, and lights by their numbers (RenderMan Interface 3.2, sections 4.2.3 to 4.2.6).
-use Rattle.std.specs.Prelude.{ℕ, ◌==◌, ℤ, Bool, false, not, ◌||◌, List, [], ◌∷◌, ◌++◌, length, filter, Option, Some, None, if◌then◌else◌, codes, set}
-use Rattle.std.specs.List.{slice_get}
+use Rattle.std.specs.Prelude.{ℕ, ◌==◌, ℤ, Bool, not, List, [], ◌∷◌, ◌++◌, length, filter, Option, Some, None, if◌then◌else◌, codes, set}
+use Rattle.std.specs.List.{slice_get, list_any}
+use Rattle.std.specs.Option.{option_or}
 use Rattle.std.specs.Ordering.{int_eq}
 use Rattle.transforms.specs.Map.{identity}
 use Rattle.scene_state.specs.Looks.{first_look}
@@ -45,20 +46,22 @@ some_placed s None = (s, None)
 some_placed s (Some k) = let p = placed s k in (p.0, Some p.1)
 
 -- of several in order
-abbrev pub all_placed : Shaders → List ℕ → List ℕ → Shaders × List ℕ
-all_placed s done [] = (s, done)
-all_placed s done (k ∷ ks) = let p = placed s k in all_placed p.0 (done ++ p.1 ∷ []) ks
+abbrev pub all_placed : Shaders → List ℕ → Shaders × List ℕ
+all_placed s [] = (s, [])
+all_placed s (k ∷ ks) =
+    let p = placed s k in
+    let others = all_placed p.0 ks in
+    (others.0, p.1 ∷ others.1)
 
 -- ---- lights
 
 -- the light that a number stands for: the one that was made last
-abbrev pub light_of : List Handle → ℤ → Option ℕ → Option ℕ
-light_of [] number found = found
-light_of (h ∷ hs) number found = light_of hs number (if int_eq h.number number then Some h.light else found)
+abbrev pub light_of : List Handle → ℤ → Option ℕ
+light_of [] number = None
+light_of (h ∷ hs) number = option_or (light_of hs number) (if int_eq h.number number then Some h.light else None)
 
 abbrev pub is_among : ℕ → List ℕ → Bool
-is_among k [] = false
-is_among k (n ∷ ns) = n == k || is_among k ns
+is_among k lights = list_any (λ n. n == k) lights
 
 -- the light is last in force where it wasn't in force
 abbrev pub with_light : ℕ → List ℕ → List ℕ

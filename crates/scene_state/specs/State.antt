@@ -228,7 +228,7 @@ illuminated_by None on s = Err N3
 illuminated_by (Some k) on s = Ok (record s { attributes = record s.attributes { lights = if is_single on then with_light k s.attributes.lights else without_light k s.attributes.lights } })
 
 abbrev pub light_named : Option ℤ → List Handle → Option ℕ
-light_named (Some number) handles = light_of handles number None
+light_named (Some number) handles = light_of handles number
 light_named None handles = None
 
 -- ---- primitives
@@ -243,29 +243,29 @@ points_of (ax ∷ ay ∷ az ∷ bx ∷ by ∷ bz ∷ cx ∷ cy ∷ cz ∷ dx ∷
 points_of _ = None
 
 -- a raw coordinate of a primitive in camera space whose magnitude is at most 2 ^ 30
-abbrev pub near_number : ℤ → Option ℤ
-near_number x = if nat_le (unsigned_abs x) 1073741824 then Some x else None
+abbrev pub number_in_range : ℤ → Option ℤ
+number_in_range x = if nat_le (unsigned_abs x) 1073741824 then Some x else None
 
-abbrev pub near_vec : Option ℤ → Option ℤ → Option ℤ → Option Vec3
-near_vec (Some x) (Some y) (Some z) = Some (point x y z)
-near_vec _ _ _ = None
+abbrev pub vec_in_range : Option ℤ → Option ℤ → Option ℤ → Option Vec3
+vec_in_range (Some x) (Some y) (Some z) = Some (point x y z)
+vec_in_range _ _ _ = None
 
-abbrev pub near_image : List ℤ → Option Vec3
-near_image (x ∷ y ∷ z ∷ []) = near_vec (near_number x) (near_number y) (near_number z)
-near_image _ = None
+abbrev pub image_in_range : List ℤ → Option Vec3
+image_in_range (x ∷ y ∷ z ∷ []) = vec_in_range (number_in_range x) (number_in_range y) (number_in_range z)
+image_in_range _ = None
 
--- a point in camera space, where it isn't too far away
-abbrev pub near_point : Map → Vec3 → Option Vec3
-near_point m p = near_image (point_of m p)
+-- a point in camera space, where it is in range
+abbrev pub point_in_range : Map → Vec3 → Option Vec3
+point_in_range m p = image_in_range (point_of m p)
 
 abbrev pub with_next : Option Vec3 → Option (List Vec3) → Option (List Vec3)
 with_next (Some p) (Some ps) = Some (p ∷ ps)
 with_next _ _ = None
 
--- points in camera space, where none is too far away
-abbrev pub near_points : Map → List Vec3 → Option (List Vec3)
-near_points m [] = Some []
-near_points m (p ∷ ps) = with_next (near_point m p) (near_points m ps)
+-- points in camera space, where each is in range
+abbrev pub points_in_range : Map → List Vec3 → Option (List Vec3)
+points_in_range m [] = Some []
+points_in_range m (p ∷ ps) = with_next (point_in_range m p) (points_in_range m ps)
 
 -- a primitive of these attributes, whose shaders have these places among the uses
 abbrev pub prim_of : Read → Map → Patch → LookValues → ℕ → Option ℕ → Option ℕ → List ℕ → PrimValue
@@ -295,17 +295,17 @@ with_prim r object patch s =
     let d = some_placed s.shaders a.displacement in
     let f = placed d.0 a.surface in
     let v = some_placed f.0 a.atmosphere in
-    let l = all_placed v.0 [] a.lights in
+    let l = all_placed v.0 a.lights in
     record s { shaders = l.0; prims = s.prims ++ prim_of r object patch a.look f.1 d.1 v.1 l.1 ∷ [] }
 
-abbrev pub patch_near : Read → Map → Option (List Vec3) → State → Stepped
-patch_near r object None s = Err M7
-patch_near r object (Some ps) s = Ok (with_prim r object (Bilinear ps) s)
+abbrev pub patch_in_range : Read → Map → Option (List Vec3) → State → Stepped
+patch_in_range r object None s = Err M7
+patch_in_range r object (Some ps) s = Ok (with_prim r object (Bilinear ps) s)
 
--- four points, room in the frame, and then no point too far away
+-- four points, room in the frame, and then each point in range
 abbrev pub patch_with : Read → Map → Option (List Vec3) → State → Stepped
 patch_with r object None s = Err G5
-patch_with r object (Some ps) s = if nat_le most_prims (length s.prims) then Err M3 else patch_near r object (near_points object ps) s
+patch_with r object (Some ps) s = if nat_le most_prims (length s.prims) then Err M3 else patch_in_range r object (points_in_range object ps) s
 
 abbrev pub patch_of_numbers : Read → Map → Option (List ℤ) → State → Stepped
 patch_of_numbers r object None s = Err G5

@@ -1,5 +1,5 @@
 -- What each request does to the state, and the scene of a list of requests.
-use Rattle.std.specs.Prelude.{ℕ, ◌==◌, List, [], ◌∷◌, length, Some, Result, Ok, Err, if◌then◌else◌}
+use Rattle.std.specs.Prelude.{ℕ, ◌-◌, ◌==◌, List, [], ◌∷◌, length, slice_get, Option, Some, None, Result, Ok, Err, if◌then◌else◌}
 use Rattle.rib_reader.specs.declared.req.Req.{Req}
 use Rattle.rib_reader.specs.declared.req.Req.TheVariants as reqs
 use Rattle.rib_reader.specs.Rules.{raw_at, whole_at, numbers_at}
@@ -85,10 +85,13 @@ abbrev pub state_from : State → List Read → Result State Placed
 state_from s [] = Ok s
 state_from s (r ∷ rs) = and_then (after r s) r.line (λ t. state_from t rs)
 
--- the line of the last request
-abbrev pub last_line : ℕ → List Read → ℕ
-last_line line [] = line
-last_line line (r ∷ rs) = last_line r.line rs
+abbrev pub line_or_first : Option Read → ℕ
+line_or_first (Some r) = r.line
+line_or_first None = 1
+
+-- the line of the last request, 1 where there is none
+abbrev pub last_line : List Read → ℕ
+last_line rs = line_or_first (slice_get rs (length rs - 1))
 
 -- at the end no block is open
 abbrev pub ended : ℕ → Result State Placed → Result SceneValue Placed
@@ -97,4 +100,4 @@ ended line (Err e) = Err e
 
 -- the scene of a list of requests, or its first fault with its line
 abbrev pub scene_of : List Read → Result SceneValue Placed
-scene_of rs = ended (last_line 1 rs) (state_from first_state rs)
+scene_of rs = ended (last_line rs) (state_from first_state rs)

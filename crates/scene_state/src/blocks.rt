@@ -8,7 +8,6 @@ use crate::attributes::Attributes;
 use crate::fault::{StateCode, Stop, code_of};
 use crate::frame::Frame;
 use crate::state::{Block, State, World};
-use crate::uses::text_copy;
 use fixed_math::List;
 use std::alloc::Global;
 use transforms::{Affine, Camera};
@@ -54,7 +53,7 @@ impl State {
             attributes: self.attributes.copy(alloc)?,
             current: self.current,
             choices: self.choices,
-            name: text_copy(alloc, &self.name)?,
+            name: self.name.copied(alloc)?,
         };
         self.open(block)
     }
@@ -165,7 +164,7 @@ impl State {
             return Err(Stop::Fault(StateCode::M2));
         }
         let frame = Frame {
-            name: text_copy(alloc, &self.name)?,
+            name: self.name.copied(alloc)?,
             options: self.choices.picture(),
             camera: world.camera,
             world: world.to_camera,

@@ -1,16 +1,17 @@
 // The options of a frame.
-ghost use Rattle.std.specs.Prelude.{◌≡◌, ◌≤◌, ◌<◌, pos, ◌≤ℤ◌, ◌<ℤ◌, Some, None, codes, option_map};
+ghost use Rattle.std.specs.Prelude.{◌≡◌, ◌≤◌, ◌<◌, pos, ◌≤ℤ◌, ◌<ℤ◌, Some, codes};
 ghost use Rattle.rib_reader.specs.declared.req.Req.TheVariants as reqs;
+ghost use Rattle.rib_reader.specs.Holding.{last_named};
 ghost use Rattle.rib_reader.specs.Reading.{plain};
 ghost use Rattle.fixed_math.specs.Whole.{floor_by};
 ghost use Rattle.transforms.specs.Field.{left, right, bottom, top};
-ghost use Rattle.scene_state.specs.Choices.{ChoiceValues, AreChoices, IsWindow, first_picture, first_choices, with_format, with_ratio, with_window, with_depths, first_number, last_named, degrees_in, field_in, with_samples, filter_named, with_filter, with_exposure, with_quantize, chosen, ratio_of, window_by, view_of};
+ghost use Rattle.scene_state.specs.Choices.{ChoiceValues, AreChoices, IsWindow, first_picture, first_choices, with_format, with_ratio, with_window, with_depths, first_number, degrees_in, field_in, with_samples, filter_named, with_filter, with_exposure, with_quantize, chosen, ratio_of, window_by, view_of};
 
 use crate::fault::StateCode;
 use crate::filter::Filter;
 use crate::options::Options;
 use fixed_math::Num;
-use rib_reader::{Kind, Param, Req, Request, Values};
+use rib_reader::{Kind, Param, Req, Request, Values, last_named};
 use std::marker::Model;
 use transforms::View;
 
@@ -68,19 +69,6 @@ fn filter_named(name: &str) -> Filter
     }
 }
 
-/// The last parameter of that name.
-pub(crate) fn last_named<'a>(params: &'a [Param], name: &str) -> Option<&'a Param>
-    ensures { option_map (λ p. p.now) result ≡ last_named name.now None params.now }
-{
-    let mut found = None;
-    for param in params {
-        if param.name.as_str() == name {
-            found = Some(param);
-        }
-    }
-    found
-}
-
 /// The first number of a parameter.
 pub(crate) fn first_number(values: &Values) -> Option<Num>
     ensures { result ≡ first_number values.now }
@@ -93,7 +81,7 @@ pub(crate) fn first_number(values: &Values) -> Option<Num>
 
 // The field of view in degrees, 90 where no number is given for it.
 fn degrees(params: &[Param]) -> Num
-    ensures { result ≡ degrees_in (last_named (codes "fov") None params.now) }
+    ensures { result ≡ degrees_in (last_named (codes "fov") params.now) }
 {
     let right_angle = Num::sat(5898240);
     match last_named(params, "fov") {

@@ -5,8 +5,6 @@ mod attributes;
 mod blocks;
 mod choices;
 mod fault;
-#[cfg(test)]
-mod fault_tests;
 mod filter;
 mod frame;
 mod lights;
@@ -18,8 +16,6 @@ mod reading;
 mod shaders;
 mod state;
 mod steps;
-#[cfg(test)]
-mod tests;
 mod turning;
 mod uses;
 

@@ -14,7 +14,7 @@ ghost use Rattle.scene_state.specs.Answers.{Steps, GivesMap};
 use crate::fault::{StateCode, Stop, code_of};
 use crate::shaders::{Handle, light_of, put_light, without_light};
 use crate::state::State;
-use crate::uses::{ShaderKind, ShaderUse, params_copy, text_copy};
+use crate::uses::{ShaderKind, ShaderUse, params_copy};
 use fixed_math::NoMemory;
 use rib_reader::Request;
 use std::alloc::Global;
@@ -33,7 +33,7 @@ fn use_of(
     ensures { IfOk result (λ u. u ≡ use_of kind (plain request.now) space) }
 {
     Ok(ShaderUse {
-        name: text_copy(alloc, request.word(0))?,
+        name: request.word(0).copied(alloc)?,
         kind,
         params: params_copy(alloc, request.params.as_slice())?,
         space,

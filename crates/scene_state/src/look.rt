@@ -2,13 +2,13 @@
 ghost use Rattle.std.specs.Prelude.{◌≡◌, pos, Some, None, codes};
 ghost use Rattle.fixed_math.specs.Whole.{clamp};
 ghost use Rattle.rib_reader.specs.declared.req.Req.TheVariants as reqs;
-ghost use Rattle.scene_state.specs.Choices.{last_named};
+ghost use Rattle.rib_reader.specs.Holding.{last_named};
 ghost use Rattle.scene_state.specs.Looks.{LookValues, IsLook, most_bound, first_look, colour_or, with_attribute, number_of, look_after};
 
-use crate::choices::{first_number, last_named};
+use crate::choices::first_number;
 use fixed_math::{Num, Vec3};
 use rib_lex::Decimal;
-use rib_reader::{Param, Req, Request};
+use rib_reader::{Param, Req, Request, last_named};
 use std::marker::Model;
 
 /// How a primitive looks beside its shaders: colour and opacity, the shading rate in square pixels, its sides, and how far
@@ -135,7 +135,7 @@ impl Look {
 
 // The number of the last bound.
 fn number(params: &[Param]) -> Option<Num>
-    ensures { result ≡ number_of (last_named (codes "sphere") None params.now) }
+    ensures { result ≡ number_of (last_named (codes "sphere") params.now) }
 {
     first_number(&last_named(params, "sphere")?.values)
 }

@@ -3,7 +3,7 @@ ghost use Rattle.std.specs.Prelude.{◌≡◌, ◌<◌, ◌≤◌, unsigned_abs,
 ghost use Rattle.patches.specs.Boxes.{IsWithin};
 ghost use Rattle.rib_reader.specs.Reading.{plain};
 ghost use Rattle.rib_reader.specs.declared.req.Req.TheVariants as reqs;
-ghost use Rattle.scene_state.specs.State.{points_of, near_number, near_point, near_points, with_prim, patch_with, patch_in, patch_set};
+ghost use Rattle.scene_state.specs.State.{points_of, number_in_range, point_in_range, points_in_range, with_prim, patch_with, patch_in, patch_set};
 ghost use Rattle.patches.specs.declared.patch.Patch.TheVariants as patches;
 ghost use Rattle.scene_state.specs.Scene.{most_prims};
 ghost use Rattle.scene_state.specs.Answers.{Steps};
@@ -48,10 +48,10 @@ fn four_points(numbers: &[Num]) -> Option<[Vec3; 4]>
     ])
 }
 
-// A raw coordinate in camera space that isn't too far away.
-fn near(raw: i64) -> Option<Num>
-    ensures value { result ≡ near_number raw }
-    ensures near { IfSome result (λ x. unsigned_abs x ≤ 2 ^ 30) }
+// A raw coordinate in camera space in range.
+fn in_range(raw: i64) -> Option<Num>
+    ensures value { result ≡ number_in_range raw }
+    ensures range { IfSome result (λ x. unsigned_abs x ≤ 2 ^ 30) }
 {
     if raw.unsigned_abs() <= 1073741824 {
         Some(Num::sat(raw as i128))
@@ -60,28 +60,28 @@ fn near(raw: i64) -> Option<Num>
     }
 }
 
-// A point in camera space, where it isn't too far away.
-fn near_point(object: &Affine, point: Vec3) -> Option<Vec3>
-    ensures value { result ≡ near_point object.now point }
-    ensures near { IfSome result (λ p. IsWithin (2 ^ 30) p) }
+// A point in camera space, where it is in range.
+fn point_in_range(object: &Affine, point: Vec3) -> Option<Vec3>
+    ensures value { result ≡ point_in_range object.now point }
+    ensures range { IfSome result (λ p. IsWithin (2 ^ 30) p) }
 {
     let [x, y, z] = object.point(point);
     Some(Vec3 {
-        x: near(x)?,
-        y: near(y)?,
-        z: near(z)?,
+        x: in_range(x)?,
+        y: in_range(y)?,
+        z: in_range(z)?,
     })
 }
 
-// A bilinear patch of points in camera space, where none is too far away.
+// A bilinear patch of points in camera space, where each is in range.
 fn patch_of(object: &Affine, points: &[Vec3; 4]) -> Option<Patch>
-    ensures { result ≡ option_map (λ ps. patches.Bilinear ps) (near_points object.now points.now) }
+    ensures { result ≡ option_map (λ ps. patches.Bilinear ps) (points_in_range object.now points.now) }
 {
     let [a, b, c, d] = *points;
-    let a = near_point(object, a)?;
-    let b = near_point(object, b)?;
-    let c = near_point(object, c)?;
-    let d = near_point(object, d)?;
+    let a = point_in_range(object, a)?;
+    let b = point_in_range(object, b)?;
+    let c = point_in_range(object, c)?;
+    let d = point_in_range(object, d)?;
     Some(Patch::Bilinear(Bilinear::new([a, b, c, d])))
 }
 

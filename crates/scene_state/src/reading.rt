@@ -1,7 +1,8 @@
-ghost use Rattle.std.specs.Prelude.{◌≡◌, map};
+ghost use Rattle.std.specs.Prelude.{◌≡◌, map, IfOk};
 ghost use Rattle.rib_reader.specs.Reading.{plain};
 ghost use Rattle.scene_state.specs.State.{first_state};
 ghost use Rattle.scene_state.specs.Steps.{state_from, last_line};
+ghost use Rattle.scene_state.specs.FirstUse.{InFirstUse};
 ghost use Rattle.scene_state.specs.Answers.{GivesState, GivesScene};
 
 use crate::fault::{StateCode, StateFault, Stop};
@@ -33,23 +34,23 @@ fn state_of(alloc: Global, requests: &[Request]) -> Result<State, StateFault>
 
 // The line of the last request, 1 where there is none.
 fn last_line(requests: &[Request]) -> u32
-    ensures { result ≡ last_line 1 (map plain requests.now) }
+    ensures { result ≡ last_line (map plain requests.now) }
 {
-    let mut line = 1;
-    for request in requests {
-        line = request.line;
+    match requests.last() {
+        Some(request) => request.line,
+        None => 1,
     }
-    line
 }
 
-/// The scene of a list of requests: its frames with their options, cameras and primitives, and the shader requests that its
-/// primitives have.
+/// The scene of a list of requests: its frames with their options, cameras and primitives, and the shader requests that some
+/// primitive has, each once, in the order of first use.
 ///
 /// A fault comes exactly where the list has it first, request by request, with the line of the request's name: in one request
 /// those of nesting (`N1` to `N5`) before those of geometry (`G1` to `G5`, `G4` before `G1` and `G2`) before the limits (`M1` to
 /// `M7`). `N4`, for blocks that are open at the end, has the line of the last request. Else the answer is want of memory.
 pub fn scene(alloc: Global, requests: &[Request]) -> Result<Scene, StateFault>
-    ensures { GivesScene result requests.now }
+    ensures gives { GivesScene result requests.now }
+    ensures uses { IfOk result InFirstUse }
 {
     let state = state_of(alloc, requests)?;
     if state.blocks.len() != 0 {

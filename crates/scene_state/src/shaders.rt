@@ -1,5 +1,5 @@
 // Shader requests, and lights by their numbers.
-ghost use Rattle.std.specs.Prelude.{◌≡◌, IfOk, [], None, slice_get};
+ghost use Rattle.std.specs.Prelude.{◌≡◌, IfOk, slice_get};
 ghost use Rattle.scene_state.specs.Shaders.{IsWaiting, first_shaders, with_request, placed, some_placed, all_placed, light_of, is_among, with_light, without_light};
 
 use crate::uses::{ShaderKind, ShaderUse};
@@ -99,7 +99,7 @@ impl Shaders {
         alloc: Global,
         shaders: &[usize],
     ) -> Result<List<u32>, NoMemory>
-        ensures { IfOk result (λ ns. (self.new, ns) ≡ all_placed self.old [] shaders.now) }
+        ensures { IfOk result (λ ns. (self.new, ns) ≡ all_placed self.old shaders.now) }
     {
         let mut places = Vec::new(alloc);
         for shader in shaders {
@@ -111,7 +111,7 @@ impl Shaders {
 
 /// The light that a number stands for: the one that was made last.
 pub(crate) fn light_of(handles: &[Handle], number: i64) -> Option<usize>
-    ensures { result ≡ light_of handles.now number None }
+    ensures { result ≡ light_of handles.now number }
 {
     let mut found = None;
     for handle in handles {
@@ -125,12 +125,7 @@ pub(crate) fn light_of(handles: &[Handle], number: i64) -> Option<usize>
 fn is_among(light: usize, lights: &[usize]) -> bool
     ensures { result ≡ is_among light lights.now }
 {
-    for other in lights {
-        if *other == light {
-            return true;
-        }
-    }
-    false
+    lights.iter().any(|other| *other == light)
 }
 
 /// Puts a light into force, last, where it isn't in force.

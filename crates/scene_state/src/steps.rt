@@ -8,7 +8,6 @@ ghost use Rattle.scene_state.specs.Answers.{Steps};
 
 use crate::fault::{StateCode, Stop};
 use crate::state::State;
-use crate::uses::text_copy;
 use rib_reader::{Req, Request};
 use std::alloc::Global;
 
@@ -43,7 +42,7 @@ impl State {
         }
         let name = request.word(0);
         if !name.as_str().starts_with('+') {
-            self.name = text_copy(alloc, name)?;
+            self.name = name.copied(alloc)?;
         }
         Ok(())
     }

@@ -14,14 +14,14 @@ use rib_lex::Decimal;
 use rib_reader::Request;
 use transforms::{Affine, FormFault};
 
-// The numbers at these places.
+// The vector of three numbers.
 fn vector(x: Num, y: Num, z: Num) -> Vec3
     ensures { result ≡ record { x = x; y = y; z = z } }
 {
     Vec3 { x, y, z }
 }
 
-/// The map that a request of sixteen numbers gives.
+// The map that sixteen numbers give.
 fn of_rows(rows: &[Decimal]) -> Result<Affine, FormFault>
     requires { length rows.now ≡ 16 }
     ensures { result ≡ of_rows (Some rows.now) }

@@ -24,19 +24,12 @@ pub struct ShaderUse {
     pub line: u32,
 }
 
-/// A copy of a text.
-pub(crate) fn text_copy(alloc: Global, text: &Text) -> Result<Text, NoMemory>
-    ensures { IfOk result (λ t. t ≡ text.now) }
-{
-    Text::from_bytes(alloc, text.as_str().as_bytes())
-}
-
 fn texts_copy(alloc: Global, texts: &[Text]) -> Result<List<Text>, NoMemory>
     ensures { IfOk result (λ t. t ≡ texts.now) }
 {
     let mut copies = Vec::new(alloc);
     for text in texts {
-        copies.push(text_copy(alloc, text)?)?;
+        copies.push(text.copied(alloc)?)?;
     }
     Ok(List(copies))
 }
@@ -62,7 +55,7 @@ fn param_copy(alloc: Global, param: &Param) -> Result<Param, NoMemory>
     ensures { IfOk result (λ p. p ≡ param.now) }
 {
     Ok(Param {
-        name: text_copy(alloc, &param.name)?,
+        name: param.name.copied(alloc)?,
         class: param.class,
         kind: param.kind,
         values: values_copy(alloc, &param.values)?,

@@ -11,4 +11,5 @@ pub mod Classes
 pub mod Settled
 pub mod Registers
 pub mod TreeView
+pub mod Variables
 pub mod Examples

@@ -6,6 +6,7 @@ mod kinds;
 mod names;
 mod node_types;
 mod operands;
+mod operations;
 mod reading;
 mod rules;
 mod shader;
@@ -19,6 +20,7 @@ pub use kinds::{
     SetOperator, SlKind, SlType, SpaceName,
 };
 pub use operands::Operands;
+pub use operations::{Difference, LightSum, ValueOperation};
 pub use shader::Shader;
 pub use syntax::{Assignment, Cone, Declared, Expr, Function, Group, LightWord, Link, Space, Stmt};
 pub use tree::Tree;

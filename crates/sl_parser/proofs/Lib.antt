@@ -1,30 +1,13 @@
-pub mod Agreeing
-pub mod BlockReads
-pub mod Blocks
-pub mod Chains
-pub mod Deeper
-pub mod ExprFronts
-pub mod ExprLevels
-pub mod ExprReads
-pub mod ExprStarts
+mod Blocks
+mod Chains
+mod ExprLevels
 pub mod ExprTexts
-pub mod FileReads
-pub mod FileStarts
 pub mod FileTexts
 pub mod FrontNames
 pub mod Fronts
 pub mod Good
-pub mod Got
 pub mod Levels
-pub mod LocalExprs
-pub mod LocalFiles
-pub mod LocalStmts
-pub mod Looking
-pub mod Readers
-pub mod Rises
+mod Readers
 pub mod Spans
-pub mod Starts
 pub mod Steps
-pub mod StmtReads
-pub mod StmtStarts
-pub mod StmtTexts
+mod StmtTexts

@@ -16,11 +16,11 @@ one_more : (t : Bool) (line c : ℕ) → cond t (line + 1) line + c ≡ line + (
 one_more true line c = omega arith
 one_more false line c = omega arith
 
-pub pass : (k line : ℕ) (bs : List ℕ) → k ≤ length bs → tokens_from k line bs ≡ tokens_from 0 (line + line_feeds (take k bs)) (drop k bs)
-pass zero line bs h = rw (add-zero line) refl
-pass (suc k) line [] h = absurd (omega arith)
-pass (suc k) line (b ∷ bs) h =
-    pass k (line_after b line) bs (omega arith)
+pass : (k line : ℕ) (bs : List ℕ) → tokens_from k line bs ≡ tokens_from 0 (line + line_feeds (take k bs)) (drop k bs)
+pass zero line bs = rw (add-zero line) refl
+pass (suc k) line [] = refl
+pass (suc k) line (b ∷ bs) =
+    pass k (line_after b line) bs
     ∙ ap (λ n. tokens_from 0 n (drop k bs)) (one_more (eqb b 10) line (line_feeds (take k bs))
     ∙ ap (λ n. line + n) (sym (sum_by-cons (λ x. cond (eqb x 10) 1 0) b (take k bs))))
 
@@ -28,22 +28,22 @@ pass (suc k) line (b ∷ bs) h =
 abbrev pub behind : ℕ → ℕ → List ℕ → List Token
 behind n line bs = tokens_from 0 (line + line_feeds (take n bs)) (drop n bs)
 
-passes : (n line b : ℕ) (bs : List ℕ) → 1 ≤ n → n ≤ length bs + 1 → tokens_from (n - 1) (line_after b line) bs ≡ behind n line (b ∷ bs)
-passes zero line b bs low high = absurd (omega arith)
-passes (suc n) line b bs low high =
+pub passes : (n line b : ℕ) (bs : List ℕ) → 1 ≤ n → tokens_from (n - 1) (line_after b line) bs ≡ behind n line (b ∷ bs)
+passes zero line b bs low = absurd (omega arith)
+passes (suc n) line b bs low =
     let e : suc n - 1 ≡ n = omega arith in
-    ap (λ k. tokens_from k (line_after b line) bs) e ∙ pass (suc n) line (b ∷ bs) (omega arith)
+    ap (λ k. tokens_from k (line_after b line) bs) e ∙ pass (suc n) line (b ∷ bs)
 
 step-blank : (n line : ℕ) (bs : List ℕ) → 1 ≤ n → n ≤ length bs → found_in bs ≡ Blank n → tokens_from 0 line bs ≡ behind n line bs
 step-blank n line [] low high is = absurd (omega arith)
 step-blank n line (b ∷ bs) low high is =
-    ap (λ f. found_then f line (λ n. tokens_from (n - 1) (line_after b line) bs)) is ∙ passes n line b bs low (omega arith)
+    ap (λ f. found_then f line (λ n. tokens_from (n - 1) (line_after b line) bs)) is ∙ passes n line b bs low
 
 step-whole : (kind : TokenKind) (n line : ℕ) (bs : List ℕ) → 1 ≤ n → n ≤ length bs → found_in bs ≡ Whole kind n → tokens_from 0 line bs ≡ record { kind = kind; line = line } ∷ behind n line bs
 step-whole kind n line [] low high is = absurd (omega arith)
 step-whole kind n line (b ∷ bs) low high is =
     ap (λ f. found_then f line (λ n. tokens_from (n - 1) (line_after b line) bs)) is
-    ∙ ap (λ ts. record { kind = kind; line = line } ∷ ts) (passes n line b bs low (omega arith))
+    ∙ ap (λ ts. record { kind = kind; line = line } ∷ ts) (passes n line b bs low)
 
 -- where no token begins
 pub step-bad : (line : ℕ) (bs : List ℕ) → 1 ≤ length bs → found_in bs ≡ Bad → tokens_from 0 line bs ≡ record { kind = kinds.Bad; line = line } ∷ []

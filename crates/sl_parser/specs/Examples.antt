@@ -1,5 +1,5 @@
 -- Worked values of the definitions.
-use Rattle.std.specs.Prelude.{◌≡◌, refl, true, false, [], ◌∷◌, Some, None, Ok, Err, codes}
+use Rattle.std.specs.Prelude.{◌≡◌, refl, false, [], ◌∷◌, Some, None, Ok, Err, codes}
 use Rattle.sl_ast.specs.Syntax as S
 use Rattle.sl_ast.specs.declared.kinds.SlKind.TheVariants.{Volume}
 use Rattle.sl_ast.specs.declared.kinds.Row.TheVariants.{Sum}
@@ -14,7 +14,6 @@ use Rattle.sl_parser.specs.Tokens.{tokens_of}
 use Rattle.sl_parser.specs.Expressions.{expr_at}
 use Rattle.sl_parser.specs.Statements.{stmt_at}
 use Rattle.sl_parser.specs.Files.{parsed}
-use Rattle.sl_parser.specs.Grammatical.{looseness, takes_else}
 
 -- of numbers: one that ends before a semicolon, a point behind digits alone, and two that are not well formed
 length_whole : number_len (codes "1.5e+3;") ≡ Some 6
@@ -68,14 +67,3 @@ set_below = refl
 
 declared_below : stmt_at 2 (tokens_of (codes "float a\n= b;")) ≡ Ok (S.declare None Float (record { name = codes "a"; value = Some (S.name (codes "b") 2); line = 1; set_line = 2 } ∷ []) 1, [])
 declared_below = refl
-
--- of the grammar: a sum binds looser than a product; an `else` would belong to the `if` at the end of an `else` branch, but
--- not to one inside a block
-loose_sum : looseness (S.chain Sum (S.name (codes "a") 1) (S.link operators.Add 1 (S.name (codes "b") 1) S.end)) ≡ 5
-loose_sum = refl
-
-if_behind_else : takes_else (S.test_else (S.name (codes "a") 1) (S.empty 1) (S.test (S.name (codes "b") 1) (S.empty 1) 1) 1) ≡ true
-if_behind_else = refl
-
-if_in_block : takes_else (S.repeat (S.name (codes "a") 1) (S.block (S.first (S.test (S.name (codes "b") 1) (S.empty 1) 1) S.done) 1) 1) ≡ false
-if_in_block = refl

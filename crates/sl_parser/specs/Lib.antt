@@ -12,7 +12,4 @@ pub mod Naming
 pub mod Files
 pub mod Parsed
 pub mod Spelled
-pub mod Bare
-pub mod Grammatical
-pub mod Laws
 pub mod Examples

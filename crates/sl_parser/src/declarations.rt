@@ -16,7 +16,7 @@ use sl_ast::{Assignment, Class, Declared, Expr, Group, SetOperator, SlType};
 use std::alloc::Global;
 
 /// Whether a declared name has a value: a parameter's must be there, a formal has none, a local's may be there.
-#[derive(Clone, Copy, Debug, PartialEq, Eq)]
+#[derive(Clone, Copy)]
 pub enum Valued {
     Always,
     Never,

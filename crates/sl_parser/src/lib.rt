@@ -9,7 +9,6 @@ mod files;
 mod finding;
 mod found;
 mod heads;
-mod laws;
 mod lexer;
 mod nodes;
 mod numbers;
@@ -19,11 +18,8 @@ mod signs;
 mod statement_heads;
 mod statements;
 mod strings;
-#[cfg(test)]
-mod tests;
 mod token;
 mod words;
 
 pub use fault::{SlCode, SlFault};
-pub use laws::{expressions_spelled_once, fault_stays, shaders_spelled_once};
 pub use parser::parse;

@@ -3,7 +3,7 @@ use fixed_math::Text;
 use sl_ast::{Class, Operator, SetOperator, SlKind, SlType};
 
 /// A reserved word that begins or joins statements.
-#[derive(Clone, Copy, Debug, PartialEq, Eq)]
+#[derive(Clone, Copy)]
 pub enum Word {
     Break,
     Continue,
@@ -18,7 +18,7 @@ pub enum Word {
 }
 
 /// A bracket or separator.
-#[derive(Clone, Copy, Debug, PartialEq, Eq)]
+#[derive(Clone, Copy)]
 pub enum Mark {
     LeftParen,
     RightParen,

@@ -2,9 +2,11 @@ pub mod Rows
 pub mod Operands
 pub mod Nodes
 pub mod Scopes
+pub mod Named
 pub mod Branches
 pub mod Joins
 pub mod TypedNodes
+pub mod Chains
 pub mod Numbered
 pub mod Deep
 pub mod Within

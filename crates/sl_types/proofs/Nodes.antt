@@ -1,5 +1,5 @@
 -- What nodes of the untyped tree show, and how great their parts are.
-use Rattle.std.proofs.Common.{◌≡◌, ◌<◌, ℕ, zero, suc, List, [], ◌∷◌, length, map, get_or, refl, ap, ◌∙◌, arith}
+use Rattle.std.proofs.Common.{◌≡◌, ◌≤◌, ◌<◌, ℕ, zero, suc, ◌+◌, List, [], ◌∷◌, length, map, drop, get_or, refl, sym, ap, ◌∙◌, arith}
 use Rattle.std.specs.declared.alloc.Global.{Global}
 use Rattle.std.specs.declared.boxed.Box.{Box}
 use Rattle.sl_ast.specs.Syntax as U
@@ -39,3 +39,18 @@ pub small_stmt : (xs : List Stmt) (i : ℕ) (x : Stmt) → i < length xs → x �
 small_stmt [] i x low is = absurd (omega (arith, low))
 small_stmt (y ∷ ys) zero x low is = let q = ap (λ e. size_stmt (stmt_of e)) is in omega arith
 small_stmt (y ∷ ys) (suc i) x low is = omega (arith, small_stmt ys i x (omega (arith, low)) is)
+
+-- one operator of a chain and those behind it
+pub chain_split : (xs : List Link) (i : ℕ) (x : Link) → i < length xs → x ≡ get_or xs i x
+    → U.links (map link_of (drop i xs)) ≡ U.link x.operator x.line (expr_of x.operand) (U.links (map link_of (drop (i + 1) xs)))
+chain_split [] i x low is = absurd (omega (arith, low))
+chain_split (y ∷ ys) zero x low is = ap (λ z. U.link z.operator z.line (expr_of z.operand) (U.links (map link_of ys))) (sym is)
+chain_split (y ∷ ys) (suc i) x low is =
+    let e : suc (i + 1) ≡ suc i + 1 = omega arith in
+    chain_split ys i x (omega (arith, low)) is ∙ ap (λ k. U.link x.operator x.line (expr_of x.operand) (U.links (map link_of (drop k (y ∷ ys))))) e
+
+pub chain_end : (xs : List Link) (i : ℕ) → length xs ≤ i → U.links (map link_of (drop i xs)) ≡ U.end
+chain_end [] zero high = refl
+chain_end [] (suc i) high = refl
+chain_end (y ∷ ys) zero high = absurd (omega (arith, high))
+chain_end (y ∷ ys) (suc i) high = chain_end ys i (omega (arith, high))

@@ -20,7 +20,7 @@ use Rattle.sl_types.specs.Found.{Found, ◌>>=◌}
 use Rattle.sl_types.specs.Names.{entry_of}
 use Rattle.sl_types.specs.Rules.{operation_of, prefix_operation, builtin_names}
 use Rattle.sl_types.specs.Typed as T
-use Rattle.sl_types.specs.Scope.{Local, level_of, Callee, callee_from, Around, formals_in, body_in}
+use Rattle.sl_types.specs.Scope.{Local, level_of, Callee, callee_named, Around, formals_in, body_in}
 use Rattle.sl_types.specs.Exprs.{named, operands_of, applied, misfits, space_at, fits, called, literal_of, literal_space, space_in, spaces_of, operation_in, by_count, is_noise, is_barred, allowed, is_amiss, operated, built, calls_itself, resolved, call_with, call_of, three, listed, typed_expr, typed_args, typed_links}
 use Rattle.sl_types.specs.Inline.{Built, nothing, count, count_args, inline, inline_args, tree_formal}
 use Rattle.sl_types.proofs.WellScope.{Good, GoodSome, good_bind, good_as, good_any, types_of, level_typed}
@@ -295,11 +295,10 @@ built_fine g ks fs behind line es args (Some LeftOut) c h = tt
 built_fine g ks fs behind line es args (Some (Plain op)) c h = operated_fine g ks fs behind line es args op c h
 
 resolved_fine : (g : W.Around) (ks : List SlType) (fs : List Built) (behind : Bool) (name : List ℕ) (line : ℕ) (es : List U.Expr) (args : Found (List T.Expr)) (o : Option (ℕ × Callee))
-    → GoodSome o (WorksAt g.kind g.default fs 0) → Good args (GoodArgs g ks fs es) → Good (resolved g behind name line es args o) (Fine g ks fs)
+    → GoodSome o (WorksAt g.kind g.default fs) → Good args (GoodArgs g ks fs es) → Good (resolved g behind name line es args o) (Fine g ks fs)
 resolved_fine g ks fs behind name line es args None w h = built_fine g ks fs behind line es args (entry_of builtin_names name) (entries_listed builtin_names name refl) h
 resolved_fine g ks fs behind name line es args (Some x) w h =
-    let e : w.0 ≡ x.0 = omega (arith, w.1) in
-    called_fine g ks fs x.0 x.1 line args (λ body is. subst (λ i. Works g.kind g.default x.1 (get_or fs i nothing)) e (w.2 body is)) (good_as args (GoodArgs g ks fs es) (AllFine g ks fs) h (λ ts p. p.0))
+    called_fine g ks fs x.0 x.1 line args w (good_as args (GoodArgs g ks fs es) (AllFine g ks fs) h (λ ts p. p.0))
 
 itself_fine : (formals : List Local) (line : ℕ) (args : Found (List T.Expr)) (P : T.Expr → Type 0) → Good (calls_itself formals line args) P
 itself_fine formals line (Err e) P = tt
@@ -309,7 +308,7 @@ call_with_fine : (g : Around) (ks : List SlType) (fs : List Built) (behind : Boo
     → Ready g.at.kind g.at.default g.known fs → Good args (GoodArgs g.at ks fs es) → Good (call_with g behind name line es args o) (Fine g.at ks fs)
 call_with_fine g ks fs behind name line es args (Some formals) r h = itself_fine formals line args (Fine g.at ks fs)
 call_with_fine g ks fs behind name line es args None r h =
-    resolved_fine g.at ks fs behind name line es args (callee_from 0 name g.known) (works_at g.at.kind g.at.default 0 name g.known fs r) h
+    resolved_fine g.at ks fs behind name line es args (callee_named name g.known) (works_at g.at.kind g.at.default name g.known fs r) h
 
 -- the typed tree of an expression
 abbrev pub GoodExpr : W.Around → List SlType → List Built → U.Expr → T.Expr → Type 0

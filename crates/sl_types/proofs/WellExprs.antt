@@ -1,5 +1,5 @@
 -- The typed tree of an expression is well typed once functions stand in place of their calls.
-use Rattle.std.proofs.Common.{◌≡◌, ℕ, suc, ◌+◌, Bool, true, ◌&&◌, ◌||◌, not, cond, List, [], ◌∷◌, map, get_or, Option, Some, None, Ok, Err, codes, refl, ap, ap₂, ◌∙◌, arith}
+use Rattle.std.proofs.Common.{◌≡◌, ◌<◌, ℕ, zero, suc, ◌+◌, Bool, true, ◌&&◌, ◌||◌, not, cond, List, [], ◌∷◌, map, get_or, length, Option, Some, None, Ok, Err, codes, refl, ap, ap₂, ◌∙◌, subst, arith}
 use Rattle.std.proofs.lemmas.Bool.{cond_both}
 use Rattle.std.specs.Str.{bytes_eq}
 use Rattle.sl_ast.specs.Syntax as U
@@ -29,10 +29,11 @@ use Rattle.sl_types.specs.Names.{entry_of}
 use Rattle.sl_types.specs.Predefined.{predefined_names, is_read, is_own}
 use Rattle.sl_types.specs.Rules.{operation_of, prefix_operation}
 use Rattle.sl_types.specs.Typed as T
-use Rattle.sl_types.specs.Scope.{Local, Callee, callee_from, body_in}
+use Rattle.sl_types.specs.Scope.{Local, Callee, callee_named, body_in}
 use Rattle.sl_types.specs.Functions.{spot_within}
 use Rattle.sl_types.specs.Exprs.{named, predefined_at, operands_of, ruled, applied, misfits, space_at, space_of, refuses_space, converted, tripled, literal_of}
 use Rattle.sl_types.specs.Inline.{Built, nothing, count, inline, inline_args, tree_formal}
+use Rattle.sl_types.proofs.Named.{StandsAt, stands_at}
 use Rattle.sl_types.proofs.WellScope.{Good, GoodSome, good_bind, good_any, types_of, TypedAt}
 
 -- what a function does is well typed where it is called
@@ -48,26 +49,21 @@ Ready kind d [] (b ∷ bs) = ⊥
 Ready kind d (c ∷ cs) [] = ⊥
 Ready kind d (c ∷ cs) (b ∷ bs) = ((body : T.Body) → body_in d c ≡ Ok body → Works kind d c b) × Ready kind d cs bs
 
-abbrev pub WorksAt : SlKind → Bool → List Built → ℕ → ℕ × Callee → Type 0
-WorksAt kind d fs j x = (i : ℕ) × (x.0 ≡ j + i) × ((body : T.Body) → body_in d x.1 ≡ Ok body → Works kind d x.1 (get_or fs i nothing))
+abbrev pub WorksAt : SlKind → Bool → List Built → ℕ × Callee → Type 0
+WorksAt kind d fs x = (body : T.Body) → body_in d x.1 ≡ Ok body → Works kind d x.1 (get_or fs x.0 nothing)
 
-one_further : (kind : SlKind) (d : Bool) (f : Built) (fs : List Built) (j : ℕ) (x : ℕ × Callee) → WorksAt kind d fs (j + 1) x → WorksAt kind d (f ∷ fs) j x
-one_further kind d f fs j x h =
-    let e : x.0 ≡ j + suc h.0 = omega (arith, h.1) in
-    (suc h.0, e, h.2)
+works_in : (kind : SlKind) (d : Bool) (cs : List Callee) (fs : List Built) (k : ℕ) (c : Callee) → Ready kind d cs fs → k < length cs → get_or cs k c ≡ c → WorksAt kind d fs (k, c)
+works_in kind d [] fs k c r low is = absurd (omega (arith, low))
+works_in kind d (x ∷ cs) [] k c r low is = absurd r
+works_in kind d (x ∷ cs) (f ∷ fs) zero c r low is = λ body found. subst (λ y. Works kind d y f) is (r.0 body (ap (body_in d) is ∙ found))
+works_in kind d (x ∷ cs) (f ∷ fs) (suc k) c r low is = works_in kind d cs fs k c r.1 (omega (arith, low)) is
 
-pub some_as : {A : Type 0} (o : Option A) (P Q : A → Type 0) → GoodSome o P → ((a : A) → P a → Q a) → GoodSome o Q
-some_as (Some a) P Q h k = k a h
-some_as None P Q h k = tt
+works_found : (kind : SlKind) (d : Bool) (cs : List Callee) (fs : List Built) (o : Option (ℕ × Callee)) → Ready kind d cs fs → StandsAt cs o → GoodSome o (WorksAt kind d fs)
+works_found kind d cs fs None r h = tt
+works_found kind d cs fs (Some x) r h = works_in kind d cs fs x.0 x.1 r h.0 h.1
 
-pub works_at : (kind : SlKind) (d : Bool) (j : ℕ) (name : List ℕ) (cs : List Callee) (fs : List Built) → Ready kind d cs fs → GoodSome (callee_from j name cs) (WorksAt kind d fs j)
-works_at kind d j name [] fs r = tt
-works_at kind d j name (c ∷ cs) [] r = absurd r
-works_at kind d j name (c ∷ cs) (f ∷ fs) r =
-    let e : j ≡ j + 0 = omega arith in
-    cond_both (bytes_eq c.name name) (Some (j, c)) (callee_from (j + 1) name cs) (λ o. GoodSome o (WorksAt kind d (f ∷ fs) j))
-    (λ is. (0, e, r.0))
-    (λ is. some_as (callee_from (j + 1) name cs) (WorksAt kind d fs (j + 1)) (WorksAt kind d (f ∷ fs) j) (works_at kind d (j + 1) name cs fs r.1) (one_further kind d f fs j))
+pub works_at : (kind : SlKind) (d : Bool) (name : List ℕ) (cs : List Callee) (fs : List Built) → Ready kind d cs fs → GoodSome (callee_named name cs) (WorksAt kind d fs)
+works_at kind d name cs fs r = works_found kind d cs fs (callee_named name cs) r (stands_at (λ c. c.name) name cs)
 
 abbrev pub Fine : W.Around → List SlType → List Built → T.Expr → Type 0
 Fine g ks fs t = (n : ℕ) → W.typed g ks (inline fs n t) ≡ true

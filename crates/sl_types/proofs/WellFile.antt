@@ -12,7 +12,7 @@ use Rattle.sl_ast.specs.declared.kinds.NodeType.TheVariants as nodes
 use Rattle.sl_types.specs.Found.{Found}
 use Rattle.sl_types.specs.Typed as T
 use Rattle.sl_types.specs.Typed.{kind_of}
-use Rattle.sl_types.specs.Scope.{Local, level_of, Callee, callee_from, Around, body_in}
+use Rattle.sl_types.specs.Scope.{Local, level_of, Callee, callee_named, Around, body_in}
 use Rattle.sl_types.specs.Exprs.{typed_expr}
 use Rattle.sl_types.specs.Stmts.{value_in, typed_stmt, typed_rows}
 use Rattle.sl_types.specs.Functions.{gives_any, given_last, returned, either, typed_body, formals_of, scope_from, body_of, spot_within, within, callee_in, known_from, Param, locals_of, by_default, default_in, typed_param, typed_params, typed_groups, Program, in_body, program}
@@ -170,7 +170,7 @@ BothReady kind known = AllReady kind true known × AllReady kind false known
 known_ready : (kind : SlKind) (known : List Callee) (fns : List U.Function) → BothReady kind known → Good (known_from kind known fns) (BothReady kind)
 known_ready kind known [] r = r
 known_ready kind known (f ∷ fns) r =
-    cond_both (is_some (callee_from 0 f.name known)) _ _ (λ x. Good x (BothReady kind)) (λ e. tt)
+    cond_both (is_some (callee_named f.name known)) _ _ (λ x. Good x (BothReady kind)) (λ e. tt)
     (λ e. known_ready kind (known ++ callee_in kind known f ∷ []) fns (one_more kind true known f r.0, one_more kind false known f r.1))
 
 -- parameters

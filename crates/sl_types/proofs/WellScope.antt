@@ -1,14 +1,13 @@
 -- What is found is good; and the last variable of a name has the type that stands at its level.
-use Rattle.std.proofs.Common.{◌≡◌, ◌<◌, ℕ, ◌+◌, cond, List, [], ◌∷◌, ◌++◌, map, get_or, length, Option, Some, None, Ok, Err, refl, ap, ◌∙◌, subst, arith, append_assoc, length-append}
-use Rattle.std.proofs.lemmas.Bool.{lt-ltb, cond_both}
-use Rattle.std.proofs.lemmas.List.{get_or-append-add}
-use Rattle.std.specs.Str.{bytes_eq}
+use Rattle.std.proofs.Common.{◌≡◌, ◌<◌, ℕ, zero, suc, cond, List, [], ◌∷◌, map, get_or, length, Option, Some, None, Ok, Err, refl, ap, ◌∙◌, arith}
+use Rattle.std.proofs.lemmas.Bool.{lt-ltb}
 use Rattle.sl_ast.specs.declared.kinds.SlType.{SlType}
 use Rattle.sl_ast.specs.declared.kinds.SlType.TheVariants as values
 use Rattle.sl_ast.specs.Rules.{node_type}
 use Rattle.sl_ast.specs.WellTyped.{level_type}
 use Rattle.sl_types.specs.Found.{Found, ◌>>=◌}
-use Rattle.sl_types.specs.Scope.{Local, level_from, level_of}
+use Rattle.sl_types.specs.Scope.{Local, level_of}
+use Rattle.sl_types.proofs.Named.{StandsAt, stands_at}
 
 abbrev pub Good : {A : Type 0} → Found A → (A → Type 0) → Type 0
 Good (Ok x) P = P x
@@ -39,26 +38,18 @@ TypedAt ks x = level_type ks x.0 ≡ Some (node_type x.1.kind)
 in_range : (ks : List SlType) (k : ℕ) (x : SlType) → k < length ks → get_or ks k values.Float ≡ x → level_type ks k ≡ Some (node_type x)
 in_range ks k x low is = ap (λ b. cond b (Some (node_type (get_or ks k values.Float))) None) (lt-ltb k (length ks) low) ∙ ap (λ y. Some (node_type y)) is
 
-abbrev Behind : List SlType → ℕ → List Local → Type 0
-Behind ks k [] = Unit {0}
-Behind ks k (l ∷ ls) = TypedAt ks (k, l) × Behind ks (k + 1) ls
+kind_at : (ls : List Local) (k : ℕ) (l : Local) → k < length ls → get_or (types_of ls) k values.Float ≡ (get_or ls k l).kind
+kind_at [] k l low = absurd (omega (arith, low))
+kind_at (x ∷ ls) zero l low = refl
+kind_at (x ∷ ls) (suc k) l low = kind_at ls k l (omega (arith, low))
 
-behind : (pre : List SlType) (ls : List Local) (k : ℕ) → k ≡ length pre → Behind (pre ++ types_of ls) k ls
-behind pre [] k at = tt
-behind pre (l ∷ ls) k at =
-    let e : k ≡ length pre + 0 = omega (arith, at) in (
-      in_range (pre ++ types_of (l ∷ ls)) k l.kind (omega (arith, at, length-append pre (types_of (l ∷ ls))))
-          (ap (λ i. get_or (pre ++ types_of (l ∷ ls)) i values.Float) e ∙ get_or-append-add pre (types_of (l ∷ ls)) 0 values.Float),
-      subst (λ ks. Behind ks (k + 1) ls) (append_assoc pre (l.kind ∷ []) (types_of ls))
-          (behind (pre ++ l.kind ∷ []) ls (k + 1) (omega (arith, at, length-append pre (l.kind ∷ [])))),
-    )
+as_many : (ls : List Local) → length (types_of ls) ≡ length ls
+as_many [] = refl
+as_many (l ∷ ls) = ap suc (as_many ls)
 
-last_typed : (ks : List SlType) (k : ℕ) (last : Option (ℕ × Local)) (name : List ℕ) (ls : List Local) → Behind ks k ls → GoodSome last (TypedAt ks)
-    → GoodSome (level_from k last name ls) (TypedAt ks)
-last_typed ks k last name [] b h = h
-last_typed ks k last name (l ∷ ls) b h =
-    last_typed ks (k + 1) (cond (bytes_eq l.name name) (Some (k, l)) last) name ls b.1
-    (cond_both (bytes_eq l.name name) (Some (k, l)) last (λ o. GoodSome o (TypedAt ks)) (λ e. b.0) (λ e. h))
+typed_at : (ls : List Local) (o : Option (ℕ × Local)) → StandsAt ls o → GoodSome o (TypedAt (types_of ls))
+typed_at ls None h = tt
+typed_at ls (Some x) h = in_range (types_of ls) x.0 x.1.kind (omega (arith, h.0, as_many ls)) (kind_at ls x.0 x.1 h.0 ∙ ap (λ l. l.kind) h.1)
 
 pub level_typed : (name : List ℕ) (ls : List Local) → GoodSome (level_of name ls) (TypedAt (types_of ls))
-level_typed name ls = last_typed (types_of ls) 0 None name ls (behind [] ls 0 refl) tt
+level_typed name ls = typed_at ls (level_of name ls) (stands_at (λ l. l.name) name ls)

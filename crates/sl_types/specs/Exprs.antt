@@ -32,7 +32,7 @@ use Rattle.sl_types.specs.Predefined.{predefined_names, is_read, is_own}
 use Rattle.sl_types.specs.Rules.{operation_of, prefix_operation, builtin_names}
 use Rattle.sl_types.specs.Typed as T
 use Rattle.sl_types.specs.Typed.{kind_of}
-use Rattle.sl_types.specs.Scope.{Local, level_of, Callee, callee_from, Around, formals_in, body_in}
+use Rattle.sl_types.specs.Scope.{Local, level_of, Callee, callee_named, Around, formals_in, body_in}
 
 -- the value of a number, as a scene's text has it
 abbrev pub token_value : TokenKind → ℤ
@@ -205,7 +205,7 @@ resolved g behind name line es args None = built g behind line es args (entry_of
 
 abbrev pub call_with : Around → Bool → List ℕ → ℕ → List U.Expr → Found (List T.Expr) → Option (List Local) → Found T.Expr
 call_with g behind name line es args (Some formals) = calls_itself formals line args
-call_with g behind name line es args None = resolved g.at behind name line es args (callee_from 0 name g.known)
+call_with g behind name line es args None = resolved g.at behind name line es args (callee_named name g.known)
 
 abbrev pub call_of : Around → Bool → List ℕ → ℕ → List U.Expr → Found (List T.Expr) → Found T.Expr
 call_of g behind name line es args = call_with g behind name line es args (formals_in name g.own)

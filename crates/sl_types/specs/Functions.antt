@@ -8,7 +8,7 @@ use Rattle.sl_ast.specs.declared.kinds.SlType.{SlType}
 use Rattle.sl_types.specs.declared.fault.TypeCode.TheVariants.{T2, T8, T10}
 use Rattle.sl_types.specs.Found.{Found, ◌>>=◌}
 use Rattle.sl_types.specs.Typed as T
-use Rattle.sl_types.specs.Scope.{Local, level_of, Callee, callee_from, Around}
+use Rattle.sl_types.specs.Scope.{Local, level_of, Callee, callee_named, Around}
 use Rattle.sl_types.specs.Exprs.{typed_expr}
 use Rattle.sl_types.specs.Stmts.{is_uniform, is_varying, value_in, typed_stmt, typed_rows}
 
@@ -81,7 +81,7 @@ abbrev pub spot_within : SlKind → Bool → W.Around
 spot_within kind default = record { kind = kind; default = default; bare = true; lit = false; looped = false }
 
 abbrev pub within : SlKind → Bool → List Callee → U.Function → Around
-within kind default known f = record { at = spot_within kind default; own = Some (f.name, formals_of f.formals); known = known }
+within kind default known f = record { at = spot_within kind default; own = Some (record { name = f.name; formals = formals_of f.formals; returns = f.returns }); known = known }
 
 abbrev pub callee_in : SlKind → List Callee → U.Function → Callee
 callee_in kind known f = record {
@@ -96,7 +96,7 @@ callee_in kind known f = record {
 abbrev pub known_from : SlKind → List Callee → List U.Function → Found (List Callee)
 known_from kind known [] = Ok known
 known_from kind known (f ∷ fs) =
-    if is_some (callee_from 0 f.name known) then Err (T10, f.line) else known_from kind (known ++ callee_in kind known f ∷ []) fs
+    if is_some (callee_named f.name known) then Err (T10, f.line) else known_from kind (known ++ callee_in kind known f ∷ []) fs
 
 -- a parameter with its default
 pub record Param : Type 0 where

@@ -17,3 +17,4 @@ pub mod Measures
 pub mod Views
 pub mod InlineView
 pub mod InlineExamples
+pub mod TypedExamples

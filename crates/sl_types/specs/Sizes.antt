@@ -1,7 +1,7 @@
 -- The extent of a tree with functions in place as far as it matters, so that its numbers stay small.
 use Rattle.std.specs.Prelude.{Bool, true, false, nat_lt, ◌&&◌, List, [], ◌∷◌, ◌++◌, get_or, Ok, Err}
 use Rattle.sl_types.specs.Found.{Found}
-use Rattle.sl_types.specs.Typed.{Expr, number, word, variable, apply, call, Exprs, none, more, Stmt, empty, leave, again, block, group, declare, start, assign, test, test_else, repeat, steps, lights, Stmts, done, first, Body}
+use Rattle.sl_types.specs.Typed.{Expr, number, word, variable, apply, call, Exprs, none, more, Link, Stmt, empty, leave, again, block, group, declare, start, assign, test, test_else, repeat, steps, lights, Stmts, done, first, Body}
 use Rattle.sl_types.specs.Typed as T
 use Rattle.sl_types.specs.Scope.{Callee, body_in}
 use Rattle.sl_types.specs.Functions.{Param, Program}
@@ -25,6 +25,11 @@ abbrev mutual
   pub size_args : List Extent → Extent → Exprs → Extent
   size_args fs before none = before
   size_args fs before (more e rest) = size_args fs (with before (size fs e)) rest
+
+-- operators behind what is so great
+abbrev pub size_links : List Extent → Extent → List Link → Extent
+size_links fs before [] = before
+size_links fs before (l ∷ ls) = size_links fs (over (with (with nowhere before) (size fs l.operand))) ls
 
 abbrev mutual
   pub size_stmt : List Extent → Stmt → Extent

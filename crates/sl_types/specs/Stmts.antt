@@ -18,13 +18,14 @@ use Rattle.sl_ast.specs.declared.syntax.LightWord.{LightWord}
 use Rattle.sl_ast.specs.declared.syntax.LightWord.TheVariants as words
 use Rattle.sl_ast.specs.declared.typed.Variable.{Variable}
 use Rattle.sl_ast.specs.declared.typed.Variable.TheVariants as variables
+use Rattle.sl_types.specs.declared.fault.TypeCode.{TypeCode}
 use Rattle.sl_types.specs.declared.fault.TypeCode.TheVariants.{T1, T2, T6, T8, T10, T11}
 use Rattle.sl_types.specs.Found.{Found, ◌>>=◌, refuses}
 use Rattle.sl_types.specs.Names.{entry_of}
 use Rattle.sl_types.specs.Predefined.{predefined_names, is_own, is_written}
 use Rattle.sl_types.specs.Typed as T
 use Rattle.sl_types.specs.Typed.{kind_of}
-use Rattle.sl_types.specs.Scope.{Local, level_of, Around}
+use Rattle.sl_types.specs.Scope.{Local, level_of, Own, Around}
 use Rattle.sl_types.specs.Exprs.{operands_of, typed_expr, typed_args}
 
 abbrev pub Rows : Type 0
@@ -103,6 +104,12 @@ inner rows = rows >>= λ r. Ok r.0
 abbrev pub branch : Rows → Found T.Stmt
 branch rows = rows >>= λ r. Ok (one_of r.0)
 
+-- the fault of a `return` that isn't the last statement of a function: its value doesn't fit what the function returns, the lower code, else
+-- its place; a shader's body returns nothing
+abbrev pub misplaced : Option Own → Found T.Expr → TypeCode
+misplaced None value = T8
+misplaced (Some own) value = if refuses value (λ t. not (takes own.returns (kind_of t))) then T2 else T8
+
 -- where the body of a loop stands, and that of a statement over lights
 abbrev pub in_loop : Around → Around
 in_loop g = record { at = W.in_loop g.at; own = g.own; known = g.known }
@@ -134,7 +141,7 @@ abbrev mutual
   typed_stmt g from ts ls (U.again line) = if g.at.looped then Ok (ts ++ T.again line ∷ [], ls) else Err (T8, line)
   typed_stmt g from ts ls (U.block ss line) = inner (typed_rows g (length ls) [] ls ss) >>= λ b. Ok (ts ++ T.block (T.stmts b) line ∷ [], ls)
   typed_stmt g from ts ls (U.assign a) = typed_set g ls a >>= λ s. Ok (ts ++ s ∷ [], ls)
-  typed_stmt g from ts ls (U.give e line) = Err (T8, line)
+  typed_stmt g from ts ls (U.give e line) = Err (misplaced g.own (typed_expr g false ls e), line)
   typed_stmt g from ts ls (U.declare class kind names line) = typed_names g from (is_uniform class) kind ts ls names
   typed_stmt g from ts ls (U.test e s line) =
       condition line (typed_expr g false ls e) >>= λ t. branch (typed_stmt g (length ls) [] ls s) >>= λ r. Ok (ts ++ T.test t r line ∷ [], ls)

@@ -32,6 +32,21 @@ kind_of (variable x kind line) = kind
 kind_of (apply operation args kind line) = kind
 kind_of (call function args kind line) = kind
 
+-- an operator with the operand behind it, and the type of what stands as far as that
+pub record Link : Type 0 where
+  pub operation : Operation
+  pub operand : Expr
+  pub kind : NodeType
+  pub line : ℕ
+
+abbrev pub linked : Expr → Link → Expr
+linked e l = apply l.operation (more e (more l.operand none)) l.kind l.line
+
+-- a chain of operators groups to the left
+abbrev pub chained : Expr → List Link → Expr
+chained e [] = e
+chained e (l ∷ ls) = chained (linked e l) ls
+
 -- each name of a declaration is a statement of its own
 mutual
   pub data Stmt : Type 0 where

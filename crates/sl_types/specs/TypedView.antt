@@ -2,6 +2,7 @@
 use Rattle.std.specs.Prelude.{map}
 use Rattle.sl_types.specs.Typed as T
 use Rattle.sl_types.specs.declared.typed.TypedExpr as e
+use Rattle.sl_types.specs.declared.typed.TypedLink as l
 use Rattle.sl_types.specs.declared.typed.TypedStmt as s
 
 abbrev mutual
@@ -10,11 +11,21 @@ abbrev mutual
   typed_of (e.Word text line) = T.word text line
   typed_of (e.Variable variable kind line) = T.variable variable kind line
   typed_of (e.Apply' operation n args kind line) = T.apply operation (row_typed args) kind line
+  typed_of (e.Chain' p first n links operation q operand kind line) =
+      T.apply operation (T.more (row_chain (typed_of first) links) (T.more (typed_of operand) T.none)) kind line
   typed_of (e.Call' function n args kind line) = T.call function (row_typed args) kind line
 
   pub row_typed : {m : _} → e.Row_of-TypedExpr m → T.Exprs
   row_typed e.end_of-TypedExpr = T.none
   row_typed (e.more_of-TypedExpr x rest) = T.more (typed_of x) (row_typed rest)
+
+  -- behind what stands before
+  pub row_chain : {m : _} → T.Expr → e.Row_of-TypedLink m → T.Expr
+  row_chain t e.end_of-TypedLink = t
+  row_chain t (e.more_of-TypedLink operation operand kind line rest) = row_chain (T.apply operation (T.more t (T.more (typed_of operand) T.none)) kind line) rest
+
+abbrev pub tlink_of : l.TypedLink → T.Link
+tlink_of x = record { operation = x.operation; operand = typed_of x.operand; kind = x.kind; line = x.line }
 
 abbrev mutual
   pub tstmt_of : s.TypedStmt → T.Stmt

@@ -27,12 +27,13 @@ use Rattle.sl_types.specs.declared.sizes.Extent.{Extent}
 use Rattle.sl_types.specs.declared.places.Param.{Param}
 use Rattle.sl_types.specs.declared.places.Program.{Program}
 
+-- what an answer says: its value or its fault is the one that the definition finds; want of memory says nothing
 abbrev pub Gives : {A B : Type 0} → (A → B) → Result A TypeFault → Found B → Type 0
 Gives view (Ok v) found = found ≡ Ok (view v)
 Gives view (Err (At code line)) found = found ≡ Err (code, line)
 Gives view (Err NoMemory) found = Unit {0}
 
--- the same of the items of a vector
+-- what an answer says where it holds the items of a vector
 abbrev pub GivesAll : {A B : Type 0} → (A → B) → Result (Vec A Global) TypeFault → Found (List B) → Type 0
 GivesAll view (Ok v) found = found ≡ Ok (map view v.items)
 GivesAll view (Err (At code line)) found = found ≡ Err (code, line)
@@ -41,7 +42,7 @@ GivesAll view (Err NoMemory) found = Unit {0}
 abbrev pub local_of : Local → S.Local
 local_of l = record { uniform = l.uniform; kind = l.kind; name = l.name.now; line = l.line }
 
--- the same of the statements and the scope that are left
+-- what an answer says of the statements and the scope that are left
 abbrev pub GivesRows : {A : Type 0} → Result A TypeFault → List TypedStmt → List Local → Found (List T.Stmt × List S.Local) → Type 0
 GivesRows (Ok u) ts ls found = found ≡ Ok (map tstmt_of ts, map local_of ls)
 GivesRows (Err (At code line)) ts ls found = found ≡ Err (code, line)
@@ -73,8 +74,8 @@ body_of (Err p) = Err (p.code, p.line)
 abbrev pub callee_of : Known → S.Callee
 callee_of k = record { name = k.name.now; formals = map local_of k.formals.items; returns = k.returns; body = body_of k.body; by_default = body_of k.by_default }
 
-abbrev pub own_of : Own → List ℕ × List S.Local
-own_of o = (o.name.now, map local_of o.formals.now)
+abbrev pub own_of : Own → S.Own
+own_of o = record { name = o.name.now; formals = map local_of o.formals.now; returns = o.returns }
 
 abbrev pub spot_of : Spot → W.Around
 spot_of s = record { kind = s.kind; default = s.default; bare = s.bare; lit = s.lit; looped = s.looped }
@@ -90,9 +91,9 @@ abbrev pub param_of : Param → F.Param
 param_of p = record { local = local_of p.local; value = typed_of p.value }
 
 abbrev pub program_of : Program → F.Program
-program_of p = record { known = map callee_of p.known.items; params = map param_of p.params.items; body = map tstmt_of p.body.items }
+program_of p = record { known = map callee_of p.known; params = map param_of p.params.items; body = map tstmt_of p.body.items }
 
--- the same of the parameters that are there, with their scope
+-- what an answer says of the parameters that are there, with their scope
 abbrev pub GivesParams : {A : Type 0} → Result A TypeFault → List Param → List Local → Found (List F.Param) → Type 0
 GivesParams (Ok u) ps ls found = (found ≡ Ok (map param_of ps)) × (map local_of ls ≡ F.locals_of (map param_of ps))
 GivesParams (Err (At code line)) ps ls found = found ≡ Err (code, line)

@@ -15,23 +15,25 @@ use crate::operations::{applied, kind_of, misfits};
 use crate::places::{Around, Body, Faulty, Known, Local, Own, Spot};
 use crate::predefined::space_named;
 use crate::rules::{Builtin, builtin_names};
-use crate::scope::callee;
 use crate::typed::TypedExpr;
 use fixed_math::{List, Text};
 use sl_ast::{Expr, NodeType, Operation, SpaceName};
 use std::alloc::Global;
 
 // Whether those values go into those formals.
+#[tactic(auto, using(crate::proofs::Operands::fits_unlike, crate::proofs::Operands::fits_split, crate::proofs::Operands::fits_end))]
 fn fits(formals: &[Local<'_>], args: &[TypedExpr]) -> bool
     ensures { result ≡ spec.fits (map local_of formals.now) (map typed_of args.now) }
 {
-    match (formals.split_first(), args.split_first()) {
-        (None, None) => true,
-        (Some((formal, others)), Some((value, rest))) => {
-            formal.kind.takes(kind_of(value)) && fits(others, rest)
-        }
-        _ => false,
+    if formals.len() != args.len() {
+        return false;
     }
+    for i in 0..formals.len() {
+        if !formals[i].kind.takes(kind_of(&args[i])) {
+            return false;
+        }
+    }
+    true
 }
 
 #[tactic(auto, using(crate::proofs::Rows::held_typed))]
@@ -316,9 +318,9 @@ fn resolved(
     es: &[Expr],
     args: Result<Vec<TypedExpr>, TypeFault>,
 ) -> Result<TypedExpr, TypeFault>
-    ensures { (found : Found (List T.Expr)) → GivesAll typed_of args found → Gives typed_of result (spec.resolved (spot_of g.now.at) behind name.now line (map expr_of es.now) found (scopes.callee_from 0 name.now (map callee_of g.now.known.now))) }
+    ensures { (found : Found (List T.Expr)) → GivesAll typed_of args found → Gives typed_of result (spec.resolved (spot_of g.now.at) behind name.now line (map expr_of es.now) found (scopes.callee_named name.now (map callee_of g.now.known.now))) }
 {
-    match callee(name, g.known) {
+    match g.known.find(name) {
         Some((k, known)) => called(g.at.default, k, known, line, args),
         None => built(&g.at, behind, line, es, args, find(builtin_names(), name)),
     }

@@ -1,6 +1,7 @@
 // The typed tree of a file, or its first fault.
 ghost use Rattle.std.specs.Prelude.{◌≡◌, IfOk, Ok, Err, true, option_map, if◌then◌else◌};
 ghost use Rattle.sl_types.specs.declared.fault.TypeCode.TheVariants.{M8};
+ghost use Rattle.sl_ast.specs.Settled.{IsSettled, unsettled};
 ghost use Rattle.sl_ast.specs.ShaderView.{shader_of};
 ghost use Rattle.sl_ast.specs.TreeView.{tree_of};
 ghost use Rattle.sl_ast.specs.WellTyped.{well_typed};
@@ -73,7 +74,9 @@ fn code_of(code: ControlCode) -> TypeCode
 }
 
 fn settled(tree: Tree, found: Option<ControlFault>) -> Result<Tree, TypeFault>
-    ensures { Gives tree_of result (spec.settled (tree_of tree) (option_map fault_of found)) }
+    requires { option_map fault_of found ≡ unsettled (tree_of tree) }
+    ensures gives { Gives tree_of result (spec.settled (tree_of tree) (option_map fault_of found)) }
+    ensures settled { IfOk result (λ t. IsSettled (tree_of t)) }
 {
     match found {
         None => Ok(tree),
@@ -86,9 +89,11 @@ fn settled(tree: Tree, found: Option<ControlFault>) -> Result<Tree, TypeFault>
 ///
 /// The faults of names, types, kinds of shaders and places come first, in the order of the text; those of a function are
 /// told once, where it is first called. Then `M8` stands at the line of the shader whose tree is too great: more than 65,536
-/// nodes, or more than 256 in one another. The faults of classes and control come last, in the order of the text.
+/// nodes, or more than 256 in one another. The faults of classes and control come last, in the order of the text: no such
+/// fault stands in a tree that is given.
 pub fn check(alloc: Global, shader: &Shader) -> Result<Tree, TypeFault>
-    ensures { Gives tree_of result (spec.checked (shader_of shader.now)) }
+    ensures gives { Gives tree_of result (spec.checked (shader_of shader.now)) }
+    ensures settled { IfOk result (λ t. IsSettled (tree_of t)) }
 {
     let program = sized(alloc, shader)?;
     let tree = tree(alloc, shader, &program)?;

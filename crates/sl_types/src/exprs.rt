@@ -10,11 +10,11 @@ ghost use Rattle.sl_types.specs.Views.{Gives, GivesAll, spot_of, around_of, loca
 use crate::calls::call_of;
 use crate::fault::{TypeCode, TypeFault, fault};
 use crate::names::{copied, find};
-use crate::operations::{applied_one, applied_three, applied_two, converted, tripled};
+use crate::operations::{applied_one, applied_three, chained, converted, kind_of, linked, tripled};
 use crate::places::{Around, Local, Spot};
 use crate::predefined::{is_own, is_read, predefined_names};
 use crate::rules::{operation_of, prefix_operation};
-use crate::scope::{level, place_of};
+use crate::scope::{Scope, place_of};
 use crate::typed::TypedExpr;
 use fixed_math::{Num, Text};
 use rib_lex::{LexFault, Token, TokenKind, tokens};
@@ -108,14 +108,14 @@ pub fn expr(
     alloc: Global,
     g: &Around<'_, '_>,
     behind: bool,
-    scope: &[Local<'_>],
+    scope: &Scope<'_>,
 ) -> Result<TypedExpr, TypeFault>
     ensures { Gives typed_of result (spec.typed_expr (around_of g.now) behind (map local_of scope.now) (expr_of e.now)) }
 {
     match e {
         Expr::Number { text, line } => number(alloc, text, *line),
         Expr::Str { text, line } => word(alloc, text, *line),
-        Expr::Name { name, line } => named(&g.at, name, *line, level(name, scope)),
+        Expr::Name { name, line } => named(&g.at, name, *line, scope.level(name)),
         Expr::Paren { inner, .. } => expr(inner, alloc, g, false, scope),
         Expr::Prefixed {
             operator,
@@ -173,7 +173,7 @@ pub fn exprs(
     es: &[Expr],
     alloc: Global,
     g: &Around<'_, '_>,
-    scope: &[Local<'_>],
+    scope: &Scope<'_>,
 ) -> Result<Vec<TypedExpr>, TypeFault>
     ensures { GivesAll typed_of result (spec.typed_args (around_of g.now) (map local_of scope.now) [] (U.exprs (map expr_of es.now))) }
 {
@@ -191,23 +191,20 @@ fn chain(
     links: &[Link],
     alloc: Global,
     g: &Around<'_, '_>,
-    scope: &[Local<'_>],
+    scope: &Scope<'_>,
     first: TypedExpr,
 ) -> Result<TypedExpr, TypeFault>
     ensures { Gives typed_of result (spec.typed_links (around_of g.now) (map local_of scope.now) (typed_of first) (U.links (map link_of links.now))) }
 {
-    let mut value = first;
+    let mut kind = kind_of(&first);
+    let mut typed = Vec::new(alloc);
     for link in links {
         let operand = expr(&link.operand, alloc, g, false, scope)?;
-        value = applied_two(
-            alloc,
-            operation_of(link.operator),
-            link.line,
-            value,
-            operand,
-        )?;
+        let next = linked(operation_of(link.operator), link.line, kind, operand)?;
+        kind = next.kind;
+        typed.push(next)?;
     }
-    Ok(value)
+    Ok(chained(alloc, first, typed)?)
 }
 
 // The components of a triple.
@@ -218,7 +215,7 @@ fn components(
     z: &Expr,
     alloc: Global,
     g: &Around<'_, '_>,
-    scope: &[Local<'_>],
+    scope: &Scope<'_>,
 ) -> Result<Vec<TypedExpr>, TypeFault>
     ensures { GivesAll typed_of result (spec.three (spec.typed_expr (around_of g.now) false (map local_of scope.now) (expr_of x.now)) (spec.typed_expr (around_of g.now) false (map local_of scope.now) (expr_of y.now)) (spec.typed_expr (around_of g.now) false (map local_of scope.now) (expr_of z.now))) }
 {

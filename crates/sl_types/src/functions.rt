@@ -13,7 +13,7 @@ use crate::exprs::expr;
 use crate::fault::{TypeCode, TypeFault, fault};
 use crate::gives::gives_any;
 use crate::places::{Around, Body, Faulty, Known, Local, Own, Spot};
-use crate::scope::{callee, level};
+use crate::scope::{Functions, Scope};
 use crate::sets::{is_uniform, value_in};
 use crate::stmts::stmt;
 use crate::typed::TypedStmt;
@@ -45,7 +45,7 @@ fn returned(
     g: &Around<'_, '_>,
     kind: SlType,
     done: Vec<TypedStmt>,
-    scope: &[Local<'_>],
+    scope: &Scope<'_>,
     value: &Expr,
     line: u32,
 ) -> Result<Body, TypeFault>
@@ -65,17 +65,17 @@ fn body_from<'a>(
     g: &Around<'_, 'a>,
     kind: SlType,
     line: u32,
-    scope: &mut Vec<Local<'a>>,
+    scope: &mut Scope<'a>,
     body: &'a [Stmt],
 ) -> Result<Body, TypeFault>
-    ensures { Gives body_view result (spec.typed_body (around_of g.now) (length scope.old.items) kind line [] (map local_of scope.old.items) (U.stmts (map stmt_of body.now))) }
+    ensures { Gives body_view result (spec.typed_body (around_of g.now) (length scope.old) kind line [] (map local_of scope.old) (U.stmts (map stmt_of body.now))) }
 {
     let from = scope.len();
     let mut done = Vec::new(alloc);
     let mut rest = body;
     while let Some((s, behind)) = rest.split_first() {
         if let Some((value, line)) = given_last(behind, s) {
-            return returned(alloc, g, kind, done, scope.as_slice(), value, line);
+            return returned(alloc, g, kind, done, scope, value, line);
         }
         stmt(s, alloc, g, from, &mut done, scope)?;
         rest = behind;
@@ -120,12 +120,12 @@ fn formals_of<'a>(alloc: Global, groups: &'a [Group]) -> Result<Vec<Local<'a>>, 
 }
 
 // The scope of formals, each name of which stands once.
-fn scope_from<'a>(alloc: Global, formals: &[Local<'a>]) -> Result<Vec<Local<'a>>, TypeFault>
-    ensures { GivesAll local_of result (spec.scope_from [] (map local_of formals.now)) }
+fn scope_from<'a>(alloc: Global, formals: &[Local<'a>]) -> Result<Scope<'a>, TypeFault>
+    ensures { Gives (map local_of) result (spec.scope_from [] (map local_of formals.now)) }
 {
-    let mut scope = Vec::new(alloc);
+    let mut scope = Scope::new(alloc);
     for formal in formals {
-        if level(formal.name, scope.as_slice()).is_some() {
+        if scope.level(formal.name).is_some() {
             return fault(TypeCode::T10, formal.line);
         }
         scope.push(*formal)?;
@@ -174,12 +174,12 @@ fn kept(found: Result<Body, TypeFault>) -> Result<Result<Body, Faulty>, AllocErr
     }
 }
 
-// The same where the function is called in the default of a parameter or in the body of the shader.
+// What is kept of a function's body where it is called in the default of a parameter, or in the body of the shader.
 fn kept_body<'a>(
     alloc: Global,
     kind: SlKind,
     by_default: bool,
-    known: &[Known<'a>],
+    known: &Functions<'a>,
     formals: &[Local<'a>],
     f: &'a Function,
 ) -> Result<Result<Body, Faulty>, AllocError>
@@ -191,6 +191,7 @@ fn kept_body<'a>(
         own: Some(Own {
             name: &f.name,
             formals,
+            returns: f.returns,
         }),
         known,
     };
@@ -202,7 +203,7 @@ fn kept_body<'a>(
 fn learned<'a>(
     alloc: Global,
     kind: SlKind,
-    known: &[Known<'a>],
+    known: &Functions<'a>,
     f: &'a Function,
 ) -> Result<Known<'a>, AllocError>
     ensures { IfOk result (λ k. callee_of k ≡ spec.callee_in kind (map callee_of known.now) (function_of f.now)) }
@@ -224,15 +225,15 @@ pub fn known_from<'a>(
     alloc: Global,
     kind: SlKind,
     functions: &'a [Function],
-) -> Result<Vec<Known<'a>>, TypeFault>
-    ensures { GivesAll callee_of result (spec.known_from kind [] (map function_of functions.now)) }
+) -> Result<Functions<'a>, TypeFault>
+    ensures { Gives (map callee_of) result (spec.known_from kind [] (map function_of functions.now)) }
 {
-    let mut known = Vec::new(alloc);
+    let mut known = Functions::new(alloc);
     for f in functions {
-        if callee(&f.name, known.as_slice()).is_some() {
+        if known.find(&f.name).is_some() {
             return fault(TypeCode::T10, f.line);
         }
-        let next = learned(alloc, kind, known.as_slice(), f)?;
+        let next = learned(alloc, kind, &known, f)?;
         known.push(next)?;
     }
     Ok(known)

@@ -6,12 +6,12 @@ ghost use Rattle.sl_types.specs.Inline as spec;
 ghost use Rattle.sl_types.specs.InlineView.{functions, Lighter, Puts};
 ghost use Rattle.sl_types.specs.Scope.{body_in};
 ghost use Rattle.sl_types.specs.Typed as T;
-ghost use Rattle.sl_types.specs.TypedView.{typed_of, tstmt_of};
+ghost use Rattle.sl_types.specs.TypedView.{typed_of, tlink_of, tstmt_of};
 ghost use Rattle.sl_types.specs.Views.{body_of, callee_of, local_of, param_of};
 
 use crate::names::copied;
 use crate::places::{Body, Faulty, Known, Local, Param};
-use crate::typed::{TypedExpr, TypedStmt};
+use crate::typed::{TypedExpr, TypedLink, TypedStmt};
 use fixed_math::{List, NoMemory, Num};
 use sl_ast::{
     LightStmt, NodeType, Operation, ParamDecl, ParamDefault, Place, TreeExpr, TreeFormal, TreeStmt,
@@ -93,6 +93,29 @@ fn apply_node(operation: Operation, args: Vec<TreeExpr>, kind: NodeType, place: 
         kind,
         place,
     }
+}
+
+// An operator over two operands.
+fn pair_node(
+    alloc: Global,
+    operation: Operation,
+    a: TreeExpr,
+    b: TreeExpr,
+    kind: NodeType,
+    place: Place,
+) -> Result<TreeExpr, NoMemory>
+    ensures { IfOk result (λ t. tree_expr t ≡ A.apply operation (A.more (tree_expr a) (A.more (tree_expr b) A.none)) kind place) }
+{
+    let args = vec![in alloc; a, b]?;
+    Ok(apply_node(operation, args, kind, place))
+}
+
+// The number that so many nodes further has.
+fn behind(next: u32, nodes: usize) -> u32
+    requires { next + nodes ≤ 65536 }
+    ensures { result ≡ next + nodes }
+{
+    next + nodes as u32
 }
 
 #[tactic(auto, using(sl_ast::proofs::TypedRows::held_exprs, sl_ast::proofs::TypedRows::held_stmts))]
@@ -277,6 +300,19 @@ fn expr(
             let args = exprs(args.as_slice(), alloc, by_default, known, next)?;
             Ok(apply_node(*operation, args, *kind, at))
         }
+        TypedExpr::Chain {
+            first,
+            links,
+            operation,
+            operand,
+            kind,
+            line,
+        } => {
+            let at = place(*line, next);
+            let before = chain(links.as_slice(), first, alloc, by_default, known, next)?;
+            let operand = expr(operand, alloc, by_default, known, next)?;
+            pair_node(alloc, *operation, before, operand, *kind, at)
+        }
         TypedExpr::Call {
             function,
             args,
@@ -288,6 +324,36 @@ fn expr(
             call(*function, args, alloc, by_default, known, *kind, at, next)
         }
     }
+}
+
+// Operators behind a first operand, each over those before it: the node of the last stands first in the text's order.
+#[cycle(inline)]
+fn chain(
+    links: &[TypedLink],
+    first: &TypedExpr,
+    alloc: Global,
+    by_default: bool,
+    known: &[Known<'_>],
+    next: &mut u32,
+) -> Result<TreeExpr, NoMemory>
+    requires { next.old + spec.count (functions by_default known.now) (T.chained (typed_of first.now) (map tlink_of links.now)) ≤ 65536 }
+    ensures tree { IfOk result (λ t. tree_expr t ≡ spec.inline (functions by_default known.now) next.old (T.chained (typed_of first.now) (map tlink_of links.now))) }
+    ensures next { OnOk result (next.new ≡ next.old + spec.count (functions by_default known.now) (T.chained (typed_of first.now) (map tlink_of links.now))) }
+{
+    let start = *next;
+    let mut number = behind(start, links.len());
+    *next = number;
+    let mut value = expr(first, alloc, by_default, known, next)?;
+    for link in links {
+        number -= 1;
+        let at = Place {
+            line: link.line,
+            number,
+        };
+        let operand = expr(&link.operand, alloc, by_default, known, next)?;
+        value = pair_node(alloc, link.operation, value, operand, link.kind, at)?;
+    }
+    Ok(value)
 }
 
 #[cycle(inline)]
@@ -465,7 +531,7 @@ fn branch(
     Ok(Box::new(alloc, made)?)
 }
 
-/// The same for statements one after another.
+/// The trees of statements one after another, and the number of the node behind them.
 #[cycle(inline)]
 pub fn stmts(
     body: &[TypedStmt],

@@ -23,6 +23,3 @@ mod typed;
 
 pub use checking::check;
 pub use fault::{TypeCode, TypeFault};
-
-#[cfg(test)]
-mod tests;

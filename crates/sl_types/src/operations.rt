@@ -1,19 +1,19 @@
 // Operators, conversions and built-ins on typed operands.
-ghost use Rattle.std.specs.Prelude.{List, ◌≡◌, [], ◌∷◌, Ok, map, not, true};
+ghost use Rattle.std.specs.Prelude.{List, ◌≡◌, [], ◌∷◌, IfOk, Ok, map, not, true};
 ghost use Rattle.std.specs.Str.{bytes_eq};
 ghost use Rattle.sl_ast.specs.Rules.{rule};
 ghost use Rattle.sl_types.specs.Exprs as spec;
 ghost use Rattle.sl_types.specs.Found.{Found, refuses};
 ghost use Rattle.sl_types.specs.Typed as T;
-ghost use Rattle.sl_types.specs.TypedView.{typed_of};
+ghost use Rattle.sl_types.specs.TypedView.{typed_of, tlink_of};
 ghost use Rattle.sl_types.specs.Views.{Gives, GivesAll, spot_of};
 
 use crate::fault::{TypeCode, TypeFault, fault};
 use crate::names::is;
 use crate::places::Spot;
 use crate::predefined::space_named;
-use crate::typed::TypedExpr;
-use fixed_math::{List, Text};
+use crate::typed::{TypedExpr, TypedLink};
+use fixed_math::{List, NoMemory, Text};
 use sl_ast::{Expr, NodeType, Operands, Operation, SlType, Space, SpaceName};
 use std::alloc::Global;
 
@@ -25,6 +25,7 @@ pub fn kind_of(e: &TypedExpr) -> NodeType
         TypedExpr::Word { .. } => NodeType::Str,
         TypedExpr::Variable { kind, .. } => *kind,
         TypedExpr::Apply { kind, .. } => *kind,
+        TypedExpr::Chain { kind, .. } => *kind,
         TypedExpr::Call { kind, .. } => *kind,
     }
 }
@@ -88,17 +89,46 @@ pub fn applied_one(
     applied(operation, line, args)
 }
 
-pub fn applied_two(
-    alloc: Global,
+/// An operator behind operands whose type is `before`, with the operand behind it.
+pub fn linked(
     operation: Operation,
     line: u32,
-    a: TypedExpr,
-    b: TypedExpr,
-) -> Result<TypedExpr, TypeFault>
-    ensures { Gives typed_of result (spec.applied operation line (typed_of a ∷ typed_of b ∷ [])) }
+    before: NodeType,
+    operand: TypedExpr,
+) -> Result<TypedLink, TypeFault>
+    ensures { (t : T.Expr) → T.kind_of t ≡ before → Gives (λ l. T.linked t (tlink_of l)) result (spec.applied operation line (t ∷ typed_of operand ∷ [])) }
 {
-    let args = vec![in alloc; a, b]?;
-    applied(operation, line, args)
+    match operation.rule(Operands::Two(before, kind_of(&operand))) {
+        None => fault(TypeCode::T2, line),
+        Some(kind) => Ok(TypedLink {
+            operation,
+            operand,
+            kind,
+            line,
+        }),
+    }
+}
+
+/// Operators behind a first operand.
+#[tactic(auto, using(crate::proofs::Chains::chain_held))]
+pub fn chained(
+    alloc: Global,
+    first: TypedExpr,
+    mut links: Vec<TypedLink>,
+) -> Result<TypedExpr, NoMemory>
+    ensures { IfOk result (λ t. typed_of t ≡ T.chained (typed_of first) (map tlink_of links.items)) }
+{
+    let Some(last) = links.pop() else {
+        return Ok(first);
+    };
+    Ok(TypedExpr::Chain {
+        first: Box::new(alloc, first)?,
+        links: List(links),
+        operation: last.operation,
+        operand: Box::new(alloc, last.operand)?,
+        kind: last.kind,
+        line: last.line,
+    })
 }
 
 pub fn applied_three(

@@ -9,8 +9,8 @@ ghost use Rattle.sl_types.specs.Views.{Gives, GivesParams, around_of, local_of, 
 use crate::exprs::expr;
 use crate::fault::{TypeCode, TypeFault, fault};
 use crate::functions::known_from;
-use crate::places::{Around, Known, Local, Param, Program, Spot};
-use crate::scope::level;
+use crate::places::{Around, Local, Param, Program, Spot};
+use crate::scope::{Functions, Scope};
 use crate::sets::{is_varying, value_in};
 use crate::stmts::rows;
 use crate::typed::TypedExpr;
@@ -28,7 +28,7 @@ fn default_in(
 {
     match value {
         None => fault(TypeCode::T2, set_line),
-        Some(e) => value_in(kind, set_line, expr(e, alloc, g, false, &[])),
+        Some(e) => value_in(kind, set_line, expr(e, alloc, g, false, &Scope::new(alloc))),
     }
 }
 
@@ -39,13 +39,13 @@ fn param<'a>(
     uniform: bool,
     kind: SlType,
     params: &mut Vec<Param<'a>>,
-    scope: &mut Vec<Local<'a>>,
+    scope: &mut Scope<'a>,
     d: &'a Declared,
 ) -> Result<(), TypeFault>
-    requires { map local_of scope.old.items ≡ spec.locals_of (map param_of params.old.items) }
-    ensures { GivesParams result params.new.items scope.new.items (spec.typed_param (around_of g.now) uniform kind (map param_of params.old.items) (declared_of d.now)) }
+    requires { map local_of scope.old ≡ spec.locals_of (map param_of params.old.items) }
+    ensures { GivesParams result params.new.items scope.new (spec.typed_param (around_of g.now) uniform kind (map param_of params.old.items) (declared_of d.now)) }
 {
-    if level(&d.name, scope.as_slice()).is_some() {
+    if scope.level(&d.name).is_some() {
         return fault(TypeCode::T10, d.line);
     }
     let value = default_in(alloc, g, kind, d.set_line, &d.value)?;
@@ -67,11 +67,11 @@ fn group<'a>(
     uniform: bool,
     kind: SlType,
     params: &mut Vec<Param<'a>>,
-    scope: &mut Vec<Local<'a>>,
+    scope: &mut Scope<'a>,
     ds: &'a [Declared],
 ) -> Result<(), TypeFault>
-    requires { map local_of scope.old.items ≡ spec.locals_of (map param_of params.old.items) }
-    ensures { GivesParams result params.new.items scope.new.items (spec.typed_params (around_of g.now) uniform kind (map param_of params.old.items) (map declared_of ds.now)) }
+    requires { map local_of scope.old ≡ spec.locals_of (map param_of params.old.items) }
+    ensures { GivesParams result params.new.items scope.new (spec.typed_params (around_of g.now) uniform kind (map param_of params.old.items) (map declared_of ds.now)) }
 {
     for d in ds {
         param(alloc, g, uniform, kind, params, scope, d)?;
@@ -84,11 +84,11 @@ fn groups<'a>(
     alloc: Global,
     g: &Around<'_, 'a>,
     params: &mut Vec<Param<'a>>,
-    scope: &mut Vec<Local<'a>>,
+    scope: &mut Scope<'a>,
     groups: &'a [Group],
 ) -> Result<(), TypeFault>
-    requires { map local_of scope.old.items ≡ spec.locals_of (map param_of params.old.items) }
-    ensures { GivesParams result params.new.items scope.new.items (spec.typed_groups (around_of g.now) (map param_of params.old.items) (map group_of groups.now)) }
+    requires { map local_of scope.old ≡ spec.locals_of (map param_of params.old.items) }
+    ensures { GivesParams result params.new.items scope.new (spec.typed_groups (around_of g.now) (map param_of params.old.items) (map group_of groups.now)) }
 {
     for one in groups {
         let uniform = !is_varying(one.class);
@@ -105,7 +105,7 @@ fn groups<'a>(
     Ok(())
 }
 
-fn by_default<'a, 'b>(kind: SlKind, known: &'a [Known<'b>]) -> Around<'a, 'b>
+fn by_default<'a, 'b>(kind: SlKind, known: &'a Functions<'b>) -> Around<'a, 'b>
     ensures { around_of result ≡ spec.by_default kind (map callee_of known.now) }
 {
     Around {
@@ -121,7 +121,7 @@ fn by_default<'a, 'b>(kind: SlKind, known: &'a [Known<'b>]) -> Around<'a, 'b>
     }
 }
 
-fn in_body<'a, 'b>(kind: SlKind, known: &'a [Known<'b>]) -> Around<'a, 'b>
+fn in_body<'a, 'b>(kind: SlKind, known: &'a Functions<'b>) -> Around<'a, 'b>
     ensures { around_of result ≡ spec.in_body kind (map callee_of known.now) }
 {
     Around {
@@ -143,8 +143,8 @@ pub fn program<'a>(alloc: Global, shader: &'a Shader) -> Result<Program<'a>, Typ
 {
     let known = known_from(alloc, shader.kind, shader.functions.as_slice())?;
     let mut params = Vec::new(alloc);
-    let mut scope = Vec::new(alloc);
-    let around = by_default(shader.kind, known.as_slice());
+    let mut scope = Scope::new(alloc);
+    let around = by_default(shader.kind, &known);
     groups(
         alloc,
         &around,
@@ -154,7 +154,7 @@ pub fn program<'a>(alloc: Global, shader: &'a Shader) -> Result<Program<'a>, Typ
     )?;
     let mut body = Vec::new(alloc);
     let from = params.len();
-    let inside = in_body(shader.kind, known.as_slice());
+    let inside = in_body(shader.kind, &known);
     rows(
         shader.body.as_slice(),
         alloc,

@@ -1,4 +1,5 @@
 use crate::fault::TypeCode;
+use crate::scope::Functions;
 use crate::typed::{TypedExpr, TypedStmt};
 use fixed_math::{List, Text};
 use sl_ast::{SlKind, SlType};
@@ -43,6 +44,7 @@ pub struct Known<'a> {
 pub struct Own<'a, 'b> {
     pub name: &'b Text,
     pub formals: &'a [Local<'b>],
+    pub returns: SlType,
 }
 
 /// Where something stands: in a shader of that kind; in a parameter's default; where only formals, locals and `PI` are
@@ -61,7 +63,7 @@ pub struct Spot {
 pub struct Around<'a, 'b> {
     pub at: Spot,
     pub own: Option<Own<'a, 'b>>,
-    pub known: &'a [Known<'b>],
+    pub known: &'a Functions<'b>,
 }
 
 /// A parameter with its default.
@@ -74,7 +76,7 @@ pub struct Param<'a> {
 /// A file: its functions, each with what it does or the first fault in it, and the parameters and the body of its shader.
 #[derive(Drop)]
 pub struct Program<'a> {
-    pub known: Vec<Known<'a>>,
+    pub known: Functions<'a>,
     pub params: Vec<Param<'a>>,
     pub body: Vec<TypedStmt>,
 }

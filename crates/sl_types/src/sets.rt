@@ -1,5 +1,5 @@
 // Declarations, assignments and statements over lights.
-ghost use Rattle.std.specs.Prelude.{List, ◌≡◌, [], OnOk, Some, not, map, option_map};
+ghost use Rattle.std.specs.Prelude.{List, ◌≡◌, [], IfOk, OnOk, Some, not, map, option_map};
 ghost use Rattle.sl_ast.specs.SyntaxView.{expr_of, assignment_of, declared_of, cone_of};
 ghost use Rattle.sl_ast.specs.Rules as rules;
 ghost use Rattle.sl_ast.specs.WellTyped as W;
@@ -9,17 +9,17 @@ ghost use Rattle.sl_types.specs.Scope.{level_of};
 ghost use Rattle.sl_types.specs.Stmts as spec;
 ghost use Rattle.sl_types.specs.Typed as T;
 ghost use Rattle.sl_types.specs.TypedView.{typed_of, tstmt_of};
-ghost use Rattle.sl_types.specs.Views.{Gives, GivesAll, GivesRows, Extends, spot_of, around_of, local_of, found_of};
+ghost use Rattle.sl_types.specs.Views.{Gives, GivesAll, GivesRows, Extends, spot_of, around_of, local_of, found_of, own_of};
 
 use crate::exprs::expr;
 use crate::fault::{TypeCode, TypeFault, fault};
 use crate::names::find;
 use crate::operations::{kind_of, operands_of};
-use crate::places::{Around, Local, Spot};
+use crate::places::{Around, Local, Own, Spot};
 use crate::predefined::{is_own, is_written, predefined_names};
-use crate::scope::{level, place_of};
+use crate::scope::{Scope, place_of};
 use crate::typed::{TypedExpr, TypedStmt};
-use fixed_math::Text;
+use fixed_math::{NoMemory, Text};
 use sl_ast::{
     Assignment, Class, Cone, Declared, Expr, LightStmt, LightWord, NodeType, Operands, Predefined,
     SetOperator, SlType, Variable,
@@ -67,7 +67,7 @@ fn declared(
     g: &Around<'_, '_>,
     uniform: bool,
     kind: SlType,
-    scope: &[Local<'_>],
+    scope: &Scope<'_>,
     line: u32,
     set_line: u32,
     value: &Option<Expr>,
@@ -99,25 +99,16 @@ fn name<'a>(
     uniform: bool,
     kind: SlType,
     done: &mut Vec<TypedStmt>,
-    scope: &mut Vec<Local<'a>>,
+    scope: &mut Scope<'a>,
     d: &'a Declared,
 ) -> Result<(), TypeFault>
-    ensures gives { GivesRows result done.new.items scope.new.items (spec.typed_name (around_of g.now) from uniform kind (map tstmt_of done.old.items) (map local_of scope.old.items) (declared_of d.now)) }
-    ensures extends { OnOk result (Extends scope.old.items scope.new.items) }
+    ensures gives { GivesRows result done.new.items scope.new (spec.typed_name (around_of g.now) from uniform kind (map tstmt_of done.old.items) (map local_of scope.old) (declared_of d.now)) }
+    ensures extends { OnOk result (Extends scope.old scope.new) }
 {
-    if is_since(from, level(&d.name, scope.as_slice())) {
+    if is_since(from, scope.level(&d.name)) {
         return fault(TypeCode::T10, d.line);
     }
-    let stmt = declared(
-        alloc,
-        g,
-        uniform,
-        kind,
-        scope.as_slice(),
-        d.line,
-        d.set_line,
-        &d.value,
-    )?;
+    let stmt = declared(alloc, g, uniform, kind, scope, d.line, d.set_line, &d.value)?;
     done.push(stmt)?;
     scope.push(Local {
         uniform,
@@ -137,11 +128,11 @@ pub fn names<'a>(
     uniform: bool,
     kind: SlType,
     done: &mut Vec<TypedStmt>,
-    scope: &mut Vec<Local<'a>>,
+    scope: &mut Scope<'a>,
     ds: &'a [Declared],
 ) -> Result<(), TypeFault>
-    ensures gives { GivesRows result done.new.items scope.new.items (spec.typed_names (around_of g.now) from uniform kind (map tstmt_of done.old.items) (map local_of scope.old.items) (map declared_of ds.now)) }
-    ensures extends { OnOk result (Extends scope.old.items scope.new.items) }
+    ensures gives { GivesRows result done.new.items scope.new (spec.typed_names (around_of g.now) from uniform kind (map tstmt_of done.old.items) (map local_of scope.old) (map declared_of ds.now)) }
+    ensures extends { OnOk result (Extends scope.old scope.new) }
 {
     for d in ds {
         name(alloc, g, from, uniform, kind, done, scope, d)?;
@@ -212,12 +203,12 @@ fn sets(kind: SlType, operator: SetOperator, value: NodeType) -> bool
 pub fn set(
     alloc: Global,
     g: &Around<'_, '_>,
-    scope: &[Local<'_>],
+    scope: &Scope<'_>,
     a: &Assignment,
 ) -> Result<TypedStmt, TypeFault>
     ensures { Gives tstmt_of result (spec.typed_set (around_of g.now) (map local_of scope.now) (assignment_of a.now)) }
 {
-    let (variable, kind) = variable_set(&g.at, &a.name, a.line, level(&a.name, scope))?;
+    let (variable, kind) = variable_set(&g.at, &a.name, a.line, scope.level(&a.name))?;
     let value = expr(&a.value, alloc, g, false, scope)?;
     if !sets(kind, a.operator, kind_of(&value)) {
         return fault(TypeCode::T2, a.set_line);
@@ -235,7 +226,7 @@ pub fn set(
 pub fn optional_set(
     alloc: Global,
     g: &Around<'_, '_>,
-    scope: &[Local<'_>],
+    scope: &Scope<'_>,
     a: &Option<Assignment>,
 ) -> Result<Vec<TypedStmt>, TypeFault>
     ensures { GivesAll tstmt_of result (spec.optional_set (around_of g.now) (map local_of scope.now) (option_map assignment_of a.now)) }
@@ -265,6 +256,29 @@ pub fn condition(line: u32, found: Result<TypedExpr, TypeFault>) -> Result<Typed
     Ok(test)
 }
 
+/// The fault of a `return` that isn't the last statement of a function.
+pub fn misplaced(
+    own: &Option<Own<'_, '_>>,
+    value: Result<TypedExpr, TypeFault>,
+) -> Result<TypeCode, NoMemory>
+    ensures { (found : Found T.Expr) → Gives typed_of value found → IfOk result (λ code. code ≡ spec.misplaced (option_map own_of own.now) found) }
+{
+    let Some(own) = own else {
+        return Ok(TypeCode::T8);
+    };
+    match value {
+        Err(TypeFault::NoMemory) => Err(NoMemory),
+        Err(TypeFault::At { .. }) => Ok(TypeCode::T8),
+        Ok(value) => {
+            if own.returns.takes(kind_of(&value)) {
+                Ok(TypeCode::T8)
+            } else {
+                Ok(TypeCode::T2)
+            }
+        }
+    }
+}
+
 pub fn light_word(word: LightWord) -> LightStmt
     ensures { result ≡ spec.light_word word }
 {
@@ -278,7 +292,7 @@ pub fn light_word(word: LightWord) -> LightStmt
 pub fn light_args(
     alloc: Global,
     g: &Around<'_, '_>,
-    scope: &[Local<'_>],
+    scope: &Scope<'_>,
     place: &Expr,
     cone: &Option<Cone>,
 ) -> Result<Vec<TypedExpr>, TypeFault>

@@ -8,11 +8,11 @@ ghost use Rattle.sl_types.specs.Functions as F;
 ghost use Rattle.sl_types.specs.Scope.{body_in};
 ghost use Rattle.sl_types.specs.Sizes as spec;
 ghost use Rattle.sl_types.specs.Typed as T;
-ghost use Rattle.sl_types.specs.TypedView.{typed_of, tstmt_of};
+ghost use Rattle.sl_types.specs.TypedView.{typed_of, tlink_of, tstmt_of};
 ghost use Rattle.sl_types.specs.Views.{extent_of, body_of, callee_of, param_of, program_of};
 
 use crate::places::{Body, Faulty, Known, Param, Program};
-use crate::typed::{TypedExpr, TypedStmt};
+use crate::typed::{TypedExpr, TypedLink, TypedStmt};
 use std::alloc::{AllocError, Global};
 use std::cmp::{max, min};
 
@@ -50,6 +50,13 @@ fn with(x: Extent, y: Extent) -> Extent
     }
 }
 
+// An operator over two operands.
+fn pair(x: Extent, y: Extent) -> Extent
+    ensures { extent_of result ≡ spec.over (spec.with (spec.with nowhere (extent_of x)) (extent_of y)) }
+{
+    over(with(with(NOWHERE, x), y))
+}
+
 fn size_of(sizes: &[Extent], k: usize) -> Extent
     ensures { extent_of result ≡ get_or (map extent_of sizes.now) k absent }
 {
@@ -60,7 +67,7 @@ fn size_of(sizes: &[Extent], k: usize) -> Extent
 }
 
 #[cycle(size)]
-#[tactic(auto, using(crate::proofs::TypedNodes::apply_shown, crate::proofs::TypedNodes::call_shown))]
+#[tactic(auto, using(crate::proofs::TypedNodes::apply_shown, crate::proofs::TypedNodes::call_shown, crate::proofs::Chains::chain_sized))]
 fn size(e: &TypedExpr, sizes: &[Extent]) -> Extent
     ensures { extent_of result ≡ spec.size (map extent_of sizes.now) (typed_of e.now) }
 {
@@ -69,6 +76,15 @@ fn size(e: &TypedExpr, sizes: &[Extent]) -> Extent
         TypedExpr::Word { .. } => over(NOWHERE),
         TypedExpr::Variable { .. } => over(NOWHERE),
         TypedExpr::Apply { args, .. } => over(size_args(args.as_slice(), sizes)),
+        TypedExpr::Chain {
+            first,
+            links,
+            operand,
+            ..
+        } => {
+            let before = size_links(links.as_slice(), sizes, size(first, sizes));
+            pair(before, size(operand, sizes))
+        }
         TypedExpr::Call { function, args, .. } => {
             let parts = size_args(args.as_slice(), sizes);
             over(with(parts, size_of(sizes, *function)))
@@ -83,6 +99,18 @@ fn size_args(args: &[TypedExpr], sizes: &[Extent]) -> Extent
     let mut before = NOWHERE;
     for e in args {
         before = with(before, size(e, sizes));
+    }
+    before
+}
+
+// Operators behind what is so great.
+#[cycle(size)]
+fn size_links(links: &[TypedLink], sizes: &[Extent], first: Extent) -> Extent
+    ensures { extent_of result ≡ spec.size_links (map extent_of sizes.now) (extent_of first) (map tlink_of links.now) }
+{
+    let mut before = first;
+    for link in links {
+        before = pair(before, size(&link.operand, sizes));
     }
     before
 }

@@ -11,9 +11,11 @@ ghost use Rattle.sl_types.specs.Views.{Gives, GivesAll, GivesRows, GivesTested, 
 
 use crate::exprs::expr;
 use crate::fault::{TypeCode, TypeFault, fault};
-use crate::places::{Around, Local, Spot};
+use crate::places::{Around, Spot};
+use crate::scope::Scope;
 use crate::sets::{
-    condition, is_test, is_uniform, light_args, light_word, lights_of, names, optional_set, set,
+    condition, is_test, is_uniform, light_args, light_word, lights_of, misplaced, names,
+    optional_set, set,
 };
 use crate::typed::{TypedExpr, TypedStmt};
 use fixed_math::List;
@@ -91,7 +93,7 @@ fn tested(
 fn solar_args(
     alloc: Global,
     g: &Around<'_, '_>,
-    scope: &[Local<'_>],
+    scope: &Scope<'_>,
     axis: &Expr,
     angle: &Expr,
 ) -> Result<Vec<TypedExpr>, TypeFault>
@@ -151,10 +153,10 @@ pub fn stmt<'a>(
     g: &Around<'_, 'a>,
     from: usize,
     done: &mut Vec<TypedStmt>,
-    scope: &mut Vec<Local<'a>>,
+    scope: &mut Scope<'a>,
 ) -> Result<(), TypeFault>
-    ensures gives { GivesRows result done.new.items scope.new.items (spec.typed_stmt (around_of g.now) from (map tstmt_of done.old.items) (map local_of scope.old.items) (stmt_of s.now)) }
-    ensures extends { OnOk result (Extends scope.old.items scope.new.items) }
+    ensures gives { GivesRows result done.new.items scope.new (spec.typed_stmt (around_of g.now) from (map tstmt_of done.old.items) (map local_of scope.old) (stmt_of s.now)) }
+    ensures extends { OnOk result (Extends scope.old scope.new) }
 {
     match s {
         Stmt::Empty { line } => {
@@ -163,7 +165,7 @@ pub fn stmt<'a>(
         }
         Stmt::Block { body, line } => { block(body.as_slice(), alloc, g, *line, done, scope) }
         Stmt::Set { set: a } => {
-            let one = set(alloc, g, scope.as_slice(), a)?;
+            let one = set(alloc, g, scope, a)?;
             done.push(one)?;
             Ok(())
         }
@@ -181,7 +183,10 @@ pub fn stmt<'a>(
             done.push(TypedStmt::Continue { line: *line })?;
             Ok(())
         }
-        Stmt::Return { line, .. } => fault(TypeCode::T8, *line),
+        Stmt::Return { value, line } => {
+            let value = expr(value, alloc, g, false, scope);
+            fault(misplaced(&g.own, value)?, *line)
+        }
         Stmt::Declare {
             class,
             kind,
@@ -193,7 +198,7 @@ pub fn stmt<'a>(
             Ok(())
         }
         Stmt::If { test, then, line } => {
-            let test = condition(*line, expr(test, alloc, g, false, scope.as_slice()))?;
+            let test = condition(*line, expr(test, alloc, g, false, scope))?;
             let then = branch(then, alloc, g, scope)?;
             done.push(TypedStmt::If {
                 test,
@@ -208,7 +213,7 @@ pub fn stmt<'a>(
             otherwise,
             line,
         } => {
-            let test = condition(*line, expr(test, alloc, g, false, scope.as_slice()))?;
+            let test = condition(*line, expr(test, alloc, g, false, scope))?;
             let then = branch(then, alloc, g, scope)?;
             let otherwise = branch(otherwise, alloc, g, scope)?;
             done.push(TypedStmt::IfElse {
@@ -220,7 +225,7 @@ pub fn stmt<'a>(
             Ok(())
         }
         Stmt::While { test, body, line } => {
-            let test = condition(*line, expr(test, alloc, g, false, scope.as_slice()))?;
+            let test = condition(*line, expr(test, alloc, g, false, scope))?;
             let body = branch(body, alloc, &in_loop(g), scope)?;
             done.push(TypedStmt::While {
                 test,
@@ -236,11 +241,11 @@ pub fn stmt<'a>(
             body,
             line,
         } => {
-            let found = expr(test, alloc, g, false, scope.as_slice());
+            let found = expr(test, alloc, g, false, scope);
             let found = tested(*line, found)?;
-            let first = optional_set(alloc, g, scope.as_slice(), first)?;
+            let first = optional_set(alloc, g, scope, first)?;
             let test = found?;
-            let step = optional_set(alloc, g, scope.as_slice(), step)?;
+            let step = optional_set(alloc, g, scope, step)?;
             let body = branch(body, alloc, &in_loop(g), scope)?;
             done.push(for_node(first, test, step, body, *line))?;
             Ok(())
@@ -253,7 +258,7 @@ pub fn stmt<'a>(
             line,
         } => {
             let word = light_word(*word);
-            let args = light_args(alloc, g, scope.as_slice(), place, cone);
+            let args = light_args(alloc, g, scope, place, cone);
             let args = lights_of(&g.at, word, *line, args)?;
             let body = branch(body, alloc, &in_lights(g), scope)?;
             done.push(lights_node(word, args, body, *line))?;
@@ -265,7 +270,7 @@ pub fn stmt<'a>(
             body,
             line,
         } => {
-            let args = solar_args(alloc, g, scope.as_slice(), axis, angle);
+            let args = solar_args(alloc, g, scope, axis, angle);
             let args = lights_of(&g.at, LightStmt::Solar, *line, args)?;
             let body = branch(body, alloc, &in_lights(g), scope)?;
             done.push(lights_node(LightStmt::Solar, args, body, *line))?;
@@ -280,10 +285,10 @@ fn branch<'a>(
     s: &'a Stmt,
     alloc: Global,
     g: &Around<'_, 'a>,
-    scope: &mut Vec<Local<'a>>,
+    scope: &mut Scope<'a>,
 ) -> Result<Box<TypedStmt>, TypeFault>
-    ensures gives { Gives boxed_of result (spec.branch (spec.typed_stmt (around_of g.now) (length scope.old.items) [] (map local_of scope.old.items) (stmt_of s.now))) }
-    ensures same { OnOk result (scope.new.items ≡ scope.old.items) }
+    ensures gives { Gives boxed_of result (spec.branch (spec.typed_stmt (around_of g.now) (length scope.old) [] (map local_of scope.old) (stmt_of s.now))) }
+    ensures same { OnOk result (scope.new ≡ scope.old) }
 {
     let start = scope.len();
     let mut done = Vec::new(alloc);
@@ -301,10 +306,10 @@ fn block<'a>(
     g: &Around<'_, 'a>,
     line: u32,
     done: &mut Vec<TypedStmt>,
-    scope: &mut Vec<Local<'a>>,
+    scope: &mut Scope<'a>,
 ) -> Result<(), TypeFault>
-    ensures gives { GivesRows result done.new.items scope.new.items (spec.typed_stmt (around_of g.now) 0 (map tstmt_of done.old.items) (map local_of scope.old.items) (U.block (U.stmts (map stmt_of body.now)) line)) }
-    ensures extends { OnOk result (Extends scope.old.items scope.new.items) }
+    ensures gives { GivesRows result done.new.items scope.new (spec.typed_stmt (around_of g.now) 0 (map tstmt_of done.old.items) (map local_of scope.old) (U.block (U.stmts (map stmt_of body.now)) line)) }
+    ensures extends { OnOk result (Extends scope.old scope.new) }
 {
     let start = scope.len();
     let mut inside = Vec::new(alloc);
@@ -314,7 +319,7 @@ fn block<'a>(
     Ok(())
 }
 
-/// The same for statements one after another.
+/// Adds the typed statements of statements one after another to those before them, and what they declare to the scope.
 #[cycle(stmts)]
 #[tactic(auto, using(crate::proofs::Scopes::extends_same, crate::proofs::Scopes::extends_trans))]
 pub fn rows<'a>(
@@ -323,10 +328,10 @@ pub fn rows<'a>(
     g: &Around<'_, 'a>,
     from: usize,
     done: &mut Vec<TypedStmt>,
-    scope: &mut Vec<Local<'a>>,
+    scope: &mut Scope<'a>,
 ) -> Result<(), TypeFault>
-    ensures gives { GivesRows result done.new.items scope.new.items (spec.typed_rows (around_of g.now) from (map tstmt_of done.old.items) (map local_of scope.old.items) (U.stmts (map stmt_of body.now))) }
-    ensures extends { OnOk result (Extends scope.old.items scope.new.items) }
+    ensures gives { GivesRows result done.new.items scope.new (spec.typed_rows (around_of g.now) from (map tstmt_of done.old.items) (map local_of scope.old) (U.stmts (map stmt_of body.now))) }
+    ensures extends { OnOk result (Extends scope.old scope.new) }
 {
     for s in body {
         stmt(s, alloc, g, from, done, scope)?;

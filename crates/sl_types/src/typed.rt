@@ -1,4 +1,5 @@
-// The typed tree before functions are put in place: a call holds how many functions stand before its own.
+// The typed tree before functions are put in place: a call holds how many functions stand before its own. It is as deep as the
+// text is nested, and no deeper where the text is long.
 use fixed_math::{List, Num, Text};
 use sl_ast::{LightStmt, NodeType, Operation, SetOperator, SlType, Variable};
 
@@ -24,12 +25,32 @@ pub enum TypedExpr {
         kind: NodeType,
         line: u32,
     },
+    /// Operators of one row, which group to the left: a first operand, the operators before the last, each with the operand
+    /// behind it, and the last. The links lie flat, since a text may have any number of them.
+    Chain {
+        first: Box<TypedExpr>,
+        links: List<TypedLink>,
+        operation: Operation,
+        operand: Box<TypedExpr>,
+        kind: NodeType,
+        line: u32,
+    },
     Call {
         function: usize,
         args: List<TypedExpr>,
         kind: NodeType,
         line: u32,
     },
+}
+
+/// An operator of a chain with the operand behind it, and the type of what stands as far as that.
+#[cycle(typed)]
+#[derive(Drop)]
+pub struct TypedLink {
+    pub operation: Operation,
+    pub operand: TypedExpr,
+    pub kind: NodeType,
+    pub line: u32,
 }
 
 #[cycle(typed_stmts)]

@@ -57,15 +57,31 @@ pub record IsView (v : View) : Type 0 where
   pub height_limit : v.height ≤ 4096
   pub seen : is_seen v.fov ≡ true
 
--- worked values: 90, 0, 180 and 179.999 degrees, and the narrowest field that is seen
+-- worked values: the tangents of 90 and 60 degrees; 0 and 180 degrees, the raw below 180, and the narrowest field that is seen
 field_of_90 : tangent (pos 5898240) ≡ pos 65536
 unfolding tangent half_angle sin cos series one_less folded reduced
 field_of_90 = refl
+
+tangent_of_60 : tangent (pos 3932160) ≡ pos 37836
+unfolding tangent half_angle sin cos series one_less folded reduced
+tangent_of_60 = refl
 
 no_field_of_0 : is_field (pos 0) ≡ false
 unfolding is_field tangent half_angle sin cos series one_less folded reduced
 no_field_of_0 = refl
 
-tangent_of_60 : tangent (pos 3932160) ≡ pos 37836
-unfolding tangent half_angle sin cos series one_less folded reduced
-tangent_of_60 = refl
+no_field_of_180 : is_field (pos 11796480) ≡ false
+unfolding is_field tangent half_angle sin cos series one_less folded reduced
+no_field_of_180 = refl
+
+no_field_below_180 : is_field (pos 11796479) ≡ false
+unfolding is_field tangent half_angle sin cos series one_less folded reduced
+no_field_below_180 = refl
+
+narrowest_field : is_field (pos 230) ≡ true
+unfolding is_field tangent half_angle sin cos series one_less folded reduced
+narrowest_field = refl
+
+no_narrower_field : is_field (pos 229) ≡ false
+unfolding is_field tangent half_angle sin cos series one_less folded reduced
+no_narrower_field = refl

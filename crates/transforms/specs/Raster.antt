@@ -27,11 +27,12 @@ raster_x v p = clamped (x_place (scale_of v) v.width (left v) (right v) p.x (uns
 abbrev pub raster_y : View → Vec3 → ℤ
 raster_y v p = clamped (y_place (scale_of v) v.height (bottom v) (top v) p.y (unsigned_abs p.z))
 
--- no point further right than p lies further left on the raster
+-- q isn't further left than p, nor does it lie further left on the raster; this holds of all points without perspective, and in
+-- perspective of points at one depth (a point further right but deeper may lie further left)
 abbrev pub GoesRight : View → Vec3 → Vec3 → Type 0
 GoesRight v p q = p.x ≤ℤ q.x → raster_x v p ≤ℤ raster_x v q
 
--- and none higher than p lies further down
+-- and q isn't lower than p, nor does it lie further down
 abbrev pub GoesUp : View → Vec3 → Vec3 → Type 0
 GoesUp v p q = p.y ≤ℤ q.y → raster_y v q ≤ℤ raster_y v p
 

@@ -177,10 +177,10 @@ impl Affine {
         ensures after_identity { first.now ≡ identity → result ≡ Ok self.now }
         ensures before_identity { self.now ≡ identity → result ≡ Ok first.now }
     {
-        self.there.has_entries();
-        self.back.has_entries();
-        first.there.has_entries();
-        first.back.has_entries();
+        self.there.recall();
+        self.back.recall();
+        first.there.recall();
+        first.back.recall();
         self.product(first)
     }
 

@@ -60,6 +60,13 @@ impl Camera {
         &self.view
     }
 
+    /// Does nothing: a call tells a proof what holds of every camera's view.
+    fn recall(&self)
+        ensures { IsView self.now }
+    {
+        let _view = &self.view;
+    }
+
     /// Where a point of camera space lies on the raster, across and down, in 1/256 pixel, put into -2^28 to 2^28.
     #[tactic(auto, using(crate::proofs::Orders::orders))]
     pub fn raster(&self, p: Vec3) -> [i64; 2]
@@ -73,7 +80,7 @@ impl Camera {
         ensures up_at_depth { (q : Vec3) → q.z ≡ p.z → GoesUp self.now p q }
     {
         // the nearest depth is above 0, and so is this one
-        let _near = self.view.near;
+        self.recall();
         let z = p.z.raw() as u32;
         [self.across(p.x.raw(), z), self.down(p.y.raw(), z)]
     }

@@ -14,8 +14,6 @@ mod place;
 mod rotation;
 mod scaling;
 mod spaces;
-#[cfg(test)]
-mod tests;
 mod view;
 
 pub use affine::Affine;

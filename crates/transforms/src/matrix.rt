@@ -110,8 +110,8 @@ fn shift_product(a: &Row, b: &Matrix) -> Result<Row, FormFault>
 }
 
 impl Row {
-    /// Reads the row's entries, so that a proof knows that they are in range.
-    fn has_entries(&self)
+    /// Does nothing: a call tells a proof that the row's entries are in range.
+    fn recall(&self)
         ensures { is_row self.now ≡ true }
     {
         let _entries = (self.x.raw(), self.y.raw(), self.z.raw());
@@ -119,14 +119,14 @@ impl Row {
 }
 
 impl Matrix {
-    /// Reads the entries, so that a proof knows that they are in range.
-    pub fn has_entries(&self)
+    /// Does nothing: a call tells a proof that the entries are in range.
+    pub fn recall(&self)
         ensures { is_matrix self.now ≡ true }
     {
-        self.x.has_entries();
-        self.y.has_entries();
-        self.z.has_entries();
-        self.shift.has_entries();
+        self.x.recall();
+        self.y.recall();
+        self.z.recall();
+        self.shift.recall();
     }
 
     /// The map that does `self` and then `next`, where its entries are in range.

@@ -1,3 +1,5 @@
 mod Scopes
 mod Loops
 mod Lengths
+pub mod Leaves
+pub mod Parts

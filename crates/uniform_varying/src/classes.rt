@@ -62,7 +62,7 @@ fn list_tree(alloc: Global, tree: &Tree) -> Result<Vec<bool>, AllocError>
     Ok(list)
 }
 
-/// The classes of parameters, the first variables of a shader's scope.
+/// The classes of parameters, the first variables of a shader's scope. The one refusal is want of memory.
 pub fn param_classes(alloc: Global, params: &[ParamDecl]) -> Result<Vec<bool>, AllocError>
     ensures { IfOk result (λ v. v.items ≡ local_classes (map local_of params.now)) }
 {

@@ -15,7 +15,7 @@ pub struct ControlFault {
 }
 
 // Why the rest of a tree isn't looked at.
-#[derive(Clone, Copy, Debug, PartialEq, Eq)]
+#[derive(Clone, Copy)]
 pub enum Stop {
     At(ControlFault),
     NoMemory,

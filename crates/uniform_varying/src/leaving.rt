@@ -21,7 +21,9 @@ pub fn in_branch(
     Ok(uniform && is_uniform(test, alloc, us)?)
 }
 
-// Whether a loop on that condition is uniform, where it stands in that control.
+/// Whether a loop on that condition over that body is uniform, where it stands in uniform control or not and the variables
+/// in scope have these classes: it stands in uniform control, its condition is uniform, and each break and continue that
+/// leaves its body stands in uniform control within it. The classes are as they were. The one refusal is want of memory.
 pub fn is_uniform_loop(
     test: &TreeExpr,
     body: &TreeStmt,

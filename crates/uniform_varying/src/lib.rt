@@ -13,9 +13,9 @@ mod settled;
 mod spot;
 mod uniform;
 
-pub use classes::{Classes, control};
+pub use classes::{Classes, control, param_classes};
 pub use fault::ControlFault;
+pub use leaving::is_uniform_loop;
+pub use scope::{class_of, enter, enter_all, formal_classes};
 pub use settled::first_fault;
-
-#[cfg(test)]
-mod tests;
+pub use uniform::is_uniform;

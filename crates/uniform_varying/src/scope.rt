@@ -7,7 +7,7 @@ ghost use Rattle.sl_ast.specs.Classes as spec;
 use sl_ast::{TreeFormal, TreeStmt, Variable};
 use std::alloc::{AllocError, Global};
 
-// The class of a variable, `true` for uniform.
+/// The class of a variable, `true` for uniform, where the variables in scope have these classes.
 pub fn class_of(variable: Variable, us: &[bool]) -> bool
     ensures { result ≡ spec.class_of variable us.now }
 {
@@ -17,6 +17,7 @@ pub fn class_of(variable: Variable, us: &[bool]) -> bool
     }
 }
 
+// Whether all are uniform.
 pub fn all_uniform(us: &[bool]) -> bool
     ensures { result ≡ spec.all_uniform us.now }
 {
@@ -28,6 +29,7 @@ pub fn all_uniform(us: &[bool]) -> bool
     true
 }
 
+/// The classes of the formals of a call, the first variables in the scope of its body. The one refusal is want of memory.
 pub fn formal_classes(alloc: Global, formals: &[TreeFormal]) -> Result<Vec<bool>, AllocError>
     ensures { IfOk result (λ v. v.items ≡ spec.formal_classes formals.now) }
 {
@@ -38,7 +40,8 @@ pub fn formal_classes(alloc: Global, formals: &[TreeFormal]) -> Result<Vec<bool>
     Ok(us)
 }
 
-// Adds what the statement declares.
+/// Adds the classes of what the statement declares to those of the variables in scope. The one refusal is want of memory;
+/// the classes are then of no use.
 pub fn enter(s: &TreeStmt, us: &mut Vec<bool>) -> Result<(), AllocError>
     ensures { OnOk result (us.new.items ≡ spec.after (tree_stmt s.now) us.old.items) }
 {
@@ -50,7 +53,8 @@ pub fn enter(s: &TreeStmt, us: &mut Vec<bool>) -> Result<(), AllocError>
     Ok(())
 }
 
-// Adds what the statements declare.
+/// Adds the classes of what the statements declare to those of the variables in scope. The one refusal is want of memory;
+/// the classes are then of no use.
 pub fn enter_all(body: &[TreeStmt], us: &mut Vec<bool>) -> Result<(), AllocError>
     ensures { OnOk result (us.new.items ≡ spec.after_all (stmts (map tree_stmt body.now)) us.old.items) }
 {

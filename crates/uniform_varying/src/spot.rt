@@ -6,7 +6,7 @@ ghost use Rattle.uniform_varying.specs.Gives.{spot_of};
 use sl_ast::LightStmt;
 
 /// Where something stands: in uniform control, in a loop, in an `illuminance`.
-#[derive(Clone, Copy, Debug, PartialEq, Eq)]
+#[derive(Clone, Copy)]
 pub struct Spot {
     pub uniform: bool,
     pub looped: bool,

@@ -8,7 +8,8 @@ use crate::scope::{all_uniform, class_of, enter, enter_all, formal_classes};
 use sl_ast::{TreeExpr, TreeStmt};
 use std::alloc::{AllocError, Global};
 
-/// Whether an expression is uniform, where the variables in scope have these classes.
+/// Whether an expression is uniform, where the variables in scope have these classes (`true` for uniform): it contains
+/// nothing varying, and a call contains its arguments, its formals and its body. The one refusal is want of memory.
 #[cycle(uniform)]
 #[tactic(auto, using(sl_ast::proofs::TypedShown::apply_shown, sl_ast::proofs::TypedShown::call_shown))]
 pub fn is_uniform(e: &TreeExpr, alloc: Global, us: &[bool]) -> Result<bool, AllocError>

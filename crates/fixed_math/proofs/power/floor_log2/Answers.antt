@@ -1,4 +1,3 @@
-use Rattle.std.proofs.Common.{rules, arith}
 use Rattle.fixed_math.proofs.Logs.{log_small}
 use Rattle.fixed_math.proofs.power.floor_log2.Goals as goal
 

@@ -1,5 +1,5 @@
 use Rattle.std.proofs.Common.{◌∙◌, ap, sym, arith, ◌-◌, ◌-ℤ◌}
-use Rattle.fixed_math.specs.Blossom.{unit}
+use Rattle.fixed_math.specs.Blossom.{denominator}
 use Rattle.fixed_math.specs.Whole.{floor_by}
 use Rattle.fixed_math.proofs.Fits.{read_back}
 use Rattle.patches.specs.Nets.{control}
@@ -14,5 +14,5 @@ returns-clause-value c =
     let d = read_back c.control_at-c.result c.control_at-c.type_inv ∙ c.control_at-c.ensures.value in
     let e = read_back c.control_at-d.result c.control_at-d.type_inv ∙ c.control_at-d.ensures.value in
     same_64 c.slope.result (let h = c.slope.ensures.bound in omega arith) ∙ c.slope.ensures.value
-    ∙ ap (λ z. floor_by z unit) (mix_read c.args.u _ _ _ _ (P 0 0) (P 0 1) (P 1 0) (P 1 1) a d b e)
-    ∙ ap (λ z. floor_by z unit) (sym (one_column (unit - c.args.u) c.args.u (P 0 1 -ℤ P 0 0) (P 1 1 -ℤ P 1 0)))
+    ∙ ap (λ z. floor_by z denominator) (mix_read c.args.u _ _ _ _ (P 0 0) (P 0 1) (P 1 0) (P 1 1) a d b e)
+    ∙ ap (λ z. floor_by z denominator) (sym (one_column (denominator - c.args.u) c.args.u (P 0 1 -ℤ P 0 0) (P 1 1 -ℤ P 1 0)))

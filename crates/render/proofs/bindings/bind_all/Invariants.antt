@@ -5,5 +5,5 @@ use Rattle.render.specs.Reading.{IsReadOf}
 use Rattle.render.proofs.Bound.{bound_from}
 use Rattle.render.proofs.bindings.bind_all.Given as goal
 
-abbrev pub invariant-loop-request : goal.invariant-loop-request
-invariant-loop-request l = (files : Files) → All (IsReadOf files) l.shaders → bound_from files l.scene (drop l.request-index l.uses) ≡ uses_refused files l.scene l.uses
+abbrev pub invariant-loop-index : goal.invariant-loop-index
+invariant-loop-index l = (files : Files) → All (IsReadOf files) l.shaders.read → bound_from files (drop l.index l.uses) ≡ uses_refused files l.uses

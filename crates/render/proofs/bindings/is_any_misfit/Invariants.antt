@@ -1,11 +1,8 @@
-use Rattle.std.proofs.Common.{◌≡◌, length, map}
+use Rattle.std.proofs.Common.{◌≡◌, drop}
 use Rattle.std.specs.List.{list_any}
-use Rattle.sl_ast.specs.TypedView.{local_of}
+use Rattle.sl_ast.specs.TreeView.{tree_of}
 use Rattle.render.specs.Bindings.{is_misfit, holding}
 use Rattle.render.proofs.bindings.is_any_misfit.Given as goal
 
-abbrev pub invariant-loop-param : goal.invariant-loop-param
-invariant-loop-param l = list_any (is_misfit (map local_of l.declared)) (holding l.rest) ≡ list_any (is_misfit (map local_of l.declared)) (holding l.params)
-
-abbrev pub decreases-loop-param : goal.decreases-loop-param
-decreases-loop-param l = length l.rest
+abbrev pub invariant-loop-index : goal.invariant-loop-index
+invariant-loop-index l = list_any (is_misfit (tree_of l.tree).params) (holding (drop l.index l.params)) ≡ list_any (is_misfit (tree_of l.tree).params) (holding l.params)

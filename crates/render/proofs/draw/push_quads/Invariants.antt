@@ -1,6 +1,6 @@
 use Rattle.std.proofs.Common.{◌≡◌, ◌++◌, take}
-use Rattle.picture.specs.Cells.{quads_of}
+use Rattle.render.specs.Still.{quads_of}
 use Rattle.render.proofs.draw.push_quads.Given as goal
 
 abbrev pub invariant-loop-cell : goal.invariant-loop-cell
-invariant-loop-cell l = l.quads.items ≡ l.initial.quads.items ++ quads_of l.camera l.prim.one_sided l.prim.flip (take l.cell-index l.cells)
+invariant-loop-cell l = l.quads.items ≡ l.initial.quads.items ++ quads_of l.camera l.prim (take l.cell-index l.cells)

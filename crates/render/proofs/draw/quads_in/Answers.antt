@@ -1,7 +1,7 @@
 use Rattle.render.proofs.Drawing.{prims-next}
 use Rattle.render.proofs.draw.quads_in.Goals as goal
 
-pub loop-prim-preserved : goal.loop-prim-preserved
-loop-prim-preserved c =
-    prims-next c.args.camera.now c.args.prims.now c.loop-prim.prim-index c.prim-item.result c.loop-prim.quads.items c.push_prim.new.quads.items
-    c.loop-prim-test.true c.prim-item.is c.loop-prim.invariant c.in_ok-push_prim.ensures
+pub loop-number-preserved : goal.loop-number-preserved
+loop-number-preserved c =
+    prims-next c.args.camera.now c.args.prims.now c.loop-number.number c.index-prims-number.result c.loop-number.quads.items c.push_prim.new.quads.items
+    c.loop-number-test.true c.index-prims-number.is c.loop-number.invariant c.in_ok-push_prim.ensures

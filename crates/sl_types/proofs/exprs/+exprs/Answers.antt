@@ -1,12 +1,15 @@
-use Rattle.std.proofs.Common.{◌≡◌, [], false, Ok, map, arith, ap, sym, subst, ◌∙◌}
+use Rattle.std.proofs.Common.{◌≡◌, ◌+◌, [], ◌∷◌, false, Ok, rules, drop, map, arith, ap, sym, subst, ◌∙◌}
 use Rattle.sl_ast.specs.Syntax as U
 use Rattle.sl_ast.specs.SyntaxView.{expr_of, link_of}
-use Rattle.sl_types.specs.Exprs.{typed_expr, typed_args, typed_links, call_of}
+use Rattle.sl_types.specs.Exprs.{applied, typed_expr, typed_args, typed_links, call_of}
 use Rattle.sl_types.specs.Found.{◌>>=◌}
 use Rattle.sl_types.specs.Measures.{size, size_args, size_links}
-use Rattle.sl_types.specs.TypedView.{typed_of}
+use Rattle.sl_types.specs.Rules.{operation_of}
+use Rattle.sl_types.specs.Typed as T
+use Rattle.sl_types.specs.TypedView.{typed_of, tlink_of}
 use Rattle.sl_types.specs.Views.{Gives, around_of, local_of}
-use Rattle.sl_types.proofs.Nodes.{call_is, chain_is, listed_all, small_arg, small_link}
+use Rattle.sl_types.proofs.Chains.{grown_chain}
+use Rattle.sl_types.proofs.Nodes.{call_is, chain_is, chain_split, chain_end, listed_all, small_arg, small_link}
 use Rattle.sl_types.proofs.exprs.+exprs.Goals as goal
 
 pub exprs-expr-requires : goal.exprs-expr-requires
@@ -56,3 +59,50 @@ expr-returns-in-Call t c =
     ∙ ap (λ xs. call_of g c.args.behind c.in-Call.name c.in-Call.line xs (typed_args g ls [] (U.exprs (map expr_of c.in-Call.args)))) (listed_all (map expr_of c.in-Call.args) ∙ sym args)
     ∙ ap (λ r. call_of g c.args.behind c.in-Call.name c.in-Call.line (map expr_of c.as_slice-in-Call-2.result.now) r) (sym same)))
     (c.call_of.ensures parts c.exprs-parts.ensures)
+
+pub chain-returns-in_err-operand : goal.chain-returns-in_err-operand
+chain-returns-in_err-operand t c =
+    let g = around_of c.args.g.now in
+    let ls = map local_of c.args.scope.now in
+    let v = T.chained (typed_of c.loop-link.first-1) (map tlink_of c.loop-link.typed.items) in
+    let whole = sym c.loop-link.invariant.same ∙ ap (typed_links g ls v) (chain_split c.args.links.now c.loop-link.link-index c.link-item.result (omega arith) c.link-item.is) in
+    search rules
+
+pub chain-returns-in_err-next : goal.chain-returns-in_err-next
+chain-returns-in_err-next t c =
+    let g = around_of c.args.g.now in
+    let ls = map local_of c.args.scope.now in
+    let x = c.link-item.result in
+    let v = T.chained (typed_of c.loop-link.first-1) (map tlink_of c.loop-link.typed.items) in
+    let rest = U.links (map link_of (drop (c.loop-link.link-index + 1) c.args.links.now)) in
+    let split = ap (typed_links g ls v) (chain_split c.args.links.now c.loop-link.link-index x (omega arith) c.link-item.is) in
+    let typed = ap (λ r. r >>= λ s. applied (operation_of x.operator) x.line (v ∷ s ∷ []) >>= λ r. typed_links g ls r rest) c.in_ok-operand.ensures in
+    let found = c.in_err-next.ensures v c.loop-link.invariant.kind in
+    let whole = sym c.loop-link.invariant.same ∙ split ∙ typed in
+    search rules
+
+pub chain-loop-link-preserved : goal.chain-loop-link-preserved
+chain-loop-link-preserved t c =
+    let g = around_of c.args.g.now in
+    let ls = map local_of c.args.scope.now in
+    let x = c.link-item.result in
+    let e = typed_of c.loop-link.first-1 in
+    let v = T.chained e (map tlink_of c.loop-link.typed.items) in
+    let rest = U.links (map link_of (drop (c.loop-link.link-index + 1) c.args.links.now)) in
+    let split = ap (typed_links g ls v) (chain_split c.args.links.now c.loop-link.link-index x (omega arith) c.link-item.is) in
+    let typed = ap (λ r. r >>= λ s. applied (operation_of x.operator) x.line (v ∷ s ∷ []) >>= λ r. typed_links g ls r rest) c.in_ok-operand.ensures in
+    let joined = ap (λ r. r >>= λ r. typed_links g ls r rest) (c.in_ok-next.ensures v c.loop-link.invariant.kind) in
+    let operation = ap (λ o. applied o x.line (v ∷ typed_of c.in_ok-operand.operand ∷ []) >>= λ r. typed_links g ls r rest) c.operation_of.ensures in
+    let grown = grown_chain e c.loop-link.typed.items _ c.in_ok-next.next c.in_ok-push.ensures.items in
+    record {
+      first = c.loop-link.invariant.first;
+      kind = ap T.kind_of grown;
+      same = ap (λ r. typed_links g ls r rest) grown ∙ sym joined ∙ operation ∙ sym typed ∙ sym split ∙ c.loop-link.invariant.same;
+    }
+
+pub chain-returns : goal.chain-returns
+chain-returns t c =
+    let g = around_of c.args.g.now in
+    let ls = map local_of c.args.scope.now in
+    let v = T.chained (typed_of c.loop-link.first-1) (map tlink_of c.loop-link.typed.items) in
+    sym c.loop-link.invariant.same ∙ ap (typed_links g ls v) (chain_end c.args.links.now c.loop-link.link-index (omega arith)) ∙ ap Ok (sym c.in_ok-chained.ensures)

@@ -3,7 +3,8 @@ use Rattle.sl_ast.specs.Syntax as U
 use Rattle.sl_ast.specs.SyntaxView.{expr_of, link_of}
 use Rattle.sl_types.specs.Exprs.{typed_args, typed_links}
 use Rattle.sl_types.specs.Measures.{size, size_args, size_links}
-use Rattle.sl_types.specs.TypedView.{typed_of}
+use Rattle.sl_types.specs.Typed as T
+use Rattle.sl_types.specs.TypedView.{typed_of, tlink_of}
 use Rattle.sl_types.specs.Views.{around_of, local_of}
 use Rattle.sl_types.proofs.exprs.+exprs.Given as goal
 
@@ -25,6 +26,9 @@ invariant-exprs-loop-e l =
     ≡ typed_args (around_of l.g) (map local_of l.scope) [] (U.exprs (map expr_of l.es))
 
 abbrev pub invariant-chain-loop-link : goal.invariant-chain-loop-link
-invariant-chain-loop-link l =
-    typed_links (around_of l.g) (map local_of l.scope) (typed_of l.value) (U.links (map link_of (drop l.link-index l.links)))
-    ≡ typed_links (around_of l.g) (map local_of l.scope) (typed_of l.fn.first) (U.links (map link_of l.links))
+invariant-chain-loop-link l = record {
+  first : typed_of l.first ≡ typed_of l.fn.first;
+  kind : T.kind_of (T.chained (typed_of l.first) (map tlink_of l.typed.items)) ≡ l.kind;
+  same : typed_links (around_of l.g) (map local_of l.scope) (T.chained (typed_of l.first) (map tlink_of l.typed.items)) (U.links (map link_of (drop l.link-index l.links)))
+      ≡ typed_links (around_of l.g) (map local_of l.scope) (typed_of l.fn.first) (U.links (map link_of l.links));
+}

@@ -8,8 +8,8 @@ use Rattle.sl_types.proofs.functions.body_from.Given as goal
 
 abbrev pub invariant-loop-s : goal.invariant-loop-s
 invariant-loop-s l =
-    typed_body (around_of l.g) l.from l.kind l.line (map tstmt_of l.done.items) (map local_of l.scope.items) (U.stmts (map stmt_of l.rest))
-    ≡ typed_body (around_of l.g) l.from l.kind l.line [] (map local_of l.initial.scope.items) (U.stmts (map stmt_of l.body))
+    typed_body (around_of l.g) l.from l.kind l.line (map tstmt_of l.done.items) (map local_of l.scope) (U.stmts (map stmt_of l.rest))
+    ≡ typed_body (around_of l.g) l.from l.kind l.line [] (map local_of l.initial.scope) (U.stmts (map stmt_of l.body))
 
 abbrev pub decreases-loop-s : goal.decreases-loop-s
 decreases-loop-s l = length l.rest

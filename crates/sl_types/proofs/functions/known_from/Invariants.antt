@@ -5,4 +5,4 @@ use Rattle.sl_types.specs.Views.{callee_of}
 use Rattle.sl_types.proofs.functions.known_from.Given as goal
 
 abbrev pub invariant-loop-f : goal.invariant-loop-f
-invariant-loop-f l = known_from l.kind (map callee_of l.known.items) (map function_of (drop l.f-index l.functions)) ≡ known_from l.kind [] (map function_of l.functions)
+invariant-loop-f l = known_from l.kind (map callee_of l.known) (map function_of (drop l.f-index l.functions)) ≡ known_from l.kind [] (map function_of l.functions)

@@ -4,4 +4,4 @@ use Rattle.sl_types.specs.Views.{local_of}
 use Rattle.sl_types.proofs.functions.scope_from.Given as goal
 
 abbrev pub invariant-loop-formal : goal.invariant-loop-formal
-invariant-loop-formal l = scope_from (map local_of l.scope.items) (map local_of (drop l.formal-index l.formals)) ≡ scope_from [] (map local_of l.formals)
+invariant-loop-formal l = scope_from (map local_of l.scope) (map local_of (drop l.formal-index l.formals)) ≡ scope_from [] (map local_of l.formals)

@@ -1,11 +1,13 @@
-use Rattle.std.proofs.Common.{◌≡◌, ◌+◌, OnOk, map, get_or, arith, ap, sym, subst, ◌∙◌}
+use Rattle.std.proofs.Common.{◌≡◌, ◌+◌, IfOk, OnOk, length, map, get_or, arith, ap, ap₂, sym, subst, ◌∙◌}
+use Rattle.std.proofs.lemmas.List.{length-map}
 use Rattle.sl_ast.specs.TypedView.{tree_expr, tree_stmt}
 use Rattle.sl_types.specs.Extents.{absent}
-use Rattle.sl_types.specs.Inline.{nothing, extents_of, count, count_args, count_stmt, count_stmts, inline_args, inline_stmt, inline_stmts}
+use Rattle.sl_types.specs.Inline.{nothing, extents_of, count, count_args, count_stmt, count_stmts, inline, inline_args, inline_stmt, inline_stmts}
 use Rattle.sl_types.specs.InlineView.{functions}
 use Rattle.sl_types.specs.Typed as T
-use Rattle.sl_types.specs.TypedView.{typed_of, tstmt_of}
+use Rattle.sl_types.specs.TypedView.{typed_of, tlink_of, tstmt_of}
 use Rattle.sl_types.specs.Weights.{weight, weight_stmt, weight_stmts}
+use Rattle.sl_types.proofs.Chains.{chain_shown, count_links, tree_links, links_counted, links_weighed, links_inlined, links_split, links_end, light_link, pair_tree, call_tree, on_ok}
 use Rattle.sl_types.proofs.Numbered.{extent_at}
 use Rattle.sl_types.proofs.Placed.{light_arg, light_stmt, args_before, stmts_before, args_alone, stmts_alone, args_split, stmts_split, args_end, stmts_end, args_step, stmts_step, for_tree}
 use Rattle.sl_types.proofs.TypedNodes.{call_shown, for_shown}
@@ -29,6 +31,100 @@ expr-returns-in_ok-args-in-Call-clause-next t c =
     let e : c.exprs-in-Call.new.next + (get_or fs c.in-Call.function nothing).extent.nodes ≡ c.args.next.now + count fs (typed_of c.args.e.now) =
     omega (arith, q, x, d, c.place-at-in-Call.ensures.next, c.in_ok-args-in-Call.ensures.next) in
     subst (λ n. OnOk c.call.result (c.call.new.next ≡ n)) e c.call.ensures.next
+
+pub expr-chain-requires : goal.expr-chain-requires
+expr-chain-requires t c =
+    let fs = functions c.args.by_default c.args.known.now in
+    let q = ap (count fs) (chain_shown c.args.e.now c.in-Chain.first c.in-Chain.links c.in-Chain.operation c.in-Chain.operand c.in-Chain.kind c.in-Chain.line c.in-Chain.is) in
+    let w = ap weight (chain_shown c.args.e.now c.in-Chain.first c.in-Chain.links c.in-Chain.operation c.in-Chain.operand c.in-Chain.kind c.in-Chain.line c.in-Chain.is) in
+    let d = ap₂ (λ x xs. count fs (T.chained (typed_of x) (map tlink_of xs))) c.deref.ensures c.as_slice-in-Chain.ensures in
+    let v = ap₂ (λ x xs. weight (T.chained (typed_of x) (map tlink_of xs))) c.deref.ensures c.as_slice-in-Chain.ensures in
+    (omega (arith, c.decreases, w, v), omega (arith, c.requires, q, d, c.place-at-in-Chain.ensures.next))
+
+pub expr-expr-requires : goal.expr-expr-requires
+expr-expr-requires t c =
+    let fs = functions c.args.by_default c.args.known.now in
+    let q = ap (count fs) (chain_shown c.args.e.now c.in-Chain.first c.in-Chain.links c.in-Chain.operation c.in-Chain.operand c.in-Chain.kind c.in-Chain.line c.in-Chain.is) in
+    let w = ap weight (chain_shown c.args.e.now c.in-Chain.first c.in-Chain.links c.in-Chain.operation c.in-Chain.operand c.in-Chain.kind c.in-Chain.line c.in-Chain.is) in
+    let d = ap₂ (λ x xs. count fs (T.chained (typed_of x) (map tlink_of xs))) c.deref.ensures c.as_slice-in-Chain.ensures in
+    let b = ap (λ x. count fs (typed_of x)) c.deref-in-Chain.ensures in
+    let v = ap (λ x. weight (typed_of x)) c.deref-in-Chain.ensures in
+    (omega (arith, c.decreases, w, v), omega (arith, c.requires, q, d, b, c.place-at-in-Chain.ensures.next, c.in_ok-before-in-Chain.ensures.next))
+
+pub expr-returns-in_ok-operand-in-Chain-clause-tree : goal.expr-returns-in_ok-operand-in-Chain-clause-tree
+expr-returns-in_ok-operand-in-Chain-clause-tree t c =
+    let fs = functions c.args.by_default c.args.known.now in
+    let shown = ap₂ (λ x xs. T.apply c.in-Chain.operation (T.more (T.chained (typed_of x) (map tlink_of xs)) (T.more (typed_of c.deref-in-Chain.result.now) T.none)) c.in-Chain.kind c.in-Chain.line)
+    c.deref.ensures c.as_slice-in-Chain.ensures in
+    let last = ap (λ x. T.apply c.in-Chain.operation (T.more (T.chained (typed_of c.in-Chain.first.value) (map tlink_of c.in-Chain.links)) (T.more (typed_of x) T.none)) c.in-Chain.kind c.in-Chain.line)
+    c.deref-in-Chain.ensures in
+    subst (λ r. IfOk c.pair_node.result (λ t. tree_expr t ≡ r))
+    (pair_tree fs c.args.next.now c.in-Chain.operation _ _ c.in-Chain.kind c.in-Chain.line _ _ _ _ _ c.place-at-in-Chain.ensures.place c.place-at-in-Chain.ensures.next
+    c.in_ok-before-in-Chain.ensures.tree c.in_ok-before-in-Chain.ensures.next c.in_ok-operand-in-Chain.ensures.tree
+    ∙ ap (inline fs c.args.next.now) (shown ∙ last ∙ sym (chain_shown c.args.e.now c.in-Chain.first c.in-Chain.links c.in-Chain.operation c.in-Chain.operand c.in-Chain.kind c.in-Chain.line c.in-Chain.is)))
+    c.pair_node.ensures
+
+pub expr-returns-in_ok-operand-in-Chain-clause-next : goal.expr-returns-in_ok-operand-in-Chain-clause-next
+expr-returns-in_ok-operand-in-Chain-clause-next t c =
+    let fs = functions c.args.by_default c.args.known.now in
+    let q = ap (count fs) (chain_shown c.args.e.now c.in-Chain.first c.in-Chain.links c.in-Chain.operation c.in-Chain.operand c.in-Chain.kind c.in-Chain.line c.in-Chain.is) in
+    let d = ap₂ (λ x xs. count fs (T.chained (typed_of x) (map tlink_of xs))) c.deref.ensures c.as_slice-in-Chain.ensures in
+    let b = ap (λ x. count fs (typed_of x)) c.deref-in-Chain.ensures in
+    on_ok c.pair_node.result (omega (arith, q, d, b, c.place-at-in-Chain.ensures.next, c.in_ok-before-in-Chain.ensures.next, c.in_ok-operand-in-Chain.ensures.next))
+
+pub expr-returns-in_ok-args-in-Call-clause-tree : goal.expr-returns-in_ok-args-in-Call-clause-tree
+expr-returns-in_ok-args-in-Call-clause-tree t c =
+    let fs = functions c.args.by_default c.args.known.now in
+    let q = call_shown c.args.e.now c.in-Call.function c.in-Call.args c.in-Call.kind c.in-Call.line c.in-Call.is in
+    let d = ap (λ xs. T.call c.in-Call.function (T.exprs (map typed_of xs)) c.in-Call.kind c.in-Call.line) c.as_slice-in-Call.ensures in
+    subst (λ r. IfOk c.call.result (λ t. tree_expr t ≡ r))
+    (call_tree fs c.args.next.now c.in-Call.function _ c.in-Call.kind c.in-Call.line _ _ _ _ c.place-at-in-Call.ensures.place c.place-at-in-Call.ensures.next
+    c.in_ok-args-in-Call.ensures.tree c.in_ok-args-in-Call.ensures.next ∙ ap (inline fs c.args.next.now) (d ∙ sym q))
+    c.call.ensures.tree
+
+pub chain-behind-number-requires : goal.chain-behind-number-requires
+chain-behind-number-requires t c =
+    let fs = functions c.args.by_default c.args.known.now in
+    let ls = map tlink_of c.args.links.now in
+    omega (arith, c.requires, links_counted fs (typed_of c.args.first.now) ls, length-map c.args.links.now tlink_of)
+
+pub chain-expr-requires : goal.chain-expr-requires
+chain-expr-requires t c =
+    let fs = functions c.args.by_default c.args.known.now in
+    let ls = map tlink_of c.args.links.now in
+    (omega (arith, c.decreases, links_weighed (typed_of c.args.first.now) ls), omega (arith, c.requires, links_counted fs (typed_of c.args.first.now) ls, length-map c.args.links.now tlink_of, c.behind-number.ensures))
+
+pub chain-loop-link-init : goal.chain-loop-link-init
+chain-loop-link-init t c =
+    let fs = functions c.args.by_default c.args.known.now in
+    let n = c.args.next.now in
+    let e = typed_of c.args.first.now in
+    let ls = map tlink_of c.args.links.now in
+    let m = length-map c.args.links.now tlink_of in
+    let p : c.behind-number.result ≡ n + length ls = omega (arith, c.behind-number.ensures, m) in
+    let q : c.expr.new.next ≡ n + length ls + count fs e = omega (arith, p, c.in_ok-value.ensures.next) in
+    record {
+      number = c.behind-number.ensures;
+      tree = ap₂ (λ v k. tree_links fs n v k ls) (c.in_ok-value.ensures.tree ∙ ap (λ k. inline fs k e) p) q ∙ sym (links_inlined fs n e ls);
+      next = omega (arith, q, links_counted fs e ls);
+    }
+
+pub chain-expr-requires-in-loop-link : goal.chain-expr-requires-in-loop-link
+chain-expr-requires-in-loop-link t c =
+    let fs = functions c.args.by_default c.args.known.now in
+    let s = ap (count_links fs) (links_split c.args.links.now c.loop-link.link-index c.link-item.result (omega arith) c.link-item.is) in
+    let l = light_link c.args.links.now c.loop-link.link-index c.link-item.result (omega arith) c.link-item.is in
+    (omega (arith, c.decreases, l, links_weighed (typed_of c.args.first.now) (map tlink_of c.args.links.now)), omega (arith, c.requires, s, c.loop-link.invariant.next))
+
+pub chain-returns-clause-tree : goal.chain-returns-clause-tree
+chain-returns-clause-tree t c =
+    let fs = functions c.args.by_default c.args.known.now in
+    sym (ap (tree_links fs c.args.next.now (tree_expr c.loop-link.value) c.loop-link.next) (links_end c.args.links.now c.loop-link.link-index (omega arith))) ∙ c.loop-link.invariant.tree
+
+pub chain-returns-clause-next : goal.chain-returns-clause-next
+chain-returns-clause-next t c =
+    let fs = functions c.args.by_default c.args.known.now in
+    omega (arith, c.loop-link.invariant.next, ap (count_links fs) (links_end c.args.links.now c.loop-link.link-index (omega arith)))
 
 pub exprs-expr-requires : goal.exprs-expr-requires
 exprs-expr-requires t c =

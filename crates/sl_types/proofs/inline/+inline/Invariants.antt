@@ -1,11 +1,12 @@
-use Rattle.std.proofs.Common.{◌≡◌, ◌+◌, drop, map}
+use Rattle.std.proofs.Common.{◌≡◌, ◌+◌, drop, length, map}
 use Rattle.sl_ast.specs.TypedView.{tree_expr, tree_stmt}
-use Rattle.sl_types.specs.Inline.{count_args, count_stmts, inline_args, inline_stmts}
+use Rattle.sl_types.specs.Inline.{count, count_args, count_stmts, inline, inline_args, inline_stmts}
 use Rattle.sl_types.specs.InlineView.{functions}
 use Rattle.sl_types.specs.Typed as T
-use Rattle.sl_types.specs.TypedView.{typed_of, tstmt_of}
+use Rattle.sl_types.specs.TypedView.{typed_of, tlink_of, tstmt_of}
 use Rattle.sl_types.specs.Views.{callee_of}
 use Rattle.sl_types.specs.Weights.{weight, weight_args, weight_stmt, weight_stmts, weight_known}
+use Rattle.sl_types.proofs.Chains.{count_links, tree_links}
 use Rattle.sl_types.proofs.Placed.{args_before, stmts_before}
 use Rattle.sl_types.proofs.inline.+inline.Given as goal
 
@@ -17,6 +18,9 @@ decreases-expr l = weight (typed_of l.e.now) + weight_known l.by_default (map ca
 
 abbrev pub decreases-exprs : goal.decreases-exprs
 decreases-exprs l = weight_args (T.exprs (map typed_of l.es.now)) + weight_known l.by_default (map callee_of l.known.now)
+
+abbrev pub decreases-chain : goal.decreases-chain
+decreases-chain l = 1 + weight (T.chained (typed_of l.first.now) (map tlink_of l.links.now)) + weight_known l.by_default (map callee_of l.known.now)
 
 abbrev pub decreases-stmt : goal.decreases-stmt
 decreases-stmt l = weight_stmt (tstmt_of l.s.now) + weight_known l.by_default (map callee_of l.known.now)
@@ -33,6 +37,15 @@ invariant-exprs-loop-e l = record {
       ≡ inline_args (functions l.by_default l.known) l.initial.next (T.exprs (map typed_of l.es));
   next : l.next + count_args (functions l.by_default l.known) (T.exprs (map typed_of (drop l.e-index l.es)))
       ≡ l.initial.next + count_args (functions l.by_default l.known) (T.exprs (map typed_of l.es));
+}
+
+abbrev pub invariant-chain-loop-link : goal.invariant-chain-loop-link
+invariant-chain-loop-link l = record {
+  number : l.number ≡ l.start + length (drop l.link-index l.links);
+  tree : tree_links (functions l.by_default l.known) l.start (tree_expr l.value) l.next (map tlink_of (drop l.link-index l.links))
+      ≡ inline (functions l.by_default l.known) l.start (T.chained (typed_of l.first) (map tlink_of l.links));
+  next : l.next + count_links (functions l.by_default l.known) (map tlink_of (drop l.link-index l.links))
+      ≡ l.start + count (functions l.by_default l.known) (T.chained (typed_of l.first) (map tlink_of l.links));
 }
 
 abbrev pub invariant-stmts-loop-s : goal.invariant-stmts-loop-s

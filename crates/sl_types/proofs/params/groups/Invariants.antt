@@ -8,5 +8,5 @@ abbrev pub invariant-loop-one : goal.invariant-loop-one
 invariant-loop-one l = record {
   same : typed_groups (around_of l.g) (map param_of l.params.items) (map group_of (drop l.one-index l.groups))
       ≡ typed_groups (around_of l.g) (map param_of l.initial.params.items) (map group_of l.groups);
-  scope : map local_of l.scope.items ≡ locals_of (map param_of l.params.items);
+  scope : map local_of l.scope ≡ locals_of (map param_of l.params.items);
 }

@@ -7,7 +7,7 @@ use Rattle.sl_types.proofs.sets.names.Given as goal
 
 abbrev pub invariant-loop-d : goal.invariant-loop-d
 invariant-loop-d l = record {
-  same : typed_names (around_of l.g) l.from l.uniform l.kind (map tstmt_of l.done.items) (map local_of l.scope.items) (map declared_of (drop l.d-index l.ds))
-      ≡ typed_names (around_of l.g) l.from l.uniform l.kind (map tstmt_of l.initial.done.items) (map local_of l.initial.scope.items) (map declared_of l.ds);
-  extends : Extends l.initial.scope.items l.scope.items;
+  same : typed_names (around_of l.g) l.from l.uniform l.kind (map tstmt_of l.done.items) (map local_of l.scope) (map declared_of (drop l.d-index l.ds))
+      ≡ typed_names (around_of l.g) l.from l.uniform l.kind (map tstmt_of l.initial.done.items) (map local_of l.initial.scope) (map declared_of l.ds);
+  extends : Extends l.initial.scope l.scope;
 }

@@ -21,6 +21,6 @@ stmt-block-requires t c =
 
 pub stmt-returns-in-Block-clause-gives : goal.stmt-returns-in-Block-clause-gives
 stmt-returns-in-Block-clause-gives t c =
-    subst (λ x. GivesRows c.block.result c.block.new.done.items c.block.new.scope.items (typed_stmt (around_of c.args.g.now) c.args.from (map tstmt_of c.args.done.now.items) (map local_of c.args.scope.now.items) x))
+    subst (λ x. GivesRows c.block.result c.block.new.done.items c.block.new.scope (typed_stmt (around_of c.args.g.now) c.args.from (map tstmt_of c.args.done.now.items) (map local_of c.args.scope.now) x))
     (sym (block_is c.args.s.now c.in-Block.body c.in-Block.line c.in-Block.is ∙ ap (λ xs. U.block (U.stmts (map stmt_of xs)) c.in-Block.line) (sym c.as_slice.ensures)))
     c.block.ensures.gives

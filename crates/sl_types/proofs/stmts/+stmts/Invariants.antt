@@ -21,7 +21,7 @@ decreases-block l = 3 * size_rows (U.stmts (map stmt_of l.body.now)) + 1
 
 abbrev pub invariant-rows-loop-s : goal.invariant-rows-loop-s
 invariant-rows-loop-s l = record {
-  same : typed_rows (around_of l.g) l.from (map tstmt_of l.done.items) (map local_of l.scope.items) (U.stmts (map stmt_of (drop l.s-index l.body)))
-      ≡ typed_rows (around_of l.g) l.from (map tstmt_of l.initial.done.items) (map local_of l.initial.scope.items) (U.stmts (map stmt_of l.body));
-  extends : Extends l.initial.scope.items l.scope.items;
+  same : typed_rows (around_of l.g) l.from (map tstmt_of l.done.items) (map local_of l.scope) (U.stmts (map stmt_of (drop l.s-index l.body)))
+      ≡ typed_rows (around_of l.g) l.from (map tstmt_of l.initial.done.items) (map local_of l.initial.scope) (U.stmts (map stmt_of l.body));
+  extends : Extends l.initial.scope l.scope;
 }

@@ -23,3 +23,6 @@ with_filter-requires-clause-x c = c.number-in-PixelFilter.ensures.limits 1 (pos 
 
 pub with_filter-requires-clause-y : goal.with_filter-requires-clause-y
 with_filter-requires-clause-y c = c.number-in-PixelFilter-2.ensures.limits 2 (pos 256) (ap (λ n. slice_get (rules_of n) 2) c.in-PixelFilter.is)
+
+pub with_depths-requires-clause-near : goal.with_depths-requires-clause-near
+with_depths-requires-clause-near c = c.number-in-Clipping.ensures.limits 0 (pos 1) (ap (λ n. slice_get (rules_of n) 0) c.in-Clipping.is)

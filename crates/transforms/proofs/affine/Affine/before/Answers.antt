@@ -16,11 +16,11 @@ returns-clause-after_identity c e =
     let There : Map → Type 0 = λ m. is_matrix m.there ≡ true in
     let Back : Map → Type 0 = λ m. is_matrix m.back ≡ true in
     c.product.ensures ∙ ap (λ f. before_of c.args.self.now f) e
-    ∙ before-identity c.args.self.now (subst There c.self.view_is c.has_entries.ensures) (subst Back c.self.view_is c.has_entries-2.ensures)
+    ∙ before-identity c.args.self.now (subst There c.self.view_is c.recall.ensures) (subst Back c.self.view_is c.recall-2.ensures)
 
 pub returns-clause-before_identity : goal.returns-clause-before_identity
 returns-clause-before_identity c e =
     let There : Map → Type 0 = λ m. is_matrix m.there ≡ true in
     let Back : Map → Type 0 = λ m. is_matrix m.back ≡ true in
     c.product.ensures ∙ ap (λ m. before_of m c.args.first.now) e
-    ∙ identity-before c.args.first.now (subst There c.first.view_is c.has_entries-3.ensures) (subst Back c.first.view_is c.has_entries-4.ensures)
+    ∙ identity-before c.args.first.now (subst There c.first.view_is c.recall-3.ensures) (subst Back c.first.view_is c.recall-4.ensures)

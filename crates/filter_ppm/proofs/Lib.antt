@@ -1,0 +1,3 @@
+pub mod Means
+pub mod Filters
+pub mod Bytes

@@ -1,0 +1,12 @@
+//! From samples to the bytes of a picture: the filter's weights, the weighted mean, exposure, quantizing, and the format PPM.
+#![tactic(auto)]
+
+mod levels;
+mod ppm;
+mod sums;
+mod weights;
+
+pub use levels::{expose, pixel_levels, quantize};
+pub use ppm::{band_bytes, header};
+pub use sums::Sums;
+pub use weights::{reach, weight};

@@ -1,0 +1,49 @@
+ghost use Rattle.std.specs.Prelude.{◌≡◌, ◌≤◌, ◌++◌, All, OnOk, IfOk};
+ghost use Rattle.filter_ppm.specs.Levels.{header, level_bytes, pixel_bytes, band};
+
+use fixed_math::NoMemory;
+use scene_state::Options;
+use std::alloc::Global;
+
+/// The header of a picture in the format PPM (P6): `P6`, the width and the height, and `one`.
+#[tactic(auto, unfolding(crate::specs::Levels::header))]
+pub fn header(alloc: Global, width: u32, height: u32, o: &Options) -> Result<Vec<u8>, NoMemory>
+    ensures { IfOk result (λ bytes. bytes.items ≡ header width height o.now) }
+{
+    let one = o.one;
+    Ok(format!(in alloc; "P6\n{width} {height}\n{one}\n")?.into_bytes())
+}
+
+/// Appends a number of a channel, where the greatest is `one`.
+fn push_level(bytes: &mut Vec<u8>, one: u32, level: u32) -> Result<(), NoMemory>
+    requires one { one ≤ 255 }
+    requires level { level ≤ one }
+    ensures { OnOk result (bytes.new.items ≡ bytes.old.items ++ level_bytes one level) }
+{
+    bytes.push(level as u8)?;
+    Ok(())
+}
+
+/// Appends the numbers of a pixel.
+fn push_levels(bytes: &mut Vec<u8>, one: u32, levels: &[u32]) -> Result<(), NoMemory>
+    requires one { one ≤ 255 }
+    requires levels { All (λ v. v ≤ one) levels.now }
+    ensures { OnOk result (bytes.new.items ≡ bytes.old.items ++ pixel_bytes one levels.now) }
+{
+    for level in levels {
+        push_level(bytes, one, *level)?;
+    }
+    Ok(())
+}
+
+/// The bytes of a row of pixels: one byte for each channel, in turn.
+pub fn band_bytes(alloc: Global, o: &Options, pixels: &[[u32; 3]]) -> Result<Vec<u8>, NoMemory>
+    requires { All (λ p. All (λ v. v ≤ o.now.one) p) pixels.now }
+    ensures { IfOk result (λ bytes. bytes.items ≡ band o.now.one pixels.now) }
+{
+    let mut bytes = Vec::new(alloc);
+    for pixel in pixels {
+        push_levels(&mut bytes, o.one, pixel)?;
+    }
+    Ok(bytes)
+}

@@ -1,0 +1,11 @@
+pub mod Small
+pub mod Threes
+pub mod Between
+pub mod Places
+pub mod Cuts
+pub mod Orders
+pub mod Grids
+pub mod Sights
+pub mod Outside
+pub mod Pushes
+pub mod Pixels

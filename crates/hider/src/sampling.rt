@@ -1,0 +1,23 @@
+ghost use Rattle.std.specs.Prelude.{◌≡◌, ◌≤◌, ◌<◌, ◌*◌};
+ghost use Rattle.hider.specs.Samples.{sample_at};
+
+use crate::sample::Sample;
+use crate::spot::Spot;
+use sample_pattern::{position, time};
+
+/// The sample of the cell `cell` of the pixel `x`, `y`, which has `xs` by `ys` cells, by rows.
+#[tactic(auto, unfolding(crate::specs::Samples::sample_at))]
+pub fn sample_at(x: u32, y: u32, cell: u32, xs: u32, ys: u32) -> Sample
+    requires x { x < 4096 }
+    requires y { y < 4096 }
+    requires xs { xs ≤ 16 }
+    requires ys { ys ≤ 16 }
+    requires cell { cell < xs * ys }
+    ensures { result ≡ sample_at xs ys x y cell }
+{
+    let place = position(x, y, cell, xs, ys);
+    Sample {
+        place: Spot::new(place[0], place[1]),
+        time: time(x, y, cell),
+    }
+}

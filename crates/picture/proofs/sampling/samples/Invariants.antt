@@ -1,6 +1,0 @@
-use Rattle.std.proofs.Common.{◌≡◌}
-use Rattle.picture.specs.Film.{first_samples}
-use Rattle.picture.proofs.sampling.samples.Given as goal
-
-abbrev pub invariant-loop-row : goal.invariant-loop-row
-invariant-loop-row l = l.all.items ≡ first_samples l.film l.row

@@ -1,9 +1,0 @@
-use fixed_math::{Num, Vec3};
-
-/// What a micropolygon shows at a sample that it covers: its depth there, its colour and its opacity.
-#[derive(Debug, Clone, Copy, Default, PartialEq, Eq)]
-pub struct Fragment {
-    pub depth: Num,
-    pub colour: Vec3,
-    pub opacity: Vec3,
-}

@@ -1,0 +1,20 @@
+-- The note that tells why a command is refused.
+use Rattle.std.specs.Prelude.{ℕ, List, ◌++◌, codes, decimal}
+use Rattle.render.specs.declared.refusal.FileId.{FileId}
+use Rattle.render.specs.declared.refusal.FileId.TheVariants.{Scene, Shader}
+use Rattle.render.specs.Codes.{text_of}
+use Rattle.render.specs.Causes.{Cause, Missing, At}
+use Rattle.render.specs.Shaders.{file_of}
+
+-- a file's name in notes, where the scene has this name
+abbrev pub name_in_notes : List ℕ → FileId → List ℕ
+name_in_notes scene Scene = scene
+name_in_notes scene (Shader name) = file_of name
+
+abbrev pub fault_line : List ℕ → ℕ → List ℕ → List ℕ
+fault_line file line code = file ++ (codes ":" ++ (decimal line ++ (codes ": " ++ (code ++ codes "\n"))))
+
+-- the line of the notes, where the scene has this name
+abbrev pub note_of : List ℕ → Cause → List ℕ
+note_of scene (Missing file) = file ++ codes ": missing\n"
+note_of scene (At file line code) = fault_line (name_in_notes scene file) line (text_of code)

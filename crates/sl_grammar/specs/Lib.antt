@@ -1,0 +1,4 @@
+pub mod Bare
+pub mod Grammatical
+pub mod Laws
+pub mod Examples

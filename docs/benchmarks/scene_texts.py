@@ -1,0 +1,79 @@
+#!/usr/bin/env python3
+"""texts.py FOLDER [MEGABYTES]: writes into the folder scene texts of that size (16 where none is said, the longest that a
+scene may have), as KIND.rib, each made to be dear where names are looked for one by one, or where something is as deep as
+the text is long. ANSWERS has the note that `reyes check KIND.rib` has to write ('-' for none)."""
+import os, sys
+
+to = sys.argv[1]
+MOST = int(float(sys.argv[2]) * 1_048_576) if len(sys.argv) > 2 else 16_777_216
+os.makedirs(to, exist_ok=True)
+PATCH = 'Patch "bilinear" "P" [0 0 1 1 0 1 0 1 1 1 1 1]\n'
+
+
+def full(front, step, back="", share=1.0):
+    """The step as often as it fits; a step with {} is numbered."""
+    room = int(MOST * share) - len(front) - len(back)
+    parts, size, i = [], 0, 0
+    while True:
+        s = step.replace("{}", str(i))
+        if size + len(s) > room:
+            return front + "".join(parts) + back
+        parts.append(s)
+        size += len(s)
+        i += 1
+
+
+def uses(count_share, use):
+    """Declarations in one share of the text, and uses of the declared names in the rest."""
+    declared = full("", 'Declare "a{}" "float"\n', share=count_share)
+    n = declared.count("\n")
+    parts, size, i = [declared], len(declared), 0
+    while True:
+        s = use % (i * 7919 % n)
+        if size + len(s) > MOST:
+            return "".join(parts)
+        parts.append(s)
+        size += len(s)
+        i += 1
+
+
+KINDS = {
+    # names
+    "declared": (full("", 'Declare "a{}" "float"\n'), "-"),
+    "declared_and_used": (uses(0.5, 'Surface "m" "a%d" 1\n'), "-"),
+    "declared_again": (full("", 'Declare "a" "float"\n'), "-"),
+    "declared_long_names": (full("", 'Declare "' + "a" * 4000 + '{}" "float"\n'), "-"),
+    "parameters_of_one_name": (full('Surface "m" ', '"Kd" 1 '), "-"),
+    "parameters_inline": (full('Surface "m" ', '"float b{}" 1 '), "-"),
+    "parameters_undeclared": (full('Surface "m" ', '"b{}" 1 '), "kind.rib:1: S4"),
+    "points_of_one_name": (full('WorldBegin Patch "bilinear" ', '"P" [1] '), "kind.rib:1: G5"),
+    "one_long_token": (full('Surface "m" "', "a ", '" 1'), "kind.rib:1: S4"),
+    # requests
+    "surfaces": (full("", 'Surface "matte" "Kd" [1]\n'), "-"),
+    "surfaces_had": (full("WorldBegin\n", 'Surface "constant"\n' + PATCH, "WorldEnd\n", share=min(1.0, 64000 * 66 / MOST)), "-"),
+    "lights": (full("", 'LightSource "a" 1 WorldBegin WorldEnd\n', share=min(1.0, 999 * 38 / MOST)), "-"),
+    "switched": (full('LightSource "a" 1\n' * 64, "Illuminate 1 0 Illuminate 1 1\n"), "-"),
+    # blocks and depth
+    "blocks_64": (full("", "AttributeBegin\n" * 64 + "AttributeEnd\n" * 64), "-"),
+    "frames_named": (full('Display "' + "a" * (MOST // 2) + '" "file" "rgb"\n', "FrameBegin 1 FrameEnd\n", share=0.502), "-"),
+    "blocks_open": (full("", "AttributeBegin\n"), "kind.rib:65: M1"),
+    "brackets": ("[" * MOST, "kind.rib:1: S3"),
+    "arrays": (full("Option ", "[1]"), "-"),
+    "one_array": (full("Option [", "1 ", "]"), "-"),
+    "comments": (full("", "#\n"), "-"),
+    "one_comment": ("#" * MOST, "-"),
+    "strings": (full("Option ", '""'), "-"),
+    "passed_over": (full("", "version 3.03\n"), "-"),
+    "left_out_names": (full("", "Translate 0 0 0\n", "Nothing\n"), None),
+}
+declared = full("", 'Declare "a{}" "float"\n', share=0.5)
+n = declared.count("\n")
+KINDS["used_in_one_list"] = (full(declared + 'Surface "m" ', '"a{}" 1 ', share=0.7), "-")
+
+with open(os.path.join(to, "ANSWERS"), "w") as answers:
+    for kind, (text, note) in KINDS.items():
+        with open(os.path.join(to, kind + ".rib"), "w") as f:
+            f.write(text)
+        if note is None:
+            note = "kind.rib:%d: S1" % (text.count("\n"))
+        print(kind, note.replace("kind", kind), file=answers)
