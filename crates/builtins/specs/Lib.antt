@@ -1,0 +1,10 @@
+pub mod Numbers
+pub mod Triples
+pub mod Noise
+pub mod Values
+pub mod Formulas
+pub mod Table
+pub mod Shapes
+pub mod Differences
+pub mod Lights
+pub mod Names

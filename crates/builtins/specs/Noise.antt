@@ -1,0 +1,39 @@
+-- Noise: values that a hash gives to the points of the whole-number lattice, blended between them (RenderMan Interface 3.2, Shading
+-- Language, section 15.1; the hash is this program's own).
+use Rattle.std.specs.Prelude.{ℕ, ℤ, pos, ◌/◌, ◌^◌, ◌+ℤ◌, unsigned_abs, [], ◌∷◌, ◌≡◌, refl}
+use Rattle.std.specs.Int.{int_rem_euclid}
+use Rattle.fixed_math.specs.Whole.{floor_by}
+use Rattle.fixed_math.specs.Hash.{hash32}
+use Rattle.fixed_math.specs.declared.vec3.Vec3.{Vec3}
+use Rattle.builtins.specs.Numbers.{mix, hermite}
+
+-- a whole number as a word of 32 bits
+abbrev pub word : ℤ → ℕ
+word n = unsigned_abs (int_rem_euclid n (pos (2 ^ 32)))
+
+-- the value at a point of the lattice: below 1
+unfoldable pub lattice : ℤ → ℤ → ℤ → ℤ
+lattice x y z = pos (hash32 (word x ∷ word y ∷ word z ∷ []) / 2 ^ 16)
+
+-- the part behind the point
+abbrev pub rest : ℤ → ℤ
+rest x = int_rem_euclid x (pos 65536)
+
+-- blended along x between a point of the lattice and the next
+unfoldable pub along_x : ℤ → ℤ → ℤ → ℤ → ℤ
+along_x w x y z = mix (lattice x y z) (lattice (x +ℤ pos 1) y z) w
+
+unfoldable pub along_y : ℤ → ℤ → ℤ → ℤ → ℤ → ℤ
+along_y u v x y z = mix (along_x u x y z) (along_x u x (y +ℤ pos 1) z) v
+
+unfoldable pub along_z : ℤ → ℤ → ℤ → ℤ → ℤ → ℤ → ℤ
+along_z u v w x y z = mix (along_y u v x y z) (along_y u v x y (z +ℤ pos 1)) w
+
+-- the blend of the eight points about p, by how far behind the first of them it lies
+unfoldable pub noise : Vec3 → ℤ
+noise p = along_z (hermite (rest p.x)) (hermite (rest p.y)) (hermite (rest p.z)) (floor_by p.x 65536) (floor_by p.y 65536) (floor_by p.z 65536)
+
+-- at a point of the lattice it is the value there
+noise_at_origin : noise (record { x = pos 0; y = pos 0; z = pos 0 }) ≡ lattice (pos 0) (pos 0) (pos 0)
+unfolding noise along_x along_y along_z lattice mix hermite
+noise_at_origin = refl

@@ -1,0 +1,4 @@
+pub mod Names
+pub mod Code
+pub mod Masked
+pub mod View

@@ -1,0 +1,15 @@
+// The variables in scope.
+use sl_ast::SlType;
+
+/// What is known of a parameter, formal or local: its class and its type.
+#[derive(Clone, Copy, Debug, PartialEq, Eq)]
+pub struct Slot {
+    pub uniform: bool,
+    pub kind: SlType,
+}
+
+/// The variables of a frame, in the order of their registers.
+#[derive(Drop)]
+pub(crate) struct Scope {
+    pub(crate) slots: Vec<Slot>,
+}

@@ -1,0 +1,66 @@
+-- What a shader works on at a point, and what no statement changes.
+use Rattle.std.specs.Prelude.{ℕ, ◌-◌, ◌==◌, pos, Bool, true, false, cond, List, [], ◌∷◌, ◌++◌, length, get_or, set, take}
+use Rattle.fixed_math.specs.declared.vec3.Vec3.{Vec3}
+use Rattle.transforms.specs.declared.spaces.Spaces.{Spaces}
+use Rattle.builtins.specs.Names.{place_of}
+use Rattle.builtins.specs.Differences.{Lines}
+use Rattle.builtins.specs.Lights.{Light}
+use Rattle.sl_ast.specs.declared.kinds.Predefined.{Predefined}
+use Rattle.sl_ast.specs.declared.typed.Variable.{Variable}
+use Rattle.sl_ast.specs.declared.typed.Variable.TheVariants as variables
+use Rattle.sl_ast.specs.declared.typed.Value.{Value}
+use Rattle.sl_ast.specs.declared.typed.Value.TheVariants.{Number}
+
+-- the predefined variables, the parameters, formals and locals by their levels, the turns left for uniform loops and those of its own, and
+-- whether the `illuminate` or `solar` of a light ran lit
+pub record Env : Type 0 where
+  pub named : Predefined → Value
+  pub values : List Value
+  pub turns : ℕ
+  pub own : ℕ
+  pub lit : Bool
+
+-- what no statement changes: the lines of the grid, the named spaces, and the lights
+pub record Around : Type 0 where
+  pub lines : Lines
+  pub spaces : Spaces
+  pub lights : List (Vec3 → Light)
+
+-- a statement ends, or leaves the innermost loop, or goes on with its next turn
+pub data Signal : Type 0 where
+  Next : Signal
+  Break : Signal
+  Continue : Signal
+
+abbrev pub zero_value : Value
+zero_value = Number (pos 0)
+
+abbrev pub read_of : Variable → Env → Value
+read_of (variables.Predefined p) e = e.named p
+read_of (variables.Level k) e = get_or e.values k zero_value
+
+abbrev pub with_name : Predefined → Value → Env → Env
+with_name p v e = record e { named = λ q. cond (place_of p == place_of q) v (e.named q) }
+
+abbrev pub with_variable : Variable → Value → Env → Env
+with_variable (variables.Predefined p) v e = with_name p v e
+with_variable (variables.Level k) v e = record e { values = set e.values k v }
+
+-- with one variable more in scope
+abbrev pub declared : Value → Env → Env
+declared v e = record e { values = e.values ++ v ∷ [] }
+
+abbrev pub budget : Bool → Env → ℕ
+budget u e = cond u e.turns e.own
+
+abbrev pub spend : Bool → Env → Env
+spend true e = record e { turns = e.turns - 1 }
+spend false e = record e { own = e.own - 1 }
+
+-- the variables of e back in scope, after what went on in others
+abbrev pub scope_of : Env → Env → Env
+scope_of e after = record after { values = e.values }
+
+-- the variables that were in scope alone
+abbrev pub cut_to : Env → Env → Env
+cut_to e after = record after { values = take (length e.values) after.values }
