@@ -1,5 +1,5 @@
-//! Tests of what only a call shows: values, memory forms, refused reads and writes, and each public function that takes memory
-//! once with ample memory. What the text of a scene or a shader, or a command's words can show is a case of `conformance`.
+//! Tests of what only a call shows: numbers and texts, the memory forms of files, frames and notes, and surfaces with their maps,
+//! splits and sample places. What a text or a command's words can show is a case of `conformance`.
 #![tactic(auto)]
 
 #[cfg(test)]
