@@ -1,10 +1,12 @@
-//! Tests of what only a call shows: numbers and texts, the memory forms of files, frames and notes, and surfaces with their maps,
-//! splits and sample places. What a text or a command's words can show is a case of `conformance`.
+//! Tests of what only a call shows: numbers and texts, the memory forms of files, frames and notes, tokens and requests, and
+//! surfaces with their maps, splits and sample places. What a text or a command's words can show is a case of `conformance`.
 #![tactic(auto)]
 
 #[cfg(test)]
 mod files;
 #[cfg(test)]
 mod numbers;
+#[cfg(test)]
+mod scene_text;
 #[cfg(test)]
 mod surfaces;

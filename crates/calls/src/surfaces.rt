@@ -5,9 +5,10 @@ ghost use Rattle.bound_split.specs.Decisions.{decision_of};
 ghost use Rattle.bound_split.specs.Leaves.{leaves};
 
 use bound_split::{Decision, Leaf, Walk, decide, halves};
-use dice::positions;
+use bumpalo::Bump;
+use dice::{line_at, placed_derivative, placed_parameter, placed_step, points, positions};
 use fixed_math::{Num, Vec3};
-use patches::{Bilinear, Dyadic, Patch, Piece, Surface};
+use patches::{Bicubic, Bilinear, Dyadic, Patch, Piece, Surface};
 use std::alloc::Global;
 use std::test::Fail;
 use transforms::{Affine, Camera, FormFault, Spaces, View};
@@ -80,6 +81,68 @@ fn points_and_slopes(rt: HostRuntime) -> Result<(), Fail> {
     Ok(())
 }
 
+fn left() -> Vec3
+    ensures { IsWithin (2 ^ 30) result }
+{
+    at(0, 0, 65536)
+}
+
+fn right() -> Vec3
+    ensures { IsWithin (2 ^ 30) result }
+{
+    at(65536, 0, 65536)
+}
+
+/// The patch whose last column of control points alone lies one to the right.
+fn bent() -> Bicubic {
+    Bicubic::new([
+        left(),
+        left(),
+        left(),
+        right(),
+        left(),
+        left(),
+        left(),
+        right(),
+        left(),
+        left(),
+        left(),
+        right(),
+        left(),
+        left(),
+        left(),
+        right(),
+    ])
+}
+
+#[test]
+fn bicubic_points_and_slopes(rt: HostRuntime) -> Result<(), Fail> {
+    let bent = Patch::Bicubic(bent());
+    for (u, v, x, slope) in [
+        (2048, 0, 8192, 49152),
+        (2048, 1365, 8192, 49152),
+        (4096, 4096, 65536, 196608),
+        (0, 2048, 0, 0),
+    ] {
+        let (u, v) = (Dyadic::new(u), Dyadic::new(v));
+        assert_eq!(rt; raws(bent.point(u, v)), (x, 0, 65536));
+        assert_eq!(rt; bent.du_at(u, v), [slope, 0, 0]);
+        assert_eq!(rt; bent.dv_at(u, v), [0, 0, 0]);
+    }
+    let [_, right] = halves(&Piece::whole(0), true);
+    let net = bent.net(&right);
+    assert_eq!(rt; (bent.net_width(), net.len()), (4, 16));
+    for (point, x) in net.iter().zip([8192, 16384, 32768, 65536]) {
+        assert_eq!(rt; raws(*point), (x, 0, 65536));
+    }
+    let [low, high] = bent.box_of(&right);
+    assert_eq!(rt;
+        (raws(low), raws(high)),
+        ((8192, 0, 65536), (65536, 0, 65536))
+    );
+    Ok(())
+}
+
 #[test]
 fn net_and_box(rt: HostRuntime) -> Result<(), Fail> {
     let square = unit_square();
@@ -129,6 +192,38 @@ fn grid_of_a_quarter(rt: HostRuntime) -> Result<(), Fail> {
     for (point, want) in points.iter().zip(want) {
         assert_eq!(rt; raws(*point), want);
     }
+    Ok(())
+}
+
+#[test]
+fn grid_with_normals(rt: HostRuntime) -> Result<(), Fail> {
+    let [_, right] = halves(&Piece::whole(3), true);
+    let [quarter, _] = halves(&right, false);
+    let square = unit_square();
+    let arena = Bump::new(rt.alloc());
+    let grid = points(&arena, &square, &quarter, 2, 0)?;
+    assert_eq!(rt;
+        (grid.columns, grid.rows, grid.p.len(), grid.n.len()),
+        (5, 2, 10, 10)
+    );
+    assert_eq!(rt; raws(grid.p[0]), (32768, 0, 65536));
+    assert_eq!(rt; raws(grid.p[9]), (65536, 32768, 65534));
+    // the derivatives there are (65536, 0, 0) and (0, 65536, -2)
+    assert_eq!(rt; raws(grid.n[0]), (0, 1, 65535));
+    Ok(())
+}
+
+#[test]
+fn places_on_a_primitive(rt: HostRuntime) -> Result<(), Fail> {
+    let middle = line_at(1, 1, 2, 2);
+    assert_eq!(rt; middle.numerator(), 3072);
+    assert_eq!(rt; placed_parameter(1, 3, middle).raw(), 38229);
+    assert_eq!(rt; placed_step(3, 1, 2).raw(), 2730);
+    assert_eq!(rt; placed_step(65536, 8, 4).raw(), 1);
+    assert_eq!(rt;
+        raws(placed_derivative(3, [7, -2, 1 << 30])),
+        (21, -6, 2147483647)
+    );
     Ok(())
 }
 

@@ -6,10 +6,11 @@ ghost use Rattle.dice.specs.Grids.{line_count, line_at, lines, row_points, diced
 
 use fixed_math::{NoMemory, Vec3};
 use patches::{Dyadic, Piece, Surface};
-use std::alloc::Global;
+use std::alloc::{Allocator, Global};
 
-/// The parameter of line `k`, of the lines that cut the part `i` of 2^`a` into 2^`p` cells.
-fn line_at(a: u8, i: u16, p: u8, k: u16) -> Dyadic
+/// The parameter of line `k`, of the lines that cut the part `i` of 2^`a` into 2^`p` cells. It is that of column `k` of a diced
+/// grid with a piece's `a` and `i`, and that of row `k` with `b` and `j`.
+pub fn line_at(a: u8, i: u16, p: u8, k: u16) -> Dyadic
     requires depth { a ≤ 8 }
     requires place { i < 2 ^ a }
     requires cells { p ≤ 4 }
@@ -22,8 +23,8 @@ fn line_at(a: u8, i: u16, p: u8, k: u16) -> Dyadic
 }
 
 /// Appends the row of the grid at `v`.
-fn push_row<S: Surface>(
-    points: &mut Vec<Vec3>,
+fn push_row<S: Surface, A: Allocator>(
+    points: &mut Vec<Vec3, A>,
     s: &S,
     piece: &Piece,
     p: u8,
@@ -42,6 +43,29 @@ fn push_row<S: Surface>(
     Ok(())
 }
 
+/// The points of a diced grid, by rows.
+pub(crate) fn collect_points<S: Surface, A: Allocator>(
+    alloc: A,
+    s: &S,
+    piece: &Piece,
+    p: u8,
+    q: u8,
+) -> Result<Vec<Vec3, A>, NoMemory>
+    requires columns { p ≤ 4 }
+    requires rows { q ≤ 4 }
+    ensures value { IfOk result (λ points. points.items ≡ diced_points (S.point_of s.now) piece.now p q) }
+    ensures count { IfOk result (λ points. length points.items ≡ line_count p * line_count q) }
+    ensures small { IfOk result (λ points. Each (IsWithin (2 ^ 30)) points.items) }
+{
+    let mut points = Vec::new(alloc);
+    let cells: u16 = 1 << q;
+    for l in 0..cells + 1 {
+        let v = line_at(piece.b, piece.j, q, l);
+        push_row(&mut points, s, piece, p, v)?;
+    }
+    Ok(points)
+}
+
 /// The points of the diced grid of a leaf: 2^`p` + 1 columns by 2^`q` + 1 rows, by rows, u fastest. Coordinates are raw and
 /// have a magnitude of at most 2^30. `p` and `q` are at most 4.
 pub fn positions<S: Surface>(
@@ -57,11 +81,5 @@ pub fn positions<S: Surface>(
     ensures count { IfOk result (λ points. length points.items ≡ line_count p * line_count q) }
     ensures small { IfOk result (λ points. Each (IsWithin (2 ^ 30)) points.items) }
 {
-    let mut points = Vec::new(alloc);
-    let cells: u16 = 1 << q;
-    for l in 0..cells + 1 {
-        let v = line_at(piece.b, piece.j, q, l);
-        push_row(&mut points, s, piece, p, v)?;
-    }
-    Ok(points)
+    collect_points(alloc, s, piece, p, q)
 }

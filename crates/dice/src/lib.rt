@@ -1,6 +1,11 @@
-//! Dicing: the grid of points that a leaf of a surface is shaded on.
+//! Dicing: the grid of points with normals that a leaf of a surface is shaded on, and what a shader reads of a point's place in it.
 #![tactic(auto)]
 
+mod diced;
 mod grid;
+mod normals;
+mod parameters;
 
-pub use grid::positions;
+pub use diced::{Diced, GridRef, points};
+pub use grid::{line_at, positions};
+pub use parameters::{placed_derivative, placed_parameter, placed_step};

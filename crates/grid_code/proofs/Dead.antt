@@ -1,7 +1,7 @@
 -- A place that isn't live keeps its rows and its budget.
-use Rattle.std.proofs.Common.{◌≡◌, ℕ, zero, suc, ◌+◌, ◌-◌, Bool, true, false, cond, refl, sym, ap, ◌∙◌, List, [], ◌∷◌}
-use Rattle.std.specs.Prelude.{not, ◌&&◌, ◌||◌, ◌==◌, Option, Some, None, is_some}
-use Rattle.std.proofs.lemmas.Bool.{cases_Bool, and_left, and_right, cond-false, cond_both}
+use Rattle.std.proofs.Common.{◌≡◌, ℕ, zero, suc, Bool, true, false, refl, ap, ◌∙◌, List, [], ◌∷◌}
+use Rattle.std.specs.Prelude.{not, ◌&&◌, ◌||◌, ◌==◌, Option, is_some}
+use Rattle.std.proofs.lemmas.Bool.{and_left, and_right, cond-false, cond_both}
 use Rattle.fixed_math.specs.declared.vec3.Vec3.{Vec3}
 use Rattle.sl_ast.specs.declared.kinds.Predefined.TheVariants as names
 use Rattle.sl_ast.specs.declared.kinds.LightStmt.{LightStmt}
@@ -14,10 +14,9 @@ use Rattle.builtins.specs.Differences.{difference}
 use Rattle.builtins.specs.Lights.{is_in_cone, sum_of}
 use Rattle.grid_code.specs.declared.code.Register.{Register}
 use Rattle.grid_code.specs.declared.code.Register.TheVariants.{Uniform, Varying}
-use Rattle.grid_code.specs.declared.code.Source.{Source}
 use Rattle.grid_code.specs.Names.{name_at, lit_at}
 use Rattle.grid_code.specs.Code.{Block, end, put, differ, sum, branch, loops, lights, breaks, continues}
-use Rattle.grid_code.specs.Masked.{Ground, State, any, same_shape, read, reads, result_of, write, under, both_parts, one_part, take_turn, going, turn, turns_of, looped, all_answers, towards, colour_of, entered, under_lights, views, kindled, illuminated, from_light, over_lights, masked}
+use Rattle.grid_code.specs.Masked.{Ground, State, any, same_shape, read, reads, result_of, write, under, both_parts, one_part, take_turn, going, turn, turns_of, looped, all_answers, towards, colour_of, entered, under_lights, views, kindled, from_light, over_lights, masked}
 
 pub record Kept (i : ℕ) (g h : State) : Type 0 where
   pub rows : (t : Shape) (k : ℕ) → h.rows t k i ≡ g.rows t k i

@@ -1,3 +1,6 @@
 pub mod Dead
 pub mod Asleep
 pub mod Then
+pub mod Found
+pub mod Both
+pub mod ValidThen

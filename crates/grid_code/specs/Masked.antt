@@ -1,24 +1,19 @@
 -- What grid code does under a mask. Places go by rows; `c` is their number, and `n` only bounds the definition, since each turn of a loop
 -- takes one from a budget that is at most as great.
-use Rattle.std.specs.Prelude.{ℕ, zero, suc, ◌-◌, ◌==◌, Bool, true, false, cond, not, ◌&&◌, ◌||◌, nat_lt, pos, List, [], ◌∷◌, Option, Some, None, is_some, map}
+use Rattle.std.specs.Prelude.{ℕ, zero, suc, ◌-◌, ◌==◌, Bool, true, false, cond, not, ◌&&◌, ◌||◌, nat_lt, List, [], ◌∷◌, Option, Some, None, is_some}
 use Rattle.fixed_math.specs.Fixed.{sub}
 use Rattle.fixed_math.specs.Axes.{origin}
 use Rattle.fixed_math.specs.declared.vec3.Vec3.{Vec3}
 use Rattle.transforms.specs.declared.spaces.Spaces.{Spaces}
-use Rattle.sl_ast.specs.declared.kinds.Predefined.{Predefined}
 use Rattle.sl_ast.specs.declared.kinds.Predefined.TheVariants as names
 use Rattle.sl_ast.specs.declared.kinds.LightStmt.{LightStmt}
 use Rattle.sl_ast.specs.declared.kinds.LightStmt.TheVariants.{Illuminance, Illuminate, Solar}
-use Rattle.sl_ast.specs.declared.operations.Difference.{Difference}
-use Rattle.sl_ast.specs.declared.operations.LightSum.{LightSum}
 use Rattle.sl_ast.specs.declared.typed.Value.{Value}
-use Rattle.sl_ast.specs.declared.typed.Value.TheVariants.{Number, Triple}
-use Rattle.sl_ast.specs.Names.{name_type}
-use Rattle.sl_ast.specs.Classes.{is_uniform_name}
+use Rattle.sl_ast.specs.declared.typed.Value.TheVariants.{Triple}
 use Rattle.builtins.specs.declared.shape.Shape.{Shape}
 use Rattle.builtins.specs.declared.shape.Shape.TheVariants as shapes
 use Rattle.builtins.specs.Triples.{each_two}
-use Rattle.builtins.specs.Values.{shape_of, as_shape, is_true, triple_of, truth}
+use Rattle.builtins.specs.Values.{as_shape, is_true, triple_of, truth}
 use Rattle.builtins.specs.Table.{applied}
 use Rattle.builtins.specs.Differences.{Lines, difference}
 use Rattle.builtins.specs.Lights.{Light, is_in_cone, shown, sum_of}

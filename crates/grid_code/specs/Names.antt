@@ -1,7 +1,6 @@
 -- The registers of the predefined variables, and of whether a light is lit.
 use Rattle.std.specs.Prelude.{ℕ, Bool, true, false}
 use Rattle.sl_ast.specs.declared.kinds.Predefined.{Predefined}
-use Rattle.sl_ast.specs.declared.kinds.Predefined.TheVariants as names
 use Rattle.sl_ast.specs.Names.{name_type}
 use Rattle.sl_ast.specs.Classes.{is_uniform_name}
 use Rattle.builtins.specs.declared.shape.Shape.{Shape}

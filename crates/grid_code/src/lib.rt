@@ -2,5 +2,12 @@
 #![tactic(auto)]
 
 mod code;
+mod register_set;
+mod registers;
+mod shader_code;
+mod slot;
 
 pub use code::{Node, Register, Source};
+pub use register_set::RegisterSet;
+pub use shader_code::Code;
+pub use slot::Slot;

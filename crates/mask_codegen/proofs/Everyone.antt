@@ -32,9 +32,8 @@ use Rattle.mask_codegen.proofs.Lands.{AllWent, AllLands, AllStmt, AllBody, into_
 
 module _ (c : ℕ) (pos : 0 < c) (ss : List Slot) (b : ℕ) (free : first_free ≤ b) where
   -- a variable of either class takes a value
-  pub all_assign : (g0 : Ground) (x : Variable) (v : Bool) (t : Shape) (kind : SlType) (va : GivesAll Value) (g g1 : State) → InScope x ss → (class_in x ss ≡ true → v ≡ true) → (AllDead c g.live → Asleep c g (write c (variable ss b x) (result_of (Into (shape_of kind) (reg v t (b + length ss))) g0 g1) g1)) → AllExpr c ss b (b + length ss) (reg v t (b + length ss)) va g g1 → AllStmt c ss ss b (λ es. let y = va es in (Next, λ i. with_variable x (as_kind kind (y.0 i)) (y.1 i))) g (write c (variable ss b x) (result_of (Into (shape_of kind) (reg v t (b + length ss))) g0 g1) g1)
-  all_assign g0 x v t kind va g g1 in_scope takes sleeps sa =
-      let m = b + length ss in
+  pub all_assign : (g0 : Ground) (m : ℕ) → b + length ss ≤ m → (x : Variable) (v : Bool) (t : Shape) (kind : SlType) (va : GivesAll Value) (g g1 : State) → InScope x ss → (class_in x ss ≡ true → v ≡ true) → (AllDead c g.live → Asleep c g (write c (variable ss b x) (result_of (Into (shape_of kind) (reg v t m)) g0 g1) g1)) → AllExpr c ss b m (reg v t m) va g g1 → AllStmt c ss ss b (λ es. let y = va es in (Next, λ i. with_variable x (as_kind kind (y.0 i)) (y.1 i))) g (write c (variable ss b x) (result_of (Into (shape_of kind) (reg v t m)) g0 g1) g1)
+  all_assign g0 m fit x v t kind va g g1 in_scope takes sleeps sa =
       let f = result_of (Into (shape_of kind) (reg v t m)) g0 g1 in
       let h = write c (variable ss b x) f g1 in
       let wr : (i : ℕ) → Wrote i (index b x) g1 h = λ i. wrote_variable c i ss b x f g1 in

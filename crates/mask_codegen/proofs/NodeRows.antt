@@ -49,3 +49,19 @@ module _ (xs ys : List Node) where
 
   pub lights_pushed : (w : LightStmt) (qs : List Register) (b : List Node) → ys ≡ xs ++ Lights w qs b ∷ [] → block_of ys ≡ block_of xs then c.lights w qs (block_of b) c.end
   lights_pushed w qs b h = block_pushed xs ys (Lights w qs b) h ∙ ap (λ x. block_of xs then c.lights w qs x c.end) (held_block b)
+
+-- nodes that hold lists, and a node before others
+pub branch_shown : (n : Node) (t : Register) (a b : List Node) → n ≡ If t a b → with_node n c.end ≡ c.branch t (block_of a) (block_of b) c.end
+branch_shown n t a b h =
+    ap (λ x. with_node x c.end) h ∙ ap (λ x. c.branch t x (row_block (hidden-the_row-Node-0 b)) c.end) (held_block a) ∙ ap (λ x. c.branch t (block_of a) x c.end) (held_block b)
+
+pub loop_shown : (n : Node) (u : Bool) (d : List Node) (t : Register) (s b : List Node) → n ≡ Loop u d t s b → with_node n c.end ≡ c.loops u (block_of d) t (block_of s) (block_of b) c.end
+loop_shown n u d t s b h =
+    ap (λ x. with_node x c.end) h ∙ ap (λ x. c.loops u x t (row_block (hidden-the_row-Node-0 s)) (row_block (hidden-the_row-Node-0 b)) c.end) (held_block d) ∙
+    ap (λ x. c.loops u (block_of d) t x (row_block (hidden-the_row-Node-0 b)) c.end) (held_block s) ∙ ap (λ x. c.loops u (block_of d) t (block_of s) x c.end) (held_block b)
+
+pub lights_shown : (n : Node) (w : LightStmt) (qs : List Register) (b : List Node) → n ≡ Lights w qs b → with_node n c.end ≡ c.lights w qs (block_of b) c.end
+lights_shown n w qs b h = ap (λ x. with_node x c.end) h ∙ ap (λ x. c.lights w qs x c.end) (held_block b)
+
+pub node_before : (n : Node) (x : Block) → with_node n c.end then x ≡ with_node n x
+node_before n x = with_node_then n c.end x

@@ -46,11 +46,10 @@ place_small names.Ps = omega arith
 place_small names.Pi = omega arith
 
 -- the predefined variable at a place
-name_with : ℕ → Predefined
+abbrev pub name_with : ℕ → Predefined
 name_with k = get_or (names.P ∷ names.N ∷ names.Ng ∷ names.I ∷ names.E ∷ names.U ∷ names.V ∷ names.Du ∷ names.Dv ∷ names.S ∷ names.T ∷ names.Cs ∷ names.Os ∷ names.DPdu ∷ names.DPdv ∷ names.L ∷ names.Cl ∷ names.Ci ∷ names.Oi ∷ names.Ps ∷ names.Pi ∷ []) k names.P
 
-name_back : (p : Predefined) → name_with (place_of p) ≡ p
-unfolding name_with
+pub name_back : (p : Predefined) → name_with (place_of p) ≡ p
 name_back names.P = refl
 name_back names.N = refl
 name_back names.Ng = refl

@@ -6,7 +6,7 @@ use Rattle.grid_code.specs.Masked.{State, read}
 use Rattle.sl_meaning.specs.Core.{Slot, slot, no_slot, Stmt, declare, assign, block, test, repeat, lights, leave, again, Stmts, done, first, after, after_all}
 use Rattle.sl_meaning.specs.Environment.{Env, Signal, Next, Break, Continue, zero_value}
 use Rattle.sl_meaning.specs.Alone.{Runs, inside, on_next}
-use Rattle.mask_codegen.specs.Compile.{slot_at}
+use Rattle.mask_codegen.specs.Compile.{slot_at, locals}
 use Rattle.mask_codegen.specs.Correct.{Holds}
 use Rattle.grid_code.proofs.Dead.{Still, still_on}
 use Rattle.mask_codegen.proofs.Relation.{Low, low_on, rel_still}
@@ -34,6 +34,17 @@ extends_stmt again ss = extends_self ss
 pub extends_all : (s : Stmts) (ss : List Slot) → Extends ss (after_all s ss)
 extends_all done ss = extends_self ss
 extends_all (first s rest) ss = extends_on ss (after s ss) _ (extends_stmt s ss) (extends_all rest (after s ss))
+
+-- how long the scope is behind a statement
+pub after_long : (s : Stmt) (ss : List Slot) → length (after s ss) ≤ length ss + locals s
+after_long (declare u kind e) ss = omega (arith, length-append ss (slot u kind ∷ []))
+after_long (assign x kind e) ss = omega arith
+after_long (block s) ss = omega arith
+after_long (test e s t) ss = omega arith
+after_long (repeat u e t s) ss = omega arith
+after_long (lights w args s) ss = omega arith
+after_long leave ss = omega arith
+after_long again ss = omega arith
 
 pub rel_prefix : (i : ℕ) (ss ss' : List Slot) (b : ℕ) (e : Env) (g : State) → Extends ss ss' → Holds i ss' b e g → Holds i ss b e g
 rel_prefix i ss ss' b e g x r =

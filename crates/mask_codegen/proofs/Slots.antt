@@ -2,7 +2,7 @@
 use Rattle.std.proofs.Common.{◌≡◌, ℕ, ◌<◌, List, [], ◌∷◌, ◌++◌, length, get_or, take, sym, ap, ◌∙◌}
 use Rattle.std.proofs.lemmas.List.{length-map, get_or-map, map_push, take-map}
 use Rattle.sl_meaning.specs.Core.{no_slot}
-use Rattle.mask_codegen.specs.declared.slot.Slot.{Slot}
+use Rattle.grid_code.specs.declared.slot.Slot.{Slot}
 use Rattle.mask_codegen.specs.Slots.{slot_of, slots_of}
 
 pub length_slots : (ss : List Slot) → length (slots_of ss) ≡ length ss

@@ -205,15 +205,14 @@ module _ (c i : ℕ) (lt : i < c) (g0 : Ground) where
   varying_shared ss b x f g kind s k =
       ap (λ q. (write c q f g).shared s k) (variable_at ss b x ∙ ap (λ u. reg u (shape_of (kind_in x ss)) (index b x)) kind)
 
-  pub assign_step : (ss : List Slot) (b : ℕ) (x : Variable) (w : Bool) (t : Shape) (kind : SlType) (va : Gives Value) (g g1 : State) → first_free ≤ b → InScope x ss → class_in x ss ≡ false → (g.live i ≡ false → Still i g (write c (variable ss b x) (result_of (Into (shape_of kind) (reg w t (b + length ss))) g0 g1) g1)) → ExprStep i ss b (b + length ss) (reg w t (b + length ss)) va g g1 → StmtStep i ss ss b (λ e. (Next, with_variable x (as_kind kind (va e).0) (va e).1)) g (write c (variable ss b x) (result_of (Into (shape_of kind) (reg w t (b + length ss))) g0 g1) g1)
-  assign_step ss b x w t kind va g g1 free in_scope class still sa =
-      let m = b + length ss in
+  pub assign_step : (ss : List Slot) (b m : ℕ) (x : Variable) (w : Bool) (t : Shape) (kind : SlType) (va : Gives Value) (g g1 : State) → first_free ≤ b → b + length ss ≤ m → InScope x ss → class_in x ss ≡ false → (g.live i ≡ false → Still i g (write c (variable ss b x) (result_of (Into (shape_of kind) (reg w t m)) g0 g1) g1)) → ExprStep i ss b m (reg w t m) va g g1 → StmtStep i ss ss b (λ e. (Next, with_variable x (as_kind kind (va e).0) (va e).1)) g (write c (variable ss b x) (result_of (Into (shape_of kind) (reg w t m)) g0 g1) g1)
+  assign_step ss b m x w t kind va g g1 free fit in_scope class still sa =
       let f = result_of (Into (shape_of kind) (reg w t m)) g0 g1 in
       let g2 = write c (variable ss b x) f g1 in
       let wr = wrote_variable c i ss b x f g1 in
       record {
         low = record {
-          shared = λ s k l. varying_shared ss b x f g1 class s k ∙ sa.low.shared s k l;
+          shared = λ s k l. varying_shared ss b x f g1 class s k ∙ sa.low.shared s k (omega arith);
           rows = λ s k a l. wr.rows s k (index_apart b x k a l) ∙ sa.low.rows s k a (omega arith);
           turns = wr.turns ∙ sa.low.turns;
         };

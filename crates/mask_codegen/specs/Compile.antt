@@ -1,6 +1,7 @@
 -- The code of a core tree. A frame is the variables in scope, from a register on: variable k of the frame is register b + k of its class and
--- shape. The value of an expression goes into register r, and what it needs on the way into those from r on. The registers below `first_free`
--- are those of the predefined variables.
+-- shape. The value of an expression goes into register r, and what it needs on the way into those from r on. What an assignment needs goes into
+-- those from register t on, behind all variables of the frame: so a frame's assignments share their registers, however many variables stand
+-- in scope. The registers below `first_free` are those of the predefined variables.
 use Rattle.std.specs.Prelude.{ℕ, ◌+◌, List, [], ◌∷◌, length, get_or}
 use Rattle.sl_ast.specs.declared.kinds.SlType.{SlType}
 use Rattle.sl_ast.specs.declared.operations.Difference.TheVariants as differences
@@ -12,7 +13,7 @@ use Rattle.builtins.specs.Values.{shape_of}
 use Rattle.builtins.specs.Shapes.{shape, part_shape, shape_applied}
 use Rattle.grid_code.specs.declared.code.Register.{Register}
 use Rattle.grid_code.specs.declared.code.Source.TheVariants.{Constant, Copy, Into, Apply}
-use Rattle.grid_code.specs.Names.{reg, name_at}
+use Rattle.grid_code.specs.Names.{reg, name_at, first_free}
 use Rattle.grid_code.specs.Code as c
 use Rattle.grid_code.specs.Code.{Block, ◌then◌}
 use Rattle.sl_meaning.specs.Core.{Slot, no_slot, Expr, literal, read, apply, differ, sum, call, Exprs, none, more, Arguments, no_arguments, argument, Stmt, declare, assign, block, test, repeat, lights, leave, again, Stmts, done, first, formals, after, after_all, is_uniform, kind_in}
@@ -56,6 +57,26 @@ count (more e rest) = 1 + count rest
 abbrev pub into : Register → SlType → Register → Block
 into to kind from = c.put to (Into (shape_of kind) from) c.end
 
+-- how many variables statements declare, but for those of calls
+abbrev mutual
+  pub locals : Stmt → ℕ
+  locals (declare u kind e) = 1
+  locals (assign x kind e) = 0
+  locals (block s) = all_locals s
+  locals (test t x y) = all_locals x + all_locals y
+  locals (repeat u t e s) = all_locals e + all_locals s
+  locals (lights w args s) = all_locals s
+  locals leave = 0
+  locals again = 0
+
+  pub all_locals : Stmts → ℕ
+  all_locals done = 0
+  all_locals (first s rest) = locals s + all_locals rest
+
+-- the first register behind all variables of a frame that begins at b with these in scope
+abbrev pub behind : List Slot → ℕ → Stmts → ℕ
+behind ss b s = b + length ss + all_locals s
+
 abbrev mutual
   pub expr_code : Expr → List Slot → ℕ → ℕ → Block
   expr_code (literal v) ss b r = c.put (at (literal v) ss r) (Constant v) c.end
@@ -64,7 +85,7 @@ abbrev mutual
   expr_code (differ d e) ss b r = expr_code e ss b r then c.differ (at (differ d e) ss r) d (at e ss r) c.end
   expr_code (sum s args) ss b r = exprs_code args ss b r then c.sum (at (sum s args) ss r) s (all_at args ss r) c.end
   expr_code (call args body kind e) ss b r =
-      args_code args ss b r then (all_code body (formals args) r then
+      args_code args ss b r then (all_code body (formals args) r (behind (formals args) r body) then
       (expr_code e (after_all body (formals args)) r (r + length (after_all body (formals args))) then
       into (at (call args body kind e) ss r) kind (at e (after_all body (formals args)) (r + length (after_all body (formals args))))))
 
@@ -77,16 +98,20 @@ abbrev mutual
   args_code no_arguments ss b r = c.end
   args_code (argument u kind e rest) ss b r = expr_code e ss b r then (into (reg u (shape_of kind) r) kind (at e ss r) then args_code rest ss b (r + 1))
 
-  pub stmt_code : Stmt → List Slot → ℕ → Block
-  stmt_code (declare u kind e) ss b = expr_code e ss b (b + length ss) then into (reg u (shape_of kind) (b + length ss)) kind (at e ss (b + length ss))
-  stmt_code (assign x kind e) ss b = expr_code e ss b (b + length ss) then into (variable ss b x) kind (at e ss (b + length ss))
-  stmt_code (block s) ss b = all_code s ss b
-  stmt_code (test t x y) ss b = expr_code t ss b (b + length ss) then c.branch (at t ss (b + length ss)) (all_code x ss b) (all_code y ss b) c.end
-  stmt_code (repeat u t e s) ss b = c.loops u (expr_code t ss b (b + length ss)) (at t ss (b + length ss)) (all_code e ss b) (all_code s ss b) c.end
-  stmt_code (lights w args s) ss b = exprs_code args ss b (b + length ss) then c.lights w (all_at args ss (b + length ss)) (all_code s ss b) c.end
-  stmt_code leave ss b = c.breaks c.end
-  stmt_code again ss b = c.continues c.end
+  pub stmt_code : Stmt → List Slot → ℕ → ℕ → Block
+  stmt_code (declare u kind e) ss b t = expr_code e ss b (b + length ss) then into (reg u (shape_of kind) (b + length ss)) kind (at e ss (b + length ss))
+  stmt_code (assign x kind e) ss b t = expr_code e ss b t then into (variable ss b x) kind (at e ss t)
+  stmt_code (block s) ss b t = all_code s ss b t
+  stmt_code (test q x y) ss b t = expr_code q ss b (b + length ss) then c.branch (at q ss (b + length ss)) (all_code x ss b t) (all_code y ss b t) c.end
+  stmt_code (repeat u q e s) ss b t = c.loops u (expr_code q ss b (b + length ss)) (at q ss (b + length ss)) (all_code e ss b t) (all_code s ss b t) c.end
+  stmt_code (lights w args s) ss b t = exprs_code args ss b (b + length ss) then c.lights w (all_at args ss (b + length ss)) (all_code s ss b t) c.end
+  stmt_code leave ss b t = c.breaks c.end
+  stmt_code again ss b t = c.continues c.end
 
-  pub all_code : Stmts → List Slot → ℕ → Block
-  all_code done ss b = c.end
-  all_code (first s rest) ss b = stmt_code s ss b then all_code rest (after s ss) b
+  pub all_code : Stmts → List Slot → ℕ → ℕ → Block
+  all_code done ss b t = c.end
+  all_code (first s rest) ss b t = stmt_code s ss b t then all_code rest (after s ss) b t
+
+-- the code of a shader's body, whose parameters are in scope
+abbrev pub shader_code : Stmts → List Slot → Block
+shader_code body ss = all_code body ss first_free (behind ss first_free body)

@@ -4,3 +4,6 @@ pub mod Sizes
 pub mod Slots
 pub mod Registers
 pub mod Correct
+pub mod Room
+pub mod Collected
+pub mod Compiled

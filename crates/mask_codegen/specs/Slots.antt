@@ -1,7 +1,7 @@
 -- The variables in scope, as the core tree has them.
 use Rattle.std.specs.Prelude.{List, map}
 use Rattle.sl_meaning.specs.Core as core
-use Rattle.mask_codegen.specs.declared.slot.Slot.{Slot}
+use Rattle.grid_code.specs.declared.slot.Slot.{Slot}
 use Rattle.mask_codegen.specs.declared.slot.Scope.{Scope}
 
 abbrev pub slot_of : Slot → core.Slot

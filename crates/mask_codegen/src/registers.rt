@@ -3,6 +3,7 @@ ghost use Rattle.std.specs.Prelude.{◌≡◌};
 ghost use Rattle.builtins.specs.Names.{place_of};
 ghost use Rattle.builtins.specs.Shapes as shapes;
 ghost use Rattle.grid_code.specs.Names.{reg};
+ghost use Rattle.grid_code.specs.Shapes as of_registers;
 ghost use Rattle.mask_codegen.specs.Registers as spec;
 
 use builtins::{Shape, shape_applied};
@@ -20,7 +21,7 @@ pub(crate) fn register(uniform: bool, shape: Shape, number: u32) -> Register
 }
 
 pub(crate) fn is_uniform(register: Register) -> bool
-    ensures { result ≡ spec.register_class register }
+    ensures { result ≡ of_registers.register_class register }
 {
     match register {
         Register::Uniform(_, _) => true,
@@ -29,7 +30,7 @@ pub(crate) fn is_uniform(register: Register) -> bool
 }
 
 fn shape(register: Register) -> Shape
-    ensures { result ≡ spec.register_shape register }
+    ensures { result ≡ of_registers.register_shape register }
 {
     match register {
         Register::Uniform(shape, _) | Register::Varying(shape, _) => shape,
@@ -37,7 +38,7 @@ fn shape(register: Register) -> Shape
 }
 
 pub(crate) fn are_uniform(registers: &[Register]) -> bool
-    ensures { result ≡ spec.are_uniform_registers registers.now }
+    ensures { result ≡ of_registers.are_uniform_registers registers.now }
 {
     for register in registers {
         if !is_uniform(*register) {
@@ -48,7 +49,7 @@ pub(crate) fn are_uniform(registers: &[Register]) -> bool
 }
 
 fn applied_shape(op: ValueOperation, operands: &[Register]) -> Shape
-    ensures { result ≡ shapes.shape_applied op (spec.register_shapes operands.now) }
+    ensures { result ≡ shapes.shape_applied op (of_registers.register_shapes operands.now) }
 {
     match operands {
         [a] => shape_applied(op, &[shape(*a)]),

@@ -6,10 +6,10 @@ ghost use Rattle.mask_codegen.specs.Fine.{InScope};
 ghost use Rattle.mask_codegen.specs.Slots.{slots_of, scope_of};
 
 use crate::registers::{place, register};
-use crate::slot::{Scope, Slot};
+use crate::slot::Scope;
 use builtins::shape_of;
 use fixed_math::NoMemory;
-use grid_code::Register;
+use grid_code::{Register, Slot};
 use sl_ast::{SlType, Variable};
 use std::alloc::Global;
 

@@ -1,10 +1,11 @@
 -- What the code's chains of exact steps give, where nothing wraps.
-use Rattle.std.proofs.Common.{◌≡◌, ◌∙◌, ap, refl, ℕ, ◌+◌, ◌-◌, ◌*◌, ◌^◌, ◌≤◌, ℤ, pos, ◌-ℤ◌, ◌+ℤ◌, ◌*ℤ◌, unsigned_abs, to_z, of_z, arith, lit<}
+use Rattle.std.proofs.Common.{◌≡◌, ◌∙◌, ap, refl, ℕ, zero, suc, [], ◌∷◌, ◌+◌, ◌-◌, ◌*◌, ◌^◌, ◌≤◌, ℤ, pos, ◌-ℤ◌, ◌+ℤ◌, ◌*ℤ◌, unsigned_abs, to_z, of_z, arith, lit<}
 use Rattle.std.specs.Int.{w64, w128}
 use Rattle.std.proofs.lemmas.Int.{ints, to_z-of_z, fits_signed_from_abs}
 use Rattle.fixed_math.specs.Blossom.{denominator, mix}
 use Rattle.fixed_math.specs.Whole.{floor_by}
 use Rattle.fixed_math.proofs.Fits.{mix_abs, floor_abs}
+use Rattle.patches.specs.Slopes.{AreBelow}
 
 pub same_128 : (z : ℤ) → unsigned_abs z ≤ 2 ^ 60 → to_z w128 (of_z w128 z) ≡ z
 same_128 z h = to_z-of_z w128 z (fits_signed_from_abs w128 z (omega arith))
@@ -46,3 +47,14 @@ one_weight p s x y = let e : pos 1 *ℤ x +ℤ pos 0 ≡ x = omega (arith, ints)
 
 pub one_column : (p s : ℕ) (x y : ℤ) → pos 1 *ℤ (pos p *ℤ x +ℤ (pos s *ℤ y +ℤ pos 0)) +ℤ pos 0 ≡ pos p *ℤ x +ℤ pos s *ℤ y
 one_column p s x y = omega (arith, ints)
+
+-- the three slopes of a point
+pub slopes_below : (x y z : ℤ) → unsigned_abs x ≤ 2 ^ 40 → unsigned_abs y ≤ 2 ^ 40 → unsigned_abs z ≤ 2 ^ 40 →
+    AreBelow (2 ^ 40) (to_z w64 (of_z w64 x) ∷ to_z w64 (of_z w64 y) ∷ to_z w64 (of_z w64 z) ∷ [])
+slopes_below x y z a b c = rw (same_64 x (omega arith), same_64 y (omega arith), same_64 z (omega arith)) (below x y z a b c)
+  where
+    below : (x y z : ℤ) → unsigned_abs x ≤ 2 ^ 40 → unsigned_abs y ≤ 2 ^ 40 → unsigned_abs z ≤ 2 ^ 40 → AreBelow (2 ^ 40) (x ∷ y ∷ z ∷ [])
+    below x y z a b c zero = a
+    below x y z a b c (suc zero) = b
+    below x y z a b c (suc (suc zero)) = c
+    below x y z a b c (suc (suc (suc k))) = omega arith

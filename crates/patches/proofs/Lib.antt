@@ -1,2 +1,3 @@
+pub mod Cubics
 pub mod Fractions
 pub mod Spans

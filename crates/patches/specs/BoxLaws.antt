@@ -8,14 +8,14 @@ use Rattle.fixed_math.specs.declared.vec3.Axis.{Axis}
 use Rattle.fixed_math.specs.declared.vec3.Axis.TheVariants.{X, Y, Z}
 use Rattle.fixed_math.specs.Axes.{part_of, by_axes, least, greatest, AreWithin}
 use Rattle.fixed_math.specs.Blossom.{denominator, ends, AllFromTo, whole}
-use Rattle.fixed_math.specs.Tensor.{blossom_net, weighted_net, weights_1}
+use Rattle.fixed_math.specs.Tensor.{blossom_net, weighted_net, weights_1, weights_3}
 use Rattle.fixed_math.specs.Whole.{floor_by}
 use Rattle.fixed_math.proofs.Weights.{floor_ge, floor_lt, le_floor, floor_below}
 use Rattle.fixed_math.proofs.Fits.{blossom_net_abs, floor_abs}
-use Rattle.fixed_math.proofs.Tensors.{net_low, net_high, weighted_net_1, length-ends, ends_from_to}
+use Rattle.fixed_math.proofs.Tensors.{net_low, net_high, weighted_net_1, weighted_net_3, length-ends, ends_from_to}
 use Rattle.patches.specs.Rects.{Rect, IsRect, IsInside}
 use Rattle.patches.specs.Lists.{Each}
-use Rattle.patches.specs.Nets.{control, blossom_point, all_ends, net_points, bilinear_point, bilinear_net}
+use Rattle.patches.specs.Nets.{control, blossom_point, all_ends, net_points, bilinear_point, bilinear_net, bicubic_point, bicubic_net}
 use Rattle.patches.specs.Boxes.{Box, corners, IsWithin, least_box, Holds, IsOrdered, PointsLieInBoxes, PartsLieInBoxes, NetsHaveRows}
 use Rattle.patches.specs.ListLaws.{Each-grid, grid-Each, Each-weaken, fold_min_below, fold_max_above, fold_min_from, fold_max_to}
 
@@ -196,3 +196,26 @@ bilinear_parts ps q r hq hr part = corners_in_box (bilinear_net ps r) (bilinear_
 
 pub bilinear_rows : NetsHaveRows (λ _. 2) bilinear_net
 bilinear_rows ps r = record { wide = lit< tt; some = lit< tt; rows = refl }
+
+-- ---- the bicubic patch
+abbrev pub bicubic_box : List Vec3 → Rect → Box
+bicubic_box ps r = least_box (bicubic_net ps r)
+
+pub bicubic_point-blossom : (ps : List Vec3) (u v : ℕ) → bicubic_point ps u v ≡ blossom_point 4 (denominator ^ 6) ps (u ∷ u ∷ u ∷ []) (v ∷ v ∷ v ∷ [])
+bicubic_point-blossom ps u v =
+    by_axes_same (λ a. floor_by (weighted_net (weights_3 u) (weights_3 v) (control 4 ps a)) (denominator ^ 6))
+    (λ a. floor_by (blossom_net (u ∷ u ∷ u ∷ []) (v ∷ v ∷ v ∷ []) (control 4 ps a)) (denominator ^ 6))
+    (λ a. ap (λ z. floor_by z (denominator ^ 6)) (weighted_net_3 u v (control 4 ps a)))
+
+pub bicubic_inside : PointsLieInBoxes bicubic_point bicubic_box
+bicubic_inside ps r u v hr at_ =
+    rw (bicubic_point-blossom ps u v)
+    (blossom_in_box 3 4 (denominator ^ 6) ps r (u ∷ u ∷ u ∷ []) (v ∷ v ∷ v ∷ []) (lit< tt) hr.right_in hr.top_in refl refl
+    (at_.from_left, at_.to_right, (at_.from_left, at_.to_right, (at_.from_left, at_.to_right, tt)))
+    (at_.from_bottom, at_.to_top, (at_.from_bottom, at_.to_top, (at_.from_bottom, at_.to_top, tt))))
+
+pub bicubic_parts : PartsLieInBoxes bicubic_box
+bicubic_parts ps q r hq hr part = corners_in_box (bicubic_net ps r) (bicubic_net ps q) (lit< tt) (net_in_box 3 4 (denominator ^ 6) ps q r (lit< tt) hq hr part)
+
+pub bicubic_rows : NetsHaveRows (λ _. 4) bicubic_net
+bicubic_rows ps r = record { wide = lit< tt; some = lit< tt; rows = refl }

@@ -1,13 +1,16 @@
 //! Parametric surfaces: points, derivatives, control nets and boxes at parameters that are whole numerators over 4096.
 #![tactic(auto)]
 
+mod bicubic;
 mod bilinear;
+mod blossoms;
 mod boxes;
 mod mixing;
 mod patch;
 mod piece;
 mod surface;
 
+pub use bicubic::Bicubic;
 pub use bilinear::Bilinear;
 pub use patch::Patch;
 pub use piece::{Dyadic, Piece};

@@ -1,5 +1,6 @@
 ghost use Rattle.patches.specs.Patches.{patch_point, patch_du, patch_dv, patch_net, patch_width, patch_box, patch_inside, patch_parts, patch_rows};
 
+use crate::bicubic::Bicubic;
 use crate::bilinear::Bilinear;
 use crate::piece::{Dyadic, Piece};
 use crate::surface::Surface;
@@ -10,6 +11,7 @@ use fixed_math::Vec3;
 #[derive(Drop)]
 pub enum Patch {
     Bilinear(Bilinear),
+    Bicubic(Bicubic),
 }
 
 impl Surface for Patch {
@@ -34,36 +36,42 @@ impl Surface for Patch {
     fn point(&self, u: Dyadic, v: Dyadic) -> Vec3 {
         match self {
             Patch::Bilinear(patch) => patch.point(u, v),
+            Patch::Bicubic(patch) => patch.point(u, v),
         }
     }
 
     fn du_at(&self, u: Dyadic, v: Dyadic) -> [i64; 3] {
         match self {
             Patch::Bilinear(patch) => patch.du_at(u, v),
+            Patch::Bicubic(patch) => patch.du_at(u, v),
         }
     }
 
     fn dv_at(&self, u: Dyadic, v: Dyadic) -> [i64; 3] {
         match self {
             Patch::Bilinear(patch) => patch.dv_at(u, v),
+            Patch::Bicubic(patch) => patch.dv_at(u, v),
         }
     }
 
     fn net(&self, piece: &Piece) -> ArrayVec<Vec3, 16> {
         match self {
             Patch::Bilinear(patch) => patch.net(piece),
+            Patch::Bicubic(patch) => patch.net(piece),
         }
     }
 
     fn net_width(&self) -> usize {
         match self {
             Patch::Bilinear(patch) => patch.net_width(),
+            Patch::Bicubic(patch) => patch.net_width(),
         }
     }
 
     fn box_of(&self, piece: &Piece) -> [Vec3; 2] {
         match self {
             Patch::Bilinear(patch) => patch.box_of(piece),
+            Patch::Bicubic(patch) => patch.box_of(piece),
         }
     }
 }

@@ -2,18 +2,13 @@
 ghost use Rattle.std.specs.Prelude.{◌≡◌, All, map, slice_get};
 ghost use Rattle.std.specs.List.{list_all};
 ghost use Rattle.outside.specs.Library.{Files};
-ghost use Rattle.patches.specs.Parts.{whole_of};
-ghost use Rattle.render.specs.Pictures.{decide};
-ghost use Rattle.render.specs.Drawn.{is_one, is_opaque, is_constant, is_dice, is_plain, is_prim_drawn, is_sampled_once, is_in_bytes, is_frame_drawn, is_drawn};
+ghost use Rattle.render.specs.Drawn.{is_one, is_opaque, is_constant, is_plain, is_prim_drawn, is_frame_drawn, is_drawn};
 ghost use Rattle.render.specs.Shaders.{shader_names};
 ghost use Rattle.render.specs.Reading.{IsReadOf, is_from_stock, name_of};
 
 use crate::shaders::ReadShader;
-use bound_split::{Decision, decide};
 use fixed_math::{Num, Vec3};
-use patches::Piece;
-use scene_state::{Filter, Frame, Options, Prim, Scene, ShaderUse};
-use transforms::Camera;
+use scene_state::{Frame, Prim, Scene, ShaderUse};
 
 fn is_one(number: Num) -> bool
     ensures { result ≡ is_one number }
@@ -47,59 +42,27 @@ fn is_plain(uses: &[ShaderUse], prim: &Prim) -> bool
         && prim.lights.len() == 0
 }
 
-// Whether the whole patch of a primitive is diced.
-fn is_diced(camera: &Camera, prim: &Prim) -> bool
-    ensures { result ≡ is_dice (decide camera.now prim.now (whole_of 0)) }
+fn is_prim_drawn(uses: &[ShaderUse], prim: &Prim) -> bool
+    ensures { result ≡ is_prim_drawn uses.now prim.now }
 {
-    match decide(&prim.patch, &Piece::whole(0), camera, prim.rate, prim.bound) {
-        Decision::Dice { .. } => true,
-        Decision::SplitU | Decision::SplitV => false,
-    }
+    is_opaque(&prim.os) && is_plain(uses, prim)
 }
 
-fn is_prim_drawn(uses: &[ShaderUse], camera: &Camera, prim: &Prim) -> bool
-    ensures { result ≡ is_prim_drawn uses.now camera.now prim.now }
-{
-    is_opaque(&prim.os) && is_plain(uses, prim) && is_diced(camera, prim)
-}
-
-fn are_prims_drawn(uses: &[ShaderUse], camera: &Camera, prims: &[Prim]) -> bool
-    ensures { result ≡ list_all (is_prim_drawn uses.now camera.now) prims.now }
+fn are_prims_drawn(uses: &[ShaderUse], prims: &[Prim]) -> bool
+    ensures { result ≡ list_all (is_prim_drawn uses.now) prims.now }
 {
     for prim in prims {
-        if !is_prim_drawn(uses, camera, prim) {
+        if !is_prim_drawn(uses, prim) {
             return false;
         }
     }
     true
 }
 
-fn is_sampled_once(options: &Options) -> bool
-    ensures { result ≡ is_sampled_once options.now }
-{
-    options.xs == 1
-        && options.ys == 1
-        && options.filter == Filter::Box
-        && options.wx == 256
-        && options.wy == 256
-}
-
-fn is_in_bytes(options: &Options) -> bool
-    ensures { result ≡ is_in_bytes options.now }
-{
-    is_one(options.gain)
-        && is_one(options.gamma)
-        && options.one == 255
-        && options.min == 0
-        && options.max == 255
-}
-
 fn is_frame_drawn(uses: &[ShaderUse], frame: &Frame) -> bool
     ensures { result ≡ is_frame_drawn uses.now frame.now }
 {
-    is_sampled_once(&frame.options)
-        && is_in_bytes(&frame.options)
-        && are_prims_drawn(uses, &frame.camera, frame.prims.as_slice())
+    are_prims_drawn(uses, frame.prims.as_slice())
 }
 
 fn are_frames_drawn(uses: &[ShaderUse], frames: &[Frame]) -> bool

@@ -188,10 +188,7 @@ pub fn row(name: Req) -> Row
         },
         Req::Patch => Row {
             shapes: &[Shape::Word],
-            rules: &[
-                Rule::OneOf(0, Words::Patches, RibCode::S3),
-                Rule::NoneOf(0, Words::Bicubic),
-            ],
+            rules: &[Rule::OneOf(0, Words::Patches, RibCode::S3)],
             tail: Tail::Points,
         },
         Req::PatchMesh => Row {

@@ -14,12 +14,11 @@ use Rattle.transforms.specs.declared.view.View.{View}
 use Rattle.transforms.specs.declared.fault.FormFault.{FormFault}
 use Rattle.fixed_math.specs.declared.vec3.Vec3.{Vec3}
 use Rattle.patches.specs.declared.patch.Patch.{Patch}
-use Rattle.patches.specs.declared.patch.Patch.TheVariants.{Bilinear}
 use Rattle.scene_state.specs.Scene.{PrimValue, FrameValue, IsUse, IsSomeUse, HasUses, most_prims}
 use Rattle.scene_state.specs.Choices.{ChoiceValues, chosen, view_of}
 use Rattle.scene_state.specs.Looks.{look_after, is_single}
 use Rattle.scene_state.specs.Shaders.{with_request, placed_in, placed, some_placed, all_placed, light_of, with_light, without_light, is_among}
-use Rattle.scene_state.specs.State.{most_blocks, most_frames, most_lights, with_frame, name_or, moved, scaled, turned, of_rows, points_of, points_in_range, prim_of, Stepped, first_state, closed, opened, innermost, frame_ended, attributes_ended, transform_ended, world_with, frame_made, frame_of, world_ended, with_choices, option_set, display_set, with_current, with_before, space_of, use_of, next_shader, with_shader, light_added, light_made, handle_for, illuminated_by, light_named, with_prim, patch_in_range, patch_with, patch_of_numbers, patch_in, patch_set}
+use Rattle.scene_state.specs.State.{most_blocks, most_frames, most_lights, with_frame, name_or, moved, scaled, turned, of_rows, control_points, is_bicubic, patch_made, prim_of, Stepped, first_state, closed, opened, innermost, frame_ended, attributes_ended, transform_ended, world_with, frame_made, frame_of, world_ended, with_choices, option_set, display_set, with_current, with_before, space_of, use_of, next_shader, with_shader, light_added, light_made, handle_for, illuminated_by, light_named, with_prim, patch_in_range, patch_with, patch_of_numbers, patch_in, patch_set}
 use Rattle.scene_state.specs.Steps.{with_surface, with_displacement, with_atmosphere, look_set, step, after, and_then, Placed, state_from}
 use Rattle.scene_state.specs.declared.fault.StateCode.{StateCode}
 use Rattle.scene_state.specs.declared.fault.StateCode.TheVariants.{N1, N2, N5, M1, M2, M3, M4}
@@ -475,18 +474,18 @@ good_prim r object patch s g =
       frames = h.frames;
     }
 
-good_in_range : (r : Read) (object : Map) (o : Option (List Vec3)) (s : State) → IsGood s → GoodStep (patch_in_range r object o s)
+good_in_range : (r : Read) (object : Map) (o : Option Patch) (s : State) → IsGood s → GoodStep (patch_in_range r object o s)
 good_in_range r object None s g = tt
-good_in_range r object (Some ps) s g = good_prim r object (Bilinear ps) s g
+good_in_range r object (Some patch) s g = good_prim r object patch s g
 
 good_patch_with : (r : Read) (object : Map) (o : Option (List Vec3)) (s : State) → IsGood s → GoodStep (patch_with r object o s)
 good_patch_with r object None s g = tt
 good_patch_with r object (Some ps) s g =
-    either (nat_le most_prims (length s.prims)) (Err M3) (patch_in_range r object (points_in_range object ps) s) tt (good_in_range r object (points_in_range object ps) s g)
+    either (nat_le most_prims (length s.prims)) (Err M3) (patch_in_range r object (patch_made (is_bicubic r) object ps) s) tt (good_in_range r object (patch_made (is_bicubic r) object ps) s g)
 
 good_numbers : (r : Read) (object : Map) (o : Option (List ℤ)) (s : State) → IsGood s → GoodStep (patch_of_numbers r object o s)
 good_numbers r object None s g = tt
-good_numbers r object (Some xs) s g = good_patch_with r object (points_of xs) s g
+good_numbers r object (Some xs) s g = good_patch_with r object (control_points (is_bicubic r) xs) s g
 
 good_patch_in : (r : Read) (m : Result Map FormFault) (s : State) → IsGood s → GoodStep (patch_in r m s)
 good_patch_in r (Err e) s g = tt

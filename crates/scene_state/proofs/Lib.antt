@@ -1,3 +1,4 @@
+mod Controls
 mod Words
 pub mod Keeping
 pub mod Places

@@ -14,12 +14,11 @@ use Rattle.transforms.specs.declared.view.View.{View}
 use Rattle.transforms.specs.declared.fault.FormFault.{FormFault}
 use Rattle.fixed_math.specs.declared.vec3.Vec3.{Vec3}
 use Rattle.patches.specs.declared.patch.Patch.{Patch}
-use Rattle.patches.specs.declared.patch.Patch.TheVariants.{Bilinear}
 use Rattle.scene_state.specs.Scene.{PrimValue, FrameValue, IsUse, most_prims}
 use Rattle.scene_state.specs.FirstUse.{place_in, places_in, places_of, all_places, firsts, below}
 use Rattle.scene_state.specs.Choices.{ChoiceValues, chosen, view_of}
 use Rattle.scene_state.specs.Shaders.{with_request, placed_in, placed, some_placed, all_placed}
-use Rattle.scene_state.specs.State.{most_blocks, most_frames, most_lights, with_frame, name_or, moved, scaled, turned, of_rows, points_of, points_in_range, prim_of, Stepped, first_state, opened, innermost, closed, outer, frame_ended, attributes_ended, transform_ended, world_with, frame_made, frame_of, world_ended, with_choices, option_set, display_set, with_current, with_before, space_of, use_of, next_shader, with_shader, light_added, light_made, illuminated_by, light_named, with_prim, patch_in_range, patch_with, patch_of_numbers, patch_in, patch_set}
+use Rattle.scene_state.specs.State.{most_blocks, most_frames, most_lights, with_frame, name_or, moved, scaled, turned, of_rows, control_points, is_bicubic, patch_made, prim_of, Stepped, first_state, opened, innermost, closed, outer, frame_ended, attributes_ended, transform_ended, world_with, frame_made, frame_of, world_ended, with_choices, option_set, display_set, with_current, with_before, space_of, use_of, next_shader, with_shader, light_added, light_made, illuminated_by, light_named, with_prim, patch_in_range, patch_with, patch_of_numbers, patch_in, patch_set}
 use Rattle.scene_state.specs.Steps.{with_surface, with_displacement, with_atmosphere, step, after, and_then, Placed, state_from}
 use Rattle.scene_state.specs.declared.fault.StateCode.{StateCode}
 use Rattle.scene_state.specs.declared.fault.StateCode.TheVariants.{N1, N2, N5, M1, M2, M3, M4}
@@ -273,18 +272,18 @@ ordered_prim r object patch s opens g o =
     both_ways true t f = cc
     both_ways false t f = cc
 
-ordered_in_range : (r : Read) (object : Map) (ps : Option (List Vec3)) (s : State) → is_some s.world ≡ true → IsGood s → IsOrdered s → OrderedStep (patch_in_range r object ps s)
+ordered_in_range : (r : Read) (object : Map) (p : Option Patch) (s : State) → is_some s.world ≡ true → IsGood s → IsOrdered s → OrderedStep (patch_in_range r object p s)
 ordered_in_range r object None s opens g o = tt
-ordered_in_range r object (Some ps) s opens g o = ordered_prim r object (Bilinear ps) s opens g o
+ordered_in_range r object (Some patch) s opens g o = ordered_prim r object patch s opens g o
 
 ordered_patch_with : (r : Read) (object : Map) (ps : Option (List Vec3)) (s : State) → is_some s.world ≡ true → IsGood s → IsOrdered s → OrderedStep (patch_with r object ps s)
 ordered_patch_with r object None s opens g o = tt
 ordered_patch_with r object (Some ps) s opens g o =
-    either (nat_le most_prims (length s.prims)) (Err M3) (patch_in_range r object (points_in_range object ps) s) tt (ordered_in_range r object (points_in_range object ps) s opens g o)
+    either (nat_le most_prims (length s.prims)) (Err M3) (patch_in_range r object (patch_made (is_bicubic r) object ps) s) tt (ordered_in_range r object (patch_made (is_bicubic r) object ps) s opens g o)
 
 ordered_numbers : (r : Read) (object : Map) (xs : Option (List ℤ)) (s : State) → is_some s.world ≡ true → IsGood s → IsOrdered s → OrderedStep (patch_of_numbers r object xs s)
 ordered_numbers r object None s opens g o = tt
-ordered_numbers r object (Some xs) s opens g o = ordered_patch_with r object (points_of xs) s opens g o
+ordered_numbers r object (Some xs) s opens g o = ordered_patch_with r object (control_points (is_bicubic r) xs) s opens g o
 
 ordered_patch_in : (r : Read) (m : Result Map FormFault) (s : State) → is_some s.world ≡ true → IsGood s → IsOrdered s → OrderedStep (patch_in r m s)
 ordered_patch_in r (Err e) s opens g o = tt

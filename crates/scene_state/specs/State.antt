@@ -1,11 +1,11 @@
 -- The state between two requests, and how each request changes it (RenderMan Interface 3.2, sections 3 to 5).
-use Rattle.std.specs.Prelude.{ℕ, ◌-◌, ◌==◌, nat_le, ℤ, List, [], ◌∷◌, ◌++◌, length, take, map, Option, Some, None, is_some, Result, Ok, Err, if◌then◌else◌, unsigned_abs, codes}
+use Rattle.std.specs.Prelude.{ℕ, zero, suc, ◌-◌, ◌==◌, nat_le, ℤ, List, [], ◌∷◌, ◌++◌, length, take, drop, map, Bool, true, false, Option, Some, None, is_some, option_map, Result, Ok, Err, if◌then◌else◌, unsigned_abs, codes}
 use Rattle.std.specs.List.{slice_get}
 use Rattle.fixed_math.specs.declared.vec3.Vec3.{Vec3}
 use Rattle.rib_lex.specs.declared.decimal.Decimal.{Decimal}
 use Rattle.rib_lex.specs.Decimal.{num}
 use Rattle.patches.specs.declared.patch.Patch.{Patch}
-use Rattle.patches.specs.declared.patch.Patch.TheVariants.{Bilinear}
+use Rattle.patches.specs.declared.patch.Patch.TheVariants.{Bilinear, Bicubic}
 use Rattle.transforms.specs.Map.{Map, identity, translation, scale_map, before_of, point_of, differ}
 use Rattle.transforms.specs.Rotation.{rotate_map}
 use Rattle.transforms.specs.Concat.{concat_map}
@@ -17,7 +17,7 @@ use Rattle.rib_reader.specs.Rules.{word_at, whole_at}
 use Rattle.rib_reader.specs.Lists.{points_in}
 use Rattle.rib_reader.specs.Reading.{Read}
 use Rattle.scene_state.specs.Scene.{PrimValue, FrameValue, most_prims}
-use Rattle.scene_state.specs.Choices.{ChoiceValues, first_choices, chosen, view_of}
+use Rattle.scene_state.specs.Choices.{ChoiceValues, first_choices, chosen, view_of, is_word}
 use Rattle.scene_state.specs.Looks.{LookValues, is_single}
 use Rattle.scene_state.specs.Shaders.{first_attributes, first_shaders, with_request, placed, some_placed, all_placed, light_of, with_light, without_light}
 use Rattle.scene_state.specs.declared.fault.StateCode.{StateCode}
@@ -242,6 +242,24 @@ points_of (ax ∷ ay ∷ az ∷ bx ∷ by ∷ bz ∷ cx ∷ cy ∷ cz ∷ dx ∷
     Some (point ax ay az ∷ point bx by bz ∷ point cx cy cz ∷ point dx dy dz ∷ [])
 points_of _ = None
 
+abbrev pub both : Option (List Vec3) → Option (List Vec3) → Option (List Vec3)
+both (Some ps) (Some qs) = Some (ps ++ qs)
+both _ _ = None
+
+-- the points of n rows of four
+abbrev pub rows_of : ℕ → List ℤ → Option (List Vec3)
+rows_of zero xs = Some []
+rows_of (suc n) xs = both (points_of (take 12 xs)) (rows_of n (drop 12 xs))
+
+-- the sixteen points of forty-eight coordinates, by rows of four
+abbrev pub sixteen_of : List ℤ → Option (List Vec3)
+sixteen_of xs = if length xs == 48 then rows_of 4 xs else None
+
+-- the control points of a bicubic patch, or of a bilinear one
+abbrev pub control_points : Bool → List ℤ → Option (List Vec3)
+control_points true xs = sixteen_of xs
+control_points false xs = points_of xs
+
 -- a raw coordinate of a primitive in camera space whose magnitude is at most 2 ^ 30
 abbrev pub number_in_range : ℤ → Option ℤ
 number_in_range x = if nat_le (unsigned_abs x) 1073741824 then Some x else None
@@ -266,6 +284,18 @@ with_next _ _ = None
 abbrev pub points_in_range : Map → List Vec3 → Option (List Vec3)
 points_in_range m [] = Some []
 points_in_range m (p ∷ ps) = with_next (point_in_range m p) (points_in_range m ps)
+
+-- whether the word of a patch's request says bicubic
+abbrev pub is_bicubic : Read → Bool
+is_bicubic r = is_word (word_at r.args 0) (codes "bicubic")
+
+abbrev pub patch_by : Bool → List Vec3 → Patch
+patch_by true ps = Bicubic ps
+patch_by false ps = Bilinear ps
+
+-- the patch of control points that are mapped to camera space, where each is in range there
+abbrev pub patch_made : Bool → Map → List Vec3 → Option Patch
+patch_made bicubic object ps = option_map (patch_by bicubic) (points_in_range object ps)
 
 -- a primitive of these attributes, whose shaders have these places among the uses
 abbrev pub prim_of : Read → Map → Patch → LookValues → ℕ → Option ℕ → Option ℕ → List ℕ → PrimValue
@@ -298,18 +328,18 @@ with_prim r object patch s =
     let l = all_placed v.0 a.lights in
     record s { shaders = l.0; prims = s.prims ++ prim_of r object patch a.look f.1 d.1 v.1 l.1 ∷ [] }
 
-abbrev pub patch_in_range : Read → Map → Option (List Vec3) → State → Stepped
+abbrev pub patch_in_range : Read → Map → Option Patch → State → Stepped
 patch_in_range r object None s = Err M7
-patch_in_range r object (Some ps) s = Ok (with_prim r object (Bilinear ps) s)
+patch_in_range r object (Some patch) s = Ok (with_prim r object patch s)
 
--- four points, room in the frame, and then each point in range
+-- as many points as the kind of patch has, room in the frame, and then each point in range
 abbrev pub patch_with : Read → Map → Option (List Vec3) → State → Stepped
 patch_with r object None s = Err G5
-patch_with r object (Some ps) s = if nat_le most_prims (length s.prims) then Err M3 else patch_in_range r object (points_in_range object ps) s
+patch_with r object (Some ps) s = if nat_le most_prims (length s.prims) then Err M3 else patch_in_range r object (patch_made (is_bicubic r) object ps) s
 
 abbrev pub patch_of_numbers : Read → Map → Option (List ℤ) → State → Stepped
 patch_of_numbers r object None s = Err G5
-patch_of_numbers r object (Some xs) s = patch_with r object (points_of xs) s
+patch_of_numbers r object (Some xs) s = patch_with r object (control_points (is_bicubic r) xs) s
 
 abbrev pub patch_in : Read → Result Map FormFault → State → Stepped
 patch_in r (Err e) s = Err (code_of e)

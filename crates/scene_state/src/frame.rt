@@ -35,7 +35,7 @@ impl Model for Variable {
 /// `one_sided`, `flip` turns the side that is seen. `object` maps object space to camera space. `place` is the column c of m and
 /// the row d of n that the patch has in its mesh, as [c, m, d, n], with m and n at most 65,536. `line` is that of its request.
 #[derive(Drop)]
-pub struct Prim {
+pub struct Primitive {
     pub patch: Patch,
     pub flat: Option<Vec3>,
     pub cs: Vec3,
@@ -54,7 +54,7 @@ pub struct Prim {
     pub line: u32,
 }
 
-impl Model for Prim {
+impl Model for Primitive {
     ghost Value = { PrimValue };
 
     ghost view = { λ p. record { patch = p.patch; flat = p.flat; cs = p.cs; os = p.os; surface = p.surface; displacement = p.displacement; atmosphere = p.atmosphere; lights = p.lights; bound = p.bound; rate = p.rate; one_sided = p.one_sided; flip = p.flip; vars = p.vars; object = p.object; place = p.place; line = p.line } };
@@ -70,7 +70,7 @@ pub struct Frame {
     pub options: Options,
     pub camera: Camera,
     pub world: Affine,
-    pub prims: List<Prim>,
+    pub prims: List<Primitive>,
 }
 
 impl Model for Frame {

@@ -21,7 +21,7 @@ mod uses;
 
 pub use fault::{StateCode, StateFault};
 pub use filter::Filter;
-pub use frame::{Frame, Prim, Scene, Variable};
+pub use frame::{Frame, Primitive as Prim, Scene, Variable};
 pub use options::Options;
 pub use reading::scene;
 pub use uses::{ShaderKind, ShaderUse};

@@ -1,18 +1,18 @@
 // Primitives.
-ghost use Rattle.std.specs.Prelude.{◌≡◌, ◌<◌, ◌≤◌, unsigned_abs, ◌^◌, IfOk, IfSome, option_map, length};
+ghost use Rattle.std.specs.Prelude.{◌≡◌, ◌<◌, ◌≤◌, unsigned_abs, ◌^◌, Bool, true, false, [], ◌++◌, IfOk, IfSome, option_map, length};
+ghost use Rattle.fixed_math.specs.Axes.{AreWithin};
 ghost use Rattle.patches.specs.Boxes.{IsWithin};
 ghost use Rattle.rib_reader.specs.Reading.{plain};
 ghost use Rattle.rib_reader.specs.declared.req.Req.TheVariants as reqs;
-ghost use Rattle.scene_state.specs.State.{points_of, number_in_range, point_in_range, points_in_range, with_prim, patch_with, patch_in, patch_set};
-ghost use Rattle.patches.specs.declared.patch.Patch.TheVariants as patches;
+ghost use Rattle.scene_state.specs.State.{points_of, sixteen_of, control_points, number_in_range, point_in_range, points_in_range, is_bicubic, patch_made, with_prim, patch_with, patch_in, patch_set};
 ghost use Rattle.scene_state.specs.Scene.{most_prims};
 ghost use Rattle.scene_state.specs.Answers.{Steps};
 
 use crate::fault::{StateCode, Stop, code_of};
-use crate::frame::Prim;
+use crate::frame::Primitive;
 use crate::state::State;
 use fixed_math::{List, NoMemory, Num, Vec3};
-use patches::{Bilinear, Patch};
+use patches::{Bicubic, Bilinear, Patch};
 use rib_reader::Request;
 use std::alloc::Global;
 use transforms::{Affine, FormFault};
@@ -73,16 +73,93 @@ fn point_in_range(object: &Affine, point: Vec3) -> Option<Vec3>
     })
 }
 
-// A bilinear patch of points in camera space, where each is in range.
-fn patch_of(object: &Affine, points: &[Vec3; 4]) -> Option<Patch>
-    ensures { result ≡ option_map (λ ps. patches.Bilinear ps) (points_in_range object.now points.now) }
+// The points of four rows, one behind another.
+fn joined(
+    first: &[Vec3; 4],
+    second: &[Vec3; 4],
+    third: &[Vec3; 4],
+    fourth: &[Vec3; 4],
+) -> [Vec3; 16]
+    ensures { result ≡ first.now ++ (second.now ++ (third.now ++ (fourth.now ++ []))) }
 {
-    let [a, b, c, d] = *points;
-    let a = point_in_range(object, a)?;
-    let b = point_in_range(object, b)?;
-    let c = point_in_range(object, c)?;
-    let d = point_in_range(object, d)?;
-    Some(Patch::Bilinear(Bilinear::new([a, b, c, d])))
+    let [a, b, c, d] = *first;
+    let [e, f, g, h] = *second;
+    let [i, j, k, l] = *third;
+    let [m, n, o, p] = *fourth;
+    [a, b, c, d, e, f, g, h, i, j, k, l, m, n, o, p]
+}
+
+// The sixteen points of forty-eight coordinates.
+fn sixteen_points(numbers: &[Num]) -> Option<[Vec3; 16]>
+    ensures { result ≡ sixteen_of numbers.now }
+{
+    if numbers.len() != 48 {
+        return None;
+    }
+    let (first, rest) = numbers.split_at(12);
+    let (second, rest) = rest.split_at(12);
+    let (third, rest) = rest.split_at(12);
+    let (fourth, _) = rest.split_at(12);
+    Some(joined(
+        &four_points(first)?,
+        &four_points(second)?,
+        &four_points(third)?,
+        &four_points(fourth)?,
+    ))
+}
+
+// A row of four points in camera space, where each is in range.
+fn row_in_range(object: &Affine, row: &[Vec3]) -> Option<[Vec3; 4]>
+    requires { length row.now ≡ 4 }
+    ensures value { result ≡ points_in_range object.now row.now }
+    ensures range { IfSome result (λ ps. AreWithin (2 ^ 30) ps) }
+{
+    let [a, b, c, d] = row else {
+        return None;
+    };
+    Some([
+        point_in_range(object, *a)?,
+        point_in_range(object, *b)?,
+        point_in_range(object, *c)?,
+        point_in_range(object, *d)?,
+    ])
+}
+
+// A bilinear patch of points in camera space, where each is in range.
+fn bilinear_of(object: &Affine, points: &[Vec3]) -> Option<Patch>
+    requires { length points.now ≡ 4 }
+    ensures { result ≡ patch_made false object.now points.now }
+{
+    Some(Patch::Bilinear(Bilinear::new(row_in_range(object, points)?)))
+}
+
+// A bicubic patch of points in camera space, where each is in range.
+fn bicubic_of(object: &Affine, points: &[Vec3]) -> Option<Patch>
+    requires { length points.now ≡ 16 }
+    ensures { result ≡ patch_made true object.now points.now }
+{
+    let (first, rest) = points.split_at(4);
+    let (second, rest) = rest.split_at(4);
+    let (third, rest) = rest.split_at(4);
+    let (fourth, _) = rest.split_at(4);
+    let a = row_in_range(object, first)?;
+    let b = row_in_range(object, second)?;
+    let c = row_in_range(object, third)?;
+    let d = row_in_range(object, fourth)?;
+    Some(Patch::Bicubic(Bicubic::new(joined(&a, &b, &c, &d))))
+}
+
+// A patch of coordinates: none where there are more or fewer than its kind has, and then none where a point isn't in range.
+fn patch_of(object: &Affine, bicubic: bool, numbers: &[Num]) -> Option<Option<Patch>>
+    ensures { result ≡ option_map (patch_made bicubic object.now) (control_points bicubic numbers.now) }
+{
+    if bicubic {
+        let points = sixteen_points(numbers)?;
+        Some(bicubic_of(object, &points))
+    } else {
+        let points = four_points(numbers)?;
+        Some(bilinear_of(object, &points))
+    }
 }
 
 impl State {
@@ -104,7 +181,7 @@ impl State {
             .shaders
             .place_all(alloc, self.attributes.lights.as_slice())?;
         let look = self.attributes.look;
-        self.prims.push(Prim {
+        self.prims.push(Primitive {
             patch,
             flat: None,
             cs: look.cs,
@@ -133,15 +210,17 @@ impl State {
         object: Affine,
         numbers: &[Num],
     ) -> Result<(), Stop>
-        ensures { Steps result (patch_with (plain request.now) object (points_of numbers.now) self.old) self.new }
+        requires { request.now.name ≡ reqs.Patch }
+        ensures { Steps result (patch_with (plain request.now) object (control_points (is_bicubic (plain request.now)) numbers.now) self.old) self.new }
     {
-        let Some(points) = four_points(numbers) else {
+        let bicubic = request.word(0).as_str() == "bicubic";
+        let Some(patch) = patch_of(&object, bicubic, numbers) else {
             return Err(Stop::Fault(StateCode::G5));
         };
         if self.prims.is_full() {
             return Err(Stop::Fault(StateCode::M3));
         }
-        match patch_of(&object, &points) {
+        match patch {
             Some(patch) => {
                 self.place(alloc, request, object, patch)?;
                 Ok(())

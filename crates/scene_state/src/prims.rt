@@ -1,7 +1,7 @@
 ghost use Rattle.std.specs.Prelude.{◌≡◌, ◌≤◌, ◌<◌, List as Items, [], ◌∷◌, ◌++◌, length, IfOk, nat_le};
 ghost use Rattle.scene_state.specs.Scene.{PrimValue, most_prims};
 
-use crate::frame::Prim;
+use crate::frame::Primitive;
 use fixed_math::{List, NoMemory};
 use std::alloc::Global;
 use std::marker::Model;
@@ -13,7 +13,7 @@ pub(crate) const MOST_PRIMS: usize = 65536;
 /// The primitives of an open world, no more than a frame has.
 #[derive(Drop)]
 pub(crate) struct Prims {
-    prims: List<Prim>,
+    prims: List<Primitive>,
 }
 
 impl Model for Prims {
@@ -42,7 +42,7 @@ impl Prims {
     }
 
     /// A primitive more.
-    pub(crate) fn push(&mut self, prim: Prim) -> Result<(), NoMemory>
+    pub(crate) fn push(&mut self, prim: Primitive) -> Result<(), NoMemory>
         requires { length self.old < most_prims }
         ensures { IfOk result (λ _. self.new ≡ self.old ++ prim ∷ []) }
     {
@@ -51,7 +51,7 @@ impl Prims {
     }
 
     /// All primitives, of which none is left.
-    pub(crate) fn take(&mut self, alloc: Global) -> List<Prim>
+    pub(crate) fn take(&mut self, alloc: Global) -> List<Primitive>
         ensures all { result ≡ self.old }
         ensures few { length result ≤ most_prims }
         ensures none { self.new ≡ [] }

@@ -6,7 +6,7 @@ use Rattle.sl_ast.specs.Typed as T
 use Rattle.sl_ast.specs.Typed.{exprs, stmts}
 use Rattle.sl_ast.specs.TypedView.{tree_expr, tree_stmt, row_stmts}
 use Rattle.sl_ast.specs.declared.kinds.NodeType.{NodeType}
-use Rattle.sl_ast.specs.declared.kinds.Operation.{Operation}
+use Rattle.sl_ast.specs.declared.operations.Operation.{Operation}
 use Rattle.sl_ast.specs.declared.kinds.LightStmt.{LightStmt}
 use Rattle.sl_ast.specs.declared.typed.Place.{Place}
 use Rattle.sl_ast.specs.declared.typed.TreeFormal.{TreeFormal}

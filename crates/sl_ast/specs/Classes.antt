@@ -1,8 +1,8 @@
 -- Control classes: which expressions are uniform, and which statements stand in uniform control. `us` are the classes
 -- of the variables in scope (`true` for uniform), and `u` says that control is uniform.
 use Rattle.std.specs.Prelude.{Bool, true, false, ◌&&◌, List, [], ◌∷◌, ◌++◌, get_or}
-use Rattle.sl_ast.specs.declared.kinds.Operation.{Operation}
-use Rattle.sl_ast.specs.declared.kinds.Operation.TheVariants as ops
+use Rattle.sl_ast.specs.declared.operations.Operation.{Operation}
+use Rattle.sl_ast.specs.declared.operations.Operation.TheVariants as operations
 use Rattle.sl_ast.specs.declared.kinds.Predefined.{Predefined}
 use Rattle.sl_ast.specs.declared.kinds.Predefined.TheVariants as names
 use Rattle.sl_ast.specs.declared.typed.Variable.{Variable}
@@ -12,14 +12,8 @@ use Rattle.sl_ast.specs.Typed.{Expr, number, word, variable, apply, call, Exprs,
 
 -- operations whose value is varying whatever they are given: they read a varying variable, neighbours or lights
 abbrev pub is_plain : Operation → Bool
-is_plain ops.FaceForwardNg = false
-is_plain ops.Du = false
-is_plain ops.Dv = false
-is_plain ops.CalculateNormal = false
-is_plain ops.Ambient = false
-is_plain ops.Diffuse = false
-is_plain ops.Specular = false
-is_plain _ = true
+is_plain (operations.Value operation) = true
+is_plain _ = false
 
 abbrev pub is_uniform_name : Predefined → Bool
 is_uniform_name names.E = true

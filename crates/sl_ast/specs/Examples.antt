@@ -4,7 +4,9 @@ use Rattle.sl_ast.specs.declared.kinds.SlKind.{SlKind}
 use Rattle.sl_ast.specs.declared.kinds.SlKind.TheVariants as shaders
 use Rattle.sl_ast.specs.declared.kinds.SlType.TheVariants as values
 use Rattle.sl_ast.specs.declared.kinds.NodeType.TheVariants as types
-use Rattle.sl_ast.specs.declared.kinds.Operation.TheVariants as ops
+use Rattle.sl_ast.specs.declared.operations.Operation.TheVariants as operations
+use Rattle.sl_ast.specs.declared.operations.ValueOperation.TheVariants as ops
+use Rattle.sl_ast.specs.declared.operations.Difference.TheVariants as differences
 use Rattle.sl_ast.specs.declared.kinds.SetOperator.TheVariants as sets
 use Rattle.sl_ast.specs.declared.kinds.LightStmt.TheVariants as words
 use Rattle.sl_ast.specs.declared.kinds.Predefined.TheVariants as names
@@ -33,7 +35,7 @@ local_at level n = variable (variables.Level level) types.Float (at n)
 
 -- `a < 1` from that number on
 abbrev pub below_one : Expr → ℕ → Expr
-below_one a n = apply ops.Less (more a (more (one (n + 2)) none)) types.Test (at n)
+below_one a n = apply (operations.Value ops.Less) (more a (more (one (n + 2)) none)) types.Test (at n)
 
 abbrev pub set_local : ℕ → Expr → ℕ → Stmt
 set_local level e n = assign (variables.Level level) sets.Set values.Float e (at n)
@@ -80,7 +82,7 @@ varying_string = refl
 
 -- if (u < 1) u = Du(1);
 abbrev difference_under_varying : unsettled (shader shaders.Surface (then_one (test (u_below_one 2)
-    (declare false values.Float (apply ops.Du (more (one 7) none) types.Float (at 6)) (at 5)) (at 1)))) ≡ Some (faults.T5, 6)
+    (declare false values.Float (apply (operations.Difference differences.Du) (more (one 7) none) types.Float (at 6)) (at 5)) (at 1)))) ≡ Some (faults.T5, 6)
 difference_under_varying = refl
 
 -- while (k < 1) with a uniform k: a break on a uniform condition, and one on a varying condition
@@ -132,7 +134,7 @@ abbrev declared_float : SlKind → Expr → Tree
 declared_float kind e = shader kind (then_one (declare false values.Float e (at 1)))
 
 abbrev l_length : Expr
-l_length = apply ops.Length (more (variable (variables.Predefined names.L) types.Vector (at 4)) none) types.Float (at 3)
+l_length = apply (operations.Value ops.Length) (more (variable (variables.Predefined names.L) types.Vector (at 4)) none) types.Float (at 3)
 
 -- `L` is read in the body of `illuminance`, and not outside
 abbrev light_inside : well_typed (shader shaders.Surface (then_one (lights words.Illuminance (more (one 2) none) (declare false values.Float l_length (at 3)) (at 1)))) ≡ true
@@ -147,7 +149,7 @@ foreign_statement = refl
 
 -- `Du` is a built-in of surfaces, and not of lights
 abbrev du_of_one : Expr
-du_of_one = apply ops.Du (more (one 3) none) types.Float (at 2)
+du_of_one = apply (operations.Difference differences.Du) (more (one 3) none) types.Float (at 2)
 
 abbrev difference_in_surface : well_typed (declared_float shaders.Surface du_of_one) ≡ true
 difference_in_surface = refl
@@ -190,12 +192,12 @@ plain_default = refl
 abbrev default_of_parameter : well_typed (with_default (local_at 0 2)) ≡ false
 default_of_parameter = refl
 
-abbrev default_of_depth : well_typed (with_default (apply ops.Depth (more (one 3) none) types.Float (at 2))) ≡ false
+abbrev default_of_depth : well_typed (with_default (apply (operations.Value ops.Depth) (more (one 3) none) types.Float (at 2))) ≡ false
 default_of_depth = refl
 
 -- the string of `transform` names its space
 abbrev transformed : Expr
-transformed = apply ops.Length (more (apply (ops.Transform spaces.Current spaces.World)
+transformed = apply (operations.Value ops.Length) (more (apply (operations.Value (ops.Transform spaces.Current spaces.World))
     (more (word (codes "world") (at 4)) (more (one 5) none)) types.Point (at 3)) none) types.Float (at 2)
 
 abbrev transformed_to_world : well_typed (declared_float shaders.Surface transformed) ≡ true
@@ -205,5 +207,5 @@ abbrev transformed_in_default : well_typed (with_default transformed) ≡ false
 transformed_in_default = refl
 
 -- the index of `comp` is uniform
-abbrev varying_index : unsettled (declared_float shaders.Surface (apply ops.Comp (more (one 3) (more (u_at 4) none)) types.Float (at 2))) ≡ Some (faults.T3, 2)
+abbrev varying_index : unsettled (declared_float shaders.Surface (apply (operations.Value ops.Comp) (more (one 3) (more (u_at 4) none)) types.Float (at 2))) ≡ Some (faults.T3, 2)
 varying_index = refl

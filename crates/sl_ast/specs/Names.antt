@@ -9,8 +9,9 @@ use Rattle.sl_ast.specs.declared.kinds.Predefined.{Predefined}
 use Rattle.sl_ast.specs.declared.kinds.Predefined.TheVariants as names
 use Rattle.sl_ast.specs.declared.kinds.SpaceName.{SpaceName}
 use Rattle.sl_ast.specs.declared.kinds.SpaceName.TheVariants.{Current, World, Object, Shader}
-use Rattle.sl_ast.specs.declared.kinds.Operation.{Operation}
-use Rattle.sl_ast.specs.declared.kinds.Operation.TheVariants as ops
+use Rattle.sl_ast.specs.declared.operations.Operation.{Operation}
+use Rattle.sl_ast.specs.declared.operations.Operation.TheVariants as operations
+use Rattle.sl_ast.specs.declared.operations.ValueOperation.TheVariants as ops
 use Rattle.sl_ast.specs.declared.kinds.LightStmt.{LightStmt}
 use Rattle.sl_ast.specs.declared.kinds.LightStmt.TheVariants.{Illuminance, Illuminate, Solar}
 
@@ -117,17 +118,14 @@ is_light _ = false
 
 -- the operations that a kind of shader has
 abbrev pub has_operation : SlKind → Operation → Bool
-has_operation kind ops.Ambient = is_surface kind
-has_operation kind ops.Diffuse = is_surface kind
-has_operation kind ops.Specular = is_surface kind
-has_operation kind ops.Du = has_surface kind
-has_operation kind ops.Dv = has_surface kind
-has_operation kind ops.CalculateNormal = has_surface kind
-has_operation kind _ = true
+has_operation kind (operations.Value operation) = true
+has_operation kind operations.FaceForwardNg = true
+has_operation kind (operations.Difference which) = has_surface kind
+has_operation kind (operations.Sum which) = is_surface kind
 
 -- the operations that stand in a parameter's default too
 abbrev pub is_constant : Operation → Bool
-is_constant ops.Depth = false
+is_constant (operations.Value ops.Depth) = false
 is_constant _ = true
 
 abbrev pub has_lights : SlKind → LightStmt → Bool

@@ -6,8 +6,14 @@ use Rattle.sl_ast.specs.declared.kinds.SlType.{SlType}
 use Rattle.sl_ast.specs.declared.kinds.SlType.TheVariants as types
 use Rattle.sl_ast.specs.declared.kinds.NodeType.{NodeType}
 use Rattle.sl_ast.specs.declared.kinds.NodeType.TheVariants.{Float, Color, Point, Vector, Normal, Str, Test}
-use Rattle.sl_ast.specs.declared.kinds.Operation.{Operation}
-use Rattle.sl_ast.specs.declared.kinds.Operation.TheVariants as ops
+use Rattle.sl_ast.specs.declared.operations.Operation.{Operation}
+use Rattle.sl_ast.specs.declared.operations.Operation.TheVariants as operations
+use Rattle.sl_ast.specs.declared.operations.ValueOperation.{ValueOperation}
+use Rattle.sl_ast.specs.declared.operations.ValueOperation.TheVariants as ops
+use Rattle.sl_ast.specs.declared.operations.Difference.{Difference}
+use Rattle.sl_ast.specs.declared.operations.Difference.TheVariants as differences
+use Rattle.sl_ast.specs.declared.operations.LightSum.{LightSum}
+use Rattle.sl_ast.specs.declared.operations.LightSum.TheVariants as sums
 use Rattle.sl_ast.specs.declared.kinds.SetOperator.{SetOperator}
 use Rattle.sl_ast.specs.declared.kinds.SetOperator.TheVariants as sets
 use Rattle.sl_ast.specs.declared.kinds.SpaceName.TheVariants.{Current}
@@ -203,113 +209,122 @@ highlight (Three a b c) = when (is_triple a && (is_triple b && is_float c)) Colo
 highlight _ = None
 
 -- the type of an operation's value, where it takes these operands
+abbrev pub value_rule : ValueOperation → Operands → Option NodeType
+value_rule ops.Negate operands = one_alike operands
+value_rule ops.Not operands = one_test operands
+value_rule ops.Or operands = two_tests operands
+value_rule ops.And operands = two_tests operands
+value_rule ops.Equal operands = equality operands
+value_rule ops.NotEqual operands = equality operands
+value_rule ops.Less operands = two_floats Test operands
+value_rule ops.LessEqual operands = two_floats Test operands
+value_rule ops.Greater operands = two_floats Test operands
+value_rule ops.GreaterEqual operands = two_floats Test operands
+value_rule ops.Add operands = two_alike operands
+value_rule ops.Subtract operands = two_alike operands
+value_rule ops.Cross operands = two_triples Vector operands
+value_rule ops.Multiply operands = two_alike operands
+value_rule ops.Divide operands = two_alike operands
+value_rule ops.Dot operands = two_triples Float operands
+value_rule ops.Select operands = selection operands
+value_rule (ops.Triple kind space) operands = components kind operands
+value_rule (ops.Convert kind space) operands = conversion kind operands
+value_rule ops.Abs operands = one_alike operands
+value_rule ops.Sign operands = one_alike operands
+value_rule ops.Floor operands = one_alike operands
+value_rule ops.Ceil operands = one_alike operands
+value_rule ops.Round operands = one_alike operands
+value_rule ops.Min operands = some_alike operands
+value_rule ops.Max operands = some_alike operands
+value_rule ops.Clamp operands = three_alike operands
+value_rule ops.Mod operands = two_alike operands
+value_rule ops.Mix operands = three_alike operands
+value_rule ops.Sin operands = one_float Float operands
+value_rule ops.Cos operands = one_float Float operands
+value_rule ops.Tan operands = one_float Float operands
+value_rule ops.Sqrt operands = one_float Float operands
+value_rule ops.InverseSqrt operands = one_float Float operands
+value_rule ops.Pow operands = two_floats Float operands
+value_rule ops.Exp operands = one_float Float operands
+value_rule ops.Log operands = one_float Float operands
+value_rule ops.Radians operands = one_float Float operands
+value_rule ops.Degrees operands = one_float Float operands
+value_rule ops.Step operands = two_floats Float operands
+value_rule ops.SmoothStep operands = three_floats Float operands
+value_rule ops.XComp operands = one_triple Float operands
+value_rule ops.YComp operands = one_triple Float operands
+value_rule ops.ZComp operands = one_triple Float operands
+value_rule ops.Comp operands = channel operands
+value_rule ops.Length operands = one_triple Float operands
+value_rule ops.Distance operands = two_triples Float operands
+value_rule ops.Normalize operands = one_triple Vector operands
+value_rule ops.Reflect operands = two_triples Vector operands
+value_rule ops.FaceForward operands = three_triples Vector operands
+value_rule (ops.Transform from into) operands = through_spaces Point operands
+value_rule (ops.VTransform from into) operands = through_spaces Vector operands
+value_rule (ops.NTransform from into) operands = through_spaces Normal operands
+value_rule ops.Depth operands = one_triple Float operands
+value_rule ops.Noise operands = lattice operands
+
+abbrev pub difference_rule : Difference → Operands → Option NodeType
+difference_rule differences.Du operands = difference operands
+difference_rule differences.Dv operands = difference operands
+difference_rule differences.CalculateNormal operands = one_triple Normal operands
+
+abbrev pub sum_rule : LightSum → Operands → Option NodeType
+sum_rule sums.Ambient operands = no_operands Color operands
+sum_rule sums.Diffuse operands = one_triple Color operands
+sum_rule sums.Specular operands = highlight operands
+
 abbrev pub rule : Operation → Operands → Option NodeType
-rule ops.Negate operands = one_alike operands
-rule ops.Not operands = one_test operands
-rule ops.Or operands = two_tests operands
-rule ops.And operands = two_tests operands
-rule ops.Equal operands = equality operands
-rule ops.NotEqual operands = equality operands
-rule ops.Less operands = two_floats Test operands
-rule ops.LessEqual operands = two_floats Test operands
-rule ops.Greater operands = two_floats Test operands
-rule ops.GreaterEqual operands = two_floats Test operands
-rule ops.Add operands = two_alike operands
-rule ops.Subtract operands = two_alike operands
-rule ops.Cross operands = two_triples Vector operands
-rule ops.Multiply operands = two_alike operands
-rule ops.Divide operands = two_alike operands
-rule ops.Dot operands = two_triples Float operands
-rule ops.Select operands = selection operands
-rule (ops.Triple kind space) operands = components kind operands
-rule (ops.Convert kind space) operands = conversion kind operands
-rule ops.Abs operands = one_alike operands
-rule ops.Sign operands = one_alike operands
-rule ops.Floor operands = one_alike operands
-rule ops.Ceil operands = one_alike operands
-rule ops.Round operands = one_alike operands
-rule ops.Min operands = some_alike operands
-rule ops.Max operands = some_alike operands
-rule ops.Clamp operands = three_alike operands
-rule ops.Mod operands = two_alike operands
-rule ops.Mix operands = three_alike operands
-rule ops.Sin operands = one_float Float operands
-rule ops.Cos operands = one_float Float operands
-rule ops.Tan operands = one_float Float operands
-rule ops.Sqrt operands = one_float Float operands
-rule ops.InverseSqrt operands = one_float Float operands
-rule ops.Pow operands = two_floats Float operands
-rule ops.Exp operands = one_float Float operands
-rule ops.Log operands = one_float Float operands
-rule ops.Radians operands = one_float Float operands
-rule ops.Degrees operands = one_float Float operands
-rule ops.Step operands = two_floats Float operands
-rule ops.SmoothStep operands = three_floats Float operands
-rule ops.XComp operands = one_triple Float operands
-rule ops.YComp operands = one_triple Float operands
-rule ops.ZComp operands = one_triple Float operands
-rule ops.Comp operands = channel operands
-rule ops.Length operands = one_triple Float operands
-rule ops.Distance operands = two_triples Float operands
-rule ops.Normalize operands = one_triple Vector operands
-rule ops.Reflect operands = two_triples Vector operands
-rule ops.FaceForward operands = three_triples Vector operands
-rule ops.FaceForwardNg operands = two_triples Vector operands
-rule (ops.Transform from into) operands = through_spaces Point operands
-rule (ops.VTransform from into) operands = through_spaces Vector operands
-rule (ops.NTransform from into) operands = through_spaces Normal operands
-rule ops.Depth operands = one_triple Float operands
-rule ops.Noise operands = lattice operands
-rule ops.Du operands = difference operands
-rule ops.Dv operands = difference operands
-rule ops.CalculateNormal operands = one_triple Normal operands
-rule ops.Ambient operands = no_operands Color operands
-rule ops.Diffuse operands = one_triple Color operands
-rule ops.Specular operands = highlight operands
+rule (operations.Value operation) operands = value_rule operation operands
+rule operations.FaceForwardNg operands = two_triples Vector operands
+rule (operations.Difference which) operands = difference_rule which operands
+rule (operations.Sum which) operands = sum_rule which operands
 
 -- what `=`, `+=`, `-=`, `*=` and `/=` put into a variable of that type
 abbrev pub put_into : NodeType → SetOperator → NodeType → Option NodeType
 put_into kind sets.Set value = Some value
-put_into kind sets.Add value = rule ops.Add (Two kind value)
-put_into kind sets.Subtract value = rule ops.Subtract (Two kind value)
-put_into kind sets.Multiply value = rule ops.Multiply (Two kind value)
-put_into kind sets.Divide value = rule ops.Divide (Two kind value)
+put_into kind sets.Add value = value_rule ops.Add (Two kind value)
+put_into kind sets.Subtract value = value_rule ops.Subtract (Two kind value)
+put_into kind sets.Multiply value = value_rule ops.Multiply (Two kind value)
+put_into kind sets.Divide value = value_rule ops.Divide (Two kind value)
 
 -- a float is promoted beside a colour
-abbrev scaled_color : rule ops.Multiply (Two Float Color) ≡ Some Color
+abbrev scaled_color : value_rule ops.Multiply (Two Float Color) ≡ Some Color
 scaled_color = refl
 
 -- a colour is no point
-abbrev color_and_point : rule ops.Add (Two Color Point) ≡ None
+abbrev color_and_point : value_rule ops.Add (Two Color Point) ≡ None
 color_and_point = refl
 
 -- a point less a normal has the type of the first
-abbrev point_less_normal : rule ops.Subtract (Two Point Normal) ≡ Some Point
+abbrev point_less_normal : value_rule ops.Subtract (Two Point Normal) ≡ Some Point
 point_less_normal = refl
 
 -- strings are compared and not added
-abbrev strings_equal : rule ops.Equal (Two Str Str) ≡ Some Test
+abbrev strings_equal : value_rule ops.Equal (Two Str Str) ≡ Some Test
 strings_equal = refl
 
-abbrev strings_added : rule ops.Add (Two Str Str) ≡ None
+abbrev strings_added : value_rule ops.Add (Two Str Str) ≡ None
 strings_added = refl
 
 -- conditions are no values
-abbrev conditions_equal : rule ops.Equal (Two Test Test) ≡ None
+abbrev conditions_equal : value_rule ops.Equal (Two Test Test) ≡ None
 conditions_equal = refl
 
-abbrev color_of_point : rule (ops.Convert types.Color Current) (One Point) ≡ None
+abbrev color_of_point : value_rule (ops.Convert types.Color Current) (One Point) ≡ None
 color_of_point = refl
 
 -- a blend of colours by a float
-abbrev blended_colors : rule ops.Mix (Three Color Color Float) ≡ Some Color
+abbrev blended_colors : value_rule ops.Mix (Three Color Color Float) ≡ Some Color
 blended_colors = refl
 
-abbrev noise_of_color : rule ops.Noise (One Color) ≡ None
+abbrev noise_of_color : value_rule ops.Noise (One Color) ≡ None
 noise_of_color = refl
 
-abbrev difference_of_points : rule ops.Du (One Point) ≡ Some Vector
+abbrev difference_of_points : difference_rule differences.Du (One Point) ≡ Some Vector
 difference_of_points = refl
 
-abbrev component_of_float : rule ops.Comp (Two Float Float) ≡ Some Float
+abbrev component_of_float : value_rule ops.Comp (Two Float Float) ≡ Some Float
 component_of_float = refl

@@ -3,8 +3,9 @@
 use Rattle.std.specs.Prelude.{ℕ, Bool, true, false, ◌&&◌, ◌||◌, not, List, [], ◌∷◌, Result, Ok, Err, Option, Some, None, cond, ◌≡◌}
 use Rattle.sl_ast.specs.declared.kinds.SlType.{SlType}
 use Rattle.sl_ast.specs.declared.kinds.SlType.TheVariants as types
-use Rattle.sl_ast.specs.declared.kinds.Operation.{Operation}
-use Rattle.sl_ast.specs.declared.kinds.Operation.TheVariants as ops
+use Rattle.sl_ast.specs.declared.operations.Operation.{Operation}
+use Rattle.sl_ast.specs.declared.operations.Operation.TheVariants as operations
+use Rattle.sl_ast.specs.declared.operations.ValueOperation.TheVariants as ops
 use Rattle.sl_ast.specs.declared.kinds.LightStmt.{LightStmt}
 use Rattle.sl_ast.specs.declared.kinds.LightStmt.TheVariants.{Illuminance, Illuminate, Solar}
 use Rattle.sl_ast.specs.declared.kinds.ControlCode.{ControlCode}
@@ -40,13 +41,11 @@ abbrev pub is_varying_string : Bool → SlType → Bool
 is_varying_string uniform kind = not uniform && is_string kind
 
 abbrev pub is_difference : Operation → Bool
-is_difference ops.Du = true
-is_difference ops.Dv = true
-is_difference ops.CalculateNormal = true
+is_difference (operations.Difference which) = true
 is_difference _ = false
 
 abbrev pub is_component : Operation → Bool
-is_component ops.Comp = true
+is_component (operations.Value ops.Comp) = true
 is_component _ = false
 
 -- the second operand is varying: the index of `comp`

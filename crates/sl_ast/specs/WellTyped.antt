@@ -7,8 +7,9 @@ use Rattle.sl_ast.specs.declared.kinds.SlType.{SlType}
 use Rattle.sl_ast.specs.declared.kinds.SlType.TheVariants as values
 use Rattle.sl_ast.specs.declared.kinds.NodeType.{NodeType}
 use Rattle.sl_ast.specs.declared.kinds.NodeType.TheVariants as types
-use Rattle.sl_ast.specs.declared.kinds.Operation.{Operation}
-use Rattle.sl_ast.specs.declared.kinds.Operation.TheVariants as ops
+use Rattle.sl_ast.specs.declared.operations.Operation.{Operation}
+use Rattle.sl_ast.specs.declared.operations.Operation.TheVariants as operations
+use Rattle.sl_ast.specs.declared.operations.ValueOperation.TheVariants as ops
 use Rattle.sl_ast.specs.declared.kinds.LightStmt.{LightStmt}
 use Rattle.sl_ast.specs.declared.kinds.LightStmt.TheVariants.{Solar}
 use Rattle.sl_ast.specs.declared.kinds.SpaceName.{SpaceName}
@@ -112,12 +113,12 @@ names_spaces g from into _ = false
 
 -- the operation may stand here
 abbrev pub stands : Around → Operation → Exprs → Bool
-stands g (ops.Triple kind space) args = stands_before space kind && has_space g.kind g.default space
-stands g (ops.Convert kind space) args = stands_before space kind && has_space g.kind g.default space
-stands g (ops.Transform from into) args = names_spaces g from into args
-stands g (ops.VTransform from into) args = names_spaces g from into args
-stands g (ops.NTransform from into) args = names_spaces g from into args
-stands g ops.FaceForwardNg args = has_surface g.kind && not g.default
+stands g (operations.Value (ops.Triple kind space)) args = stands_before space kind && has_space g.kind g.default space
+stands g (operations.Value (ops.Convert kind space)) args = stands_before space kind && has_space g.kind g.default space
+stands g (operations.Value (ops.Transform from into)) args = names_spaces g from into args
+stands g (operations.Value (ops.VTransform from into)) args = names_spaces g from into args
+stands g (operations.Value (ops.NTransform from into)) args = names_spaces g from into args
+stands g operations.FaceForwardNg args = has_surface g.kind && not g.default
 stands g operation args = has_operation g.kind operation && (is_constant operation || not g.default)
 
 -- a place, or a place, an axis and an angle; an axis and an angle

@@ -16,11 +16,11 @@ mod tree;
 mod typed;
 
 pub use kinds::{
-    Class, ControlCode, LightStmt, NodeType, Operation, Operator, Predefined, Prefix, Row,
-    SetOperator, SlKind, SlType, SpaceName,
+    Class, ControlCode, LightStmt, NodeType, Operator, Predefined, Prefix, Row, SetOperator,
+    SlKind, SlType, SpaceName,
 };
 pub use operands::Operands;
-pub use operations::{Difference, LightSum, ValueOperation};
+pub use operations::{Difference, LightSum, Operation, ValueOperation};
 pub use shader::Shader;
 pub use syntax::{Assignment, Cone, Declared, Expr, Function, Group, LightWord, Link, Space, Stmt};
 pub use tree::Tree;

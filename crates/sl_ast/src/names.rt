@@ -3,7 +3,8 @@ ghost use Rattle.std.specs.Prelude.{◌≡◌};
 ghost use Rattle.sl_ast.specs.Names as spec;
 ghost use Rattle.sl_ast.specs.Classes as classes;
 
-use crate::kinds::{LightStmt, Operation, Predefined, SlKind, SlType, SpaceName};
+use crate::kinds::{LightStmt, Predefined, SlKind, SlType, SpaceName};
+use crate::operations::{Operation, ValueOperation};
 
 impl Predefined {
     /// The type of the variable.
@@ -66,12 +67,9 @@ impl SlKind {
         ensures { result ≡ spec.has_operation self operation }
     {
         match operation {
-            Operation::Ambient | Operation::Diffuse | Operation::Specular => matches!(
-                self,
-                Self::Surface
-            ),
-            Operation::Du | Operation::Dv | Operation::CalculateNormal => self.has_surface(),
-            _ => true,
+            Operation::Sum(_) => matches!(self, Self::Surface),
+            Operation::Difference(_) => self.has_surface(),
+            Operation::Value(_) | Operation::FaceForwardNg => true,
         }
     }
 
@@ -91,18 +89,14 @@ impl Operation {
     pub fn is_constant(self) -> bool
         ensures { result ≡ spec.is_constant self }
     {
-        !matches!(self, Self::Depth)
+        !matches!(self, Self::Value(ValueOperation::Depth))
     }
 
     /// Whether the value is uniform where all operands are: the others read a varying variable, neighbours or lights.
     pub fn is_plain(self) -> bool
         ensures { result ≡ classes.is_plain self }
     {
-        match self {
-            Self::FaceForwardNg | Self::Du | Self::Dv | Self::CalculateNormal => false,
-            Self::Ambient | Self::Diffuse | Self::Specular => false,
-            _ => true,
-        }
+        matches!(self, Self::Value(_))
     }
 }
 

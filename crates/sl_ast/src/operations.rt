@@ -1,5 +1,15 @@
-// The operations of the core tree, in three kinds.
+// The operations of the trees, in three kinds.
 use crate::kinds::{SlType, SpaceName};
+
+/// The operators, conversions and built-in functions.
+#[derive(Clone, Copy)]
+pub enum Operation {
+    Value(ValueOperation),
+    /// `faceforward` with two arguments: the third is the predefined `Ng`, which this operation reads.
+    FaceForwardNg,
+    Difference(Difference),
+    Sum(LightSum),
+}
 
 /// The operators, conversions and built-in functions whose value is a function of their operands' values.
 #[derive(Clone, Copy)]
@@ -57,7 +67,7 @@ pub enum ValueOperation {
     Normalize,
     Reflect,
     FaceForward,
-    /// From the first space to the second; the strings that name them are operands too.
+    /// From the first space to the second. In the typed tree the strings that name them are operands too.
     Transform(SpaceName, SpaceName),
     VTransform(SpaceName, SpaceName),
     NTransform(SpaceName, SpaceName),

@@ -2,8 +2,9 @@
 ghost use Rattle.std.specs.Prelude.{◌≡◌};
 ghost use Rattle.sl_ast.specs.Rules as spec;
 
-use crate::kinds::{NodeType, Operation, SetOperator, SlType};
+use crate::kinds::{NodeType, SetOperator, SlType};
 use crate::operands::Operands;
+use crate::operations::{Difference, LightSum, Operation, ValueOperation};
 use crate::shapes::{
     channel, components, conversion, difference, equality, highlight, is_color, is_float,
     is_string, is_triple, lattice, no_operands, one_alike, one_float, one_test, one_triple,
@@ -40,11 +41,11 @@ impl SlType {
     }
 }
 
-impl Operation {
+impl ValueOperation {
     /// The type of this operation's value, where it takes these operands (Shading Language, RenderMan Interface 3.2,
     /// sections 11 to 15).
     pub fn rule(self, operands: Operands) -> Option<NodeType>
-        ensures { result ≡ spec.rule self operands }
+        ensures { result ≡ spec.value_rule self operands }
     {
         match self {
             Self::Negate | Self::Abs | Self::Sign => one_alike(operands),
@@ -71,21 +72,52 @@ impl Operation {
             Self::Length | Self::Depth => one_triple(NodeType::Float, operands),
             Self::Dot | Self::Distance => two_triples(NodeType::Float, operands),
             Self::Normalize => one_triple(NodeType::Vector, operands),
-            Self::Cross | Self::Reflect | Self::FaceForwardNg => two_triples(
-                NodeType::Vector,
-                operands,
-            ),
+            Self::Cross | Self::Reflect => two_triples(NodeType::Vector, operands),
             Self::FaceForward => three_triples(NodeType::Vector, operands),
-            Self::CalculateNormal => one_triple(NodeType::Normal, operands),
-            Self::Diffuse => one_triple(NodeType::Color, operands),
-            Self::Ambient => no_operands(NodeType::Color, operands),
-            Self::Specular => highlight(operands),
             Self::Comp => channel(operands),
             Self::Noise => lattice(operands),
-            Self::Du | Self::Dv => difference(operands),
             Self::Transform(_, _) => through_spaces(NodeType::Point, operands),
             Self::VTransform(_, _) => through_spaces(NodeType::Vector, operands),
             Self::NTransform(_, _) => through_spaces(NodeType::Normal, operands),
+        }
+    }
+}
+
+impl Difference {
+    /// The type of this difference, where it takes these operands.
+    pub fn rule(self, operands: Operands) -> Option<NodeType>
+        ensures { result ≡ spec.difference_rule self operands }
+    {
+        match self {
+            Self::Du | Self::Dv => difference(operands),
+            Self::CalculateNormal => one_triple(NodeType::Normal, operands),
+        }
+    }
+}
+
+impl LightSum {
+    /// The type of this sum, where it takes these operands.
+    pub fn rule(self, operands: Operands) -> Option<NodeType>
+        ensures { result ≡ spec.sum_rule self operands }
+    {
+        match self {
+            Self::Ambient => no_operands(NodeType::Color, operands),
+            Self::Diffuse => one_triple(NodeType::Color, operands),
+            Self::Specular => highlight(operands),
+        }
+    }
+}
+
+impl Operation {
+    /// The type of this operation's value, where it takes these operands.
+    pub fn rule(self, operands: Operands) -> Option<NodeType>
+        ensures { result ≡ spec.rule self operands }
+    {
+        match self {
+            Self::Value(operation) => operation.rule(operands),
+            Self::FaceForwardNg => two_triples(NodeType::Vector, operands),
+            Self::Difference(difference) => difference.rule(operands),
+            Self::Sum(sum) => sum.rule(operands),
         }
     }
 }
@@ -97,10 +129,10 @@ impl SetOperator {
     {
         match self {
             Self::Set => Some(value),
-            Self::Add => Operation::Add.rule(Operands::Two(kind, value)),
-            Self::Subtract => Operation::Subtract.rule(Operands::Two(kind, value)),
-            Self::Multiply => Operation::Multiply.rule(Operands::Two(kind, value)),
-            Self::Divide => Operation::Divide.rule(Operands::Two(kind, value)),
+            Self::Add => ValueOperation::Add.rule(Operands::Two(kind, value)),
+            Self::Subtract => ValueOperation::Subtract.rule(Operands::Two(kind, value)),
+            Self::Multiply => ValueOperation::Multiply.rule(Operands::Two(kind, value)),
+            Self::Divide => ValueOperation::Divide.rule(Operands::Two(kind, value)),
         }
     }
 }

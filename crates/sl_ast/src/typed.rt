@@ -1,5 +1,6 @@
 // The typed tree: one node for each operation, the body of each called function in its call's place.
-use crate::kinds::{LightStmt, NodeType, Operation, Predefined, SetOperator, SlType};
+use crate::kinds::{LightStmt, NodeType, Predefined, SetOperator, SlType};
+use crate::operations::Operation;
 use fixed_math::{List, Num, Text, Vec3};
 
 /// The line on which a node's token begins, and the node's number. Numbers go from 0, a node before its parts and the

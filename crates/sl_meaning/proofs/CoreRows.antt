@@ -26,13 +26,13 @@ row_stmts-items : (m : _) (k : Row_of-CoreStmt m) → row_stmts k ≡ stmts_of (
 row_stmts-items m end_of-CoreStmt = refl
 row_stmts-items m (more_of-CoreStmt x rest) = ap (C.first (stmt_of x)) (row_stmts-items _ rest)
 
-held_exprs : (xs : List CoreExpr) → row_exprs (hidden-the_row-CoreExpr-0 xs) ≡ exprs_of xs
+pub held_exprs : (xs : List CoreExpr) → row_exprs (hidden-the_row-CoreExpr-0 xs) ≡ exprs_of xs
 held_exprs xs = row_exprs-items _ (hidden-the_row-CoreExpr-0 xs) ∙ ap exprs_of (items_hidden-the_row-CoreExpr-0 xs)
 
-held_args : (xs : List Argument) → row_args (hidden-the_row-Argument-1 xs) ≡ args_of xs
+pub held_args : (xs : List Argument) → row_args (hidden-the_row-Argument-1 xs) ≡ args_of xs
 held_args xs = row_args-items _ (hidden-the_row-Argument-1 xs) ∙ ap args_of (items_hidden-the_row-Argument-1 xs)
 
-held_stmts : (xs : List CoreStmt) → row_stmts (hidden-the_row-CoreStmt-2 xs) ≡ stmts_of xs
+pub held_stmts : (xs : List CoreStmt) → row_stmts (hidden-the_row-CoreStmt-2 xs) ≡ stmts_of xs
 held_stmts xs = row_stmts-items _ (hidden-the_row-CoreStmt-2 xs) ∙ ap stmts_of (items_hidden-the_row-CoreStmt-2 xs)
 
 pub apply_shown : (e : CoreExpr) (op : ValueOperation) (args : List CoreExpr) → e ≡ Apply op args → expr_of e ≡ C.apply op (exprs_of args)

@@ -6,4 +6,8 @@ pub mod Signals
 pub mod Dark
 pub mod Alone
 pub mod Grid
+pub mod Lowered
+pub mod Runs
 pub mod Examples
+pub mod LoweredExamples
+pub mod Defaults

@@ -23,7 +23,7 @@ use std::alloc::Global;
 use transforms::Spaces;
 
 // A value where one of that type is wanted.
-fn in_kind(alloc: Global, kind: SlType, value: &Value) -> Result<Value, NoMemory>
+pub(crate) fn in_kind(alloc: Global, kind: SlType, value: &Value) -> Result<Value, NoMemory>
     ensures { IfOk result (λ w. w ≡ as_kind kind value.now) }
 {
     as_shape(alloc, shape_of(kind), value)

@@ -5,7 +5,7 @@ use Rattle.std.specs.declared.alloc.Global.{Global}
 use Rattle.std.specs.declared.boxed.Box.{Box}
 use Rattle.sl_ast.specs.Typed as A
 use Rattle.sl_ast.specs.declared.kinds.NodeType.{NodeType}
-use Rattle.sl_ast.specs.declared.kinds.Operation.{Operation}
+use Rattle.sl_ast.specs.declared.operations.Operation.{Operation}
 use Rattle.sl_ast.specs.declared.typed.Place.{Place}
 use Rattle.sl_types.specs.Typed as T
 use Rattle.sl_types.specs.TypedView.{typed_of, tlink_of, row_chain}

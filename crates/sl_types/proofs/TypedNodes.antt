@@ -3,7 +3,7 @@ use Rattle.std.proofs.Common.{◌≡◌, ℕ, List, map, ap, ◌∙◌}
 use Rattle.std.specs.declared.alloc.Global.{Global}
 use Rattle.std.specs.declared.boxed.Box.{Box}
 use Rattle.sl_ast.specs.declared.kinds.NodeType.{NodeType}
-use Rattle.sl_ast.specs.declared.kinds.Operation.{Operation}
+use Rattle.sl_ast.specs.declared.operations.Operation.{Operation}
 use Rattle.sl_types.specs.Typed as T
 use Rattle.sl_types.specs.TypedView.{typed_of, tstmt_of, row_tstmts}
 use Rattle.sl_types.specs.declared.typed.TypedExpr.{TypedExpr, Apply, Call}

@@ -1,5 +1,5 @@
 -- Calls and expressions are well typed once functions stand in place of their calls.
-use Rattle.std.proofs.Common.{◌≡◌, ℕ, ◌+◌, Bool, true, false, ◌&&◌, ◌||◌, not, List, [], ◌∷◌, append_assoc, ◌++◌, map, get_or, Option, Some, None, Ok, Err, is_some, refl, sym, ap, ap₂, ◌∙◌, subst, arith}
+use Rattle.std.proofs.Common.{◌≡◌, ℕ, ◌+◌, Bool, true, false, ◌&&◌, ◌||◌, not, List, [], ◌∷◌, map, get_or, Option, Some, None, Ok, Err, is_some, refl, sym, ap, ap₂, ◌∙◌, subst}
 use Rattle.std.proofs.lemmas.Bool.{cond_both}
 use Rattle.std.specs.Str.{bytes_eq}
 use Rattle.sl_ast.specs.Syntax as U
@@ -9,8 +9,9 @@ use Rattle.sl_ast.specs.Rules.{node_type, rule, takes, through_spaces}
 use Rattle.sl_ast.specs.declared.kinds.SlType.{SlType}
 use Rattle.sl_ast.specs.declared.kinds.NodeType.{NodeType}
 use Rattle.sl_ast.specs.declared.kinds.NodeType.TheVariants as nodes
-use Rattle.sl_ast.specs.declared.kinds.Operation.{Operation}
-use Rattle.sl_ast.specs.declared.kinds.Operation.TheVariants as ops
+use Rattle.sl_ast.specs.declared.operations.Operation.{Operation}
+use Rattle.sl_ast.specs.declared.operations.Operation.TheVariants as operations
+use Rattle.sl_ast.specs.declared.operations.ValueOperation.TheVariants as ops
 use Rattle.sl_ast.specs.declared.kinds.SpaceName.{SpaceName}
 use Rattle.sl_ast.specs.declared.kinds.SpaceName.TheVariants.{Current, World, Object, Shader}
 use Rattle.sl_types.specs.declared.fault.TypeCode.TheVariants.{T11}
@@ -41,10 +42,6 @@ or_right false b h = h
 pub not_false : (a : Bool) → not a ≡ false → a ≡ true
 not_false true h = refl
 not_false false h = absurd (cc h)
-
-nil_behind : {A : Type 0} (xs : List A) → xs ++ [] ≡ xs
-nil_behind [] = refl
-nil_behind (x ∷ xs) = ap (λ r. x ∷ r) (nil_behind xs)
 
 -- calls of functions
 fits_kept : (fs : List Built) (n : ℕ) (ls : List Local) (ts : List T.Expr) → fits ls ts ≡ true → W.fits (map tree_formal ls) (inline_args fs n (T.exprs ts)) ≡ true
@@ -142,9 +139,9 @@ moved g line (x ∷ y ∷ z ∷ w ∷ es) (a ∷ b ∷ c ∷ d ∷ ts) h = λ t.
 
 -- built-in functions
 abbrev is_call : Operation → Bool
-is_call (ops.Triple kind space) = false
-is_call (ops.Convert kind space) = false
-is_call ops.FaceForwardNg = false
+is_call (operations.Value (ops.Triple kind space)) = false
+is_call (operations.Value (ops.Convert kind space)) = false
+is_call operations.FaceForwardNg = false
 is_call _ = true
 
 abbrev is_listed : Builtin → Bool
@@ -199,80 +196,29 @@ surface_there true has h = absurd (cc h)
 surface_there false true h = refl
 surface_there false false h = absurd (cc h)
 
-faces : (g : W.Around) (ks : List SlType) (fs : List Built) (line : ℕ) (ts : List T.Expr) → Allowed g ops.FaceForward → is_amiss g ops.FaceForward ts ≡ false → AllFine g ks fs ts
-    → Good (applied (by_count ops.FaceForward ts) line ts) (Fine g ks fs)
+faces : (g : W.Around) (ks : List SlType) (fs : List Built) (line : ℕ) (ts : List T.Expr) → Allowed g (operations.Value ops.FaceForward) → is_amiss g (operations.Value ops.FaceForward) ts ≡ false → AllFine g ks fs ts
+    → Good (applied (by_count (operations.Value ops.FaceForward) ts) line ts) (Fine g ks fs)
 faces g ks fs line [] a m h = tt
 faces g ks fs line (x ∷ []) a m h = tt
 faces g ks fs line (x ∷ y ∷ []) a m h =
-    applied_fine g ks fs ops.FaceForwardNg line (x ∷ y ∷ [])
-    (λ kind is n. surface_there g.default (has_surface g.kind) (or_right (misfits ops.FaceForwardNg (x ∷ y ∷ [])) (g.default || not (has_surface g.kind)) m)) h
-faces g ks fs line (x ∷ y ∷ z ∷ []) a m h = applied_fine g ks fs ops.FaceForward line (x ∷ y ∷ z ∷ []) (λ kind is n. a) h
+    applied_fine g ks fs operations.FaceForwardNg line (x ∷ y ∷ [])
+    (λ kind is n. surface_there g.default (has_surface g.kind) (or_right (misfits operations.FaceForwardNg (x ∷ y ∷ [])) (g.default || not (has_surface g.kind)) m)) h
+faces g ks fs line (x ∷ y ∷ z ∷ []) a m h = applied_fine g ks fs (operations.Value ops.FaceForward) line (x ∷ y ∷ z ∷ []) (λ kind is n. a) h
 faces g ks fs line (x ∷ y ∷ z ∷ w ∷ ts) a m h = tt
 
 operates : (g : W.Around) (ks : List SlType) (fs : List Built) (line : ℕ) (es : List U.Expr) (ts : List T.Expr) (op : Operation) → is_call op ≡ true → Allowed g op
     → is_amiss g op ts ≡ false → AllLiteral es ts → AllFine g ks fs ts → Operates g ks fs line es ts op
-operates g ks fs line es ts ops.Negate c a m l h = applied_fine g ks fs ops.Negate line ts (λ kind is n. a) h
-operates g ks fs line es ts ops.Not c a m l h = applied_fine g ks fs ops.Not line ts (λ kind is n. a) h
-operates g ks fs line es ts ops.Or c a m l h = applied_fine g ks fs ops.Or line ts (λ kind is n. a) h
-operates g ks fs line es ts ops.And c a m l h = applied_fine g ks fs ops.And line ts (λ kind is n. a) h
-operates g ks fs line es ts ops.Equal c a m l h = applied_fine g ks fs ops.Equal line ts (λ kind is n. a) h
-operates g ks fs line es ts ops.NotEqual c a m l h = applied_fine g ks fs ops.NotEqual line ts (λ kind is n. a) h
-operates g ks fs line es ts ops.Less c a m l h = applied_fine g ks fs ops.Less line ts (λ kind is n. a) h
-operates g ks fs line es ts ops.LessEqual c a m l h = applied_fine g ks fs ops.LessEqual line ts (λ kind is n. a) h
-operates g ks fs line es ts ops.Greater c a m l h = applied_fine g ks fs ops.Greater line ts (λ kind is n. a) h
-operates g ks fs line es ts ops.GreaterEqual c a m l h = applied_fine g ks fs ops.GreaterEqual line ts (λ kind is n. a) h
-operates g ks fs line es ts ops.Add c a m l h = applied_fine g ks fs ops.Add line ts (λ kind is n. a) h
-operates g ks fs line es ts ops.Subtract c a m l h = applied_fine g ks fs ops.Subtract line ts (λ kind is n. a) h
-operates g ks fs line es ts ops.Cross c a m l h = applied_fine g ks fs ops.Cross line ts (λ kind is n. a) h
-operates g ks fs line es ts ops.Multiply c a m l h = applied_fine g ks fs ops.Multiply line ts (λ kind is n. a) h
-operates g ks fs line es ts ops.Divide c a m l h = applied_fine g ks fs ops.Divide line ts (λ kind is n. a) h
-operates g ks fs line es ts ops.Dot c a m l h = applied_fine g ks fs ops.Dot line ts (λ kind is n. a) h
-operates g ks fs line es ts ops.Select c a m l h = applied_fine g ks fs ops.Select line ts (λ kind is n. a) h
-operates g ks fs line es ts ops.Abs c a m l h = applied_fine g ks fs ops.Abs line ts (λ kind is n. a) h
-operates g ks fs line es ts ops.Sign c a m l h = applied_fine g ks fs ops.Sign line ts (λ kind is n. a) h
-operates g ks fs line es ts ops.Floor c a m l h = applied_fine g ks fs ops.Floor line ts (λ kind is n. a) h
-operates g ks fs line es ts ops.Ceil c a m l h = applied_fine g ks fs ops.Ceil line ts (λ kind is n. a) h
-operates g ks fs line es ts ops.Round c a m l h = applied_fine g ks fs ops.Round line ts (λ kind is n. a) h
-operates g ks fs line es ts ops.Min c a m l h = applied_fine g ks fs ops.Min line ts (λ kind is n. a) h
-operates g ks fs line es ts ops.Max c a m l h = applied_fine g ks fs ops.Max line ts (λ kind is n. a) h
-operates g ks fs line es ts ops.Clamp c a m l h = applied_fine g ks fs ops.Clamp line ts (λ kind is n. a) h
-operates g ks fs line es ts ops.Mod c a m l h = applied_fine g ks fs ops.Mod line ts (λ kind is n. a) h
-operates g ks fs line es ts ops.Mix c a m l h = applied_fine g ks fs ops.Mix line ts (λ kind is n. a) h
-operates g ks fs line es ts ops.Sin c a m l h = applied_fine g ks fs ops.Sin line ts (λ kind is n. a) h
-operates g ks fs line es ts ops.Cos c a m l h = applied_fine g ks fs ops.Cos line ts (λ kind is n. a) h
-operates g ks fs line es ts ops.Tan c a m l h = applied_fine g ks fs ops.Tan line ts (λ kind is n. a) h
-operates g ks fs line es ts ops.Sqrt c a m l h = applied_fine g ks fs ops.Sqrt line ts (λ kind is n. a) h
-operates g ks fs line es ts ops.InverseSqrt c a m l h = applied_fine g ks fs ops.InverseSqrt line ts (λ kind is n. a) h
-operates g ks fs line es ts ops.Pow c a m l h = applied_fine g ks fs ops.Pow line ts (λ kind is n. a) h
-operates g ks fs line es ts ops.Exp c a m l h = applied_fine g ks fs ops.Exp line ts (λ kind is n. a) h
-operates g ks fs line es ts ops.Log c a m l h = applied_fine g ks fs ops.Log line ts (λ kind is n. a) h
-operates g ks fs line es ts ops.Radians c a m l h = applied_fine g ks fs ops.Radians line ts (λ kind is n. a) h
-operates g ks fs line es ts ops.Degrees c a m l h = applied_fine g ks fs ops.Degrees line ts (λ kind is n. a) h
-operates g ks fs line es ts ops.Step c a m l h = applied_fine g ks fs ops.Step line ts (λ kind is n. a) h
-operates g ks fs line es ts ops.SmoothStep c a m l h = applied_fine g ks fs ops.SmoothStep line ts (λ kind is n. a) h
-operates g ks fs line es ts ops.XComp c a m l h = applied_fine g ks fs ops.XComp line ts (λ kind is n. a) h
-operates g ks fs line es ts ops.YComp c a m l h = applied_fine g ks fs ops.YComp line ts (λ kind is n. a) h
-operates g ks fs line es ts ops.ZComp c a m l h = applied_fine g ks fs ops.ZComp line ts (λ kind is n. a) h
-operates g ks fs line es ts ops.Comp c a m l h = applied_fine g ks fs ops.Comp line ts (λ kind is n. a) h
-operates g ks fs line es ts ops.Length c a m l h = applied_fine g ks fs ops.Length line ts (λ kind is n. a) h
-operates g ks fs line es ts ops.Distance c a m l h = applied_fine g ks fs ops.Distance line ts (λ kind is n. a) h
-operates g ks fs line es ts ops.Normalize c a m l h = applied_fine g ks fs ops.Normalize line ts (λ kind is n. a) h
-operates g ks fs line es ts ops.Reflect c a m l h = applied_fine g ks fs ops.Reflect line ts (λ kind is n. a) h
-operates g ks fs line es ts ops.Depth c a m l h = applied_fine g ks fs ops.Depth line ts (λ kind is n. a) h
-operates g ks fs line es ts ops.Noise c a m l h = applied_fine g ks fs ops.Noise line ts (λ kind is n. a) h
-operates g ks fs line es ts ops.Du c a m l h = applied_fine g ks fs ops.Du line ts (λ kind is n. a) h
-operates g ks fs line es ts ops.Dv c a m l h = applied_fine g ks fs ops.Dv line ts (λ kind is n. a) h
-operates g ks fs line es ts ops.CalculateNormal c a m l h = applied_fine g ks fs ops.CalculateNormal line ts (λ kind is n. a) h
-operates g ks fs line es ts ops.Ambient c a m l h = applied_fine g ks fs ops.Ambient line ts (λ kind is n. a) h
-operates g ks fs line es ts ops.Diffuse c a m l h = applied_fine g ks fs ops.Diffuse line ts (λ kind is n. a) h
-operates g ks fs line es ts ops.Specular c a m l h = applied_fine g ks fs ops.Specular line ts (λ kind is n. a) h
-operates g ks fs line es ts ops.FaceForward c a m l h = faces g ks fs line ts a m h
-operates g ks fs line es ts (ops.Transform a b) c al m l h = transforms g ks fs line es ts ops.Transform nodes.Point (λ x y. refl) (λ x y. refl) (λ x y n. refl) l h
-operates g ks fs line es ts (ops.VTransform a b) c al m l h = transforms g ks fs line es ts ops.VTransform nodes.Vector (λ x y. refl) (λ x y. refl) (λ x y n. refl) l h
-operates g ks fs line es ts (ops.NTransform a b) c al m l h = transforms g ks fs line es ts ops.NTransform nodes.Normal (λ x y. refl) (λ x y. refl) (λ x y n. refl) l h
-operates g ks fs line es ts ops.FaceForwardNg c a m l h = absurd (cc c)
-operates g ks fs line es ts (ops.Triple kind space) c a m l h = absurd (cc c)
-operates g ks fs line es ts (ops.Convert kind space) c a m l h = absurd (cc c)
+operates g ks fs line es ts (operations.Value (ops.Triple kind space)) c a m l h = absurd (cc c)
+operates g ks fs line es ts (operations.Value (ops.Convert kind space)) c a m l h = absurd (cc c)
+operates g ks fs line es ts operations.FaceForwardNg c a m l h = absurd (cc c)
+operates g ks fs line es ts (operations.Value (ops.Transform from into)) c a m l h =
+    transforms g ks fs line es ts (λ x y. operations.Value (ops.Transform x y)) nodes.Point (λ x y. refl) (λ x y. refl) (λ x y n. refl) l h
+operates g ks fs line es ts (operations.Value (ops.VTransform from into)) c a m l h =
+    transforms g ks fs line es ts (λ x y. operations.Value (ops.VTransform x y)) nodes.Vector (λ x y. refl) (λ x y. refl) (λ x y n. refl) l h
+operates g ks fs line es ts (operations.Value (ops.NTransform from into)) c a m l h =
+    transforms g ks fs line es ts (λ x y. operations.Value (ops.NTransform x y)) nodes.Normal (λ x y. refl) (λ x y. refl) (λ x y n. refl) l h
+operates g ks fs line es ts (operations.Value ops.FaceForward) c a m l h = faces g ks fs line ts a m h
+operates g ks fs line es ts op c a m l h = applied_fine g ks fs op line ts (λ kind is n. a) h
 
 -- the arguments of a call
 abbrev pub GoodArgs : W.Around → List SlType → List Built → List U.Expr → List T.Expr → Type 0
@@ -314,20 +260,12 @@ call_with_fine g ks fs behind name line es args None r h =
 abbrev pub GoodExpr : W.Around → List SlType → List Built → U.Expr → T.Expr → Type 0
 GoodExpr g ks fs e t = Fine g ks fs t × Literal e t
 
--- arguments behind others
-abbrev Behind : W.Around → List SlType → List Built → List T.Expr → List U.Expr → List T.Expr → Type 0
-Behind g ks fs before es ts = (new : List T.Expr) × (ts ≡ before ++ new) × AllFine g ks fs new × AllLiteral es new
-
 three_fine : (g : W.Around) (ks : List SlType) (fs : List Built) (x y z : Found T.Expr) → Good x (Fine g ks fs) → Good y (Fine g ks fs) → Good z (Fine g ks fs) → Good (three x y z) (AllFine g ks fs)
 three_fine g ks fs x y z p q r =
     good_bind x _ (Fine g ks fs) (AllFine g ks fs) p (λ a u. good_bind y _ (Fine g ks fs) (AllFine g ks fs) q (λ b v. good_bind z _ (Fine g ks fs) (AllFine g ks fs) r (λ c w. (u, (v, (w, tt))))))
 
 fine : (g : W.Around) (ks : List SlType) (fs : List Built) (e : U.Expr) (r : Found T.Expr) → Good r (GoodExpr g ks fs e) → Good r (Fine g ks fs)
 fine g ks fs e r h = good_as r (GoodExpr g ks fs e) (Fine g ks fs) h (λ t p. p.0)
-
-all_fine : (g : W.Around) (ks : List SlType) (fs : List Built) (es : List U.Expr) (r : Found (List T.Expr)) → Good r (Behind g ks fs [] es) → Good r (GoodArgs g ks fs es)
-all_fine g ks fs es r h =
-    good_as r (Behind g ks fs [] es) (GoodArgs g ks fs es) h (λ ts q. (subst (AllFine g ks fs) (sym q.1) q.2, subst (AllLiteral es) (sym q.1) q.3))
 
 mutual
   pub expr_good : (g : Around) (fs : List Built) → Ready g.at.kind g.at.default g.known fs → (behind : Bool) (ls : List Local) (e : U.Expr)
@@ -337,8 +275,8 @@ mutual
   expr_good g fs r behind ls (U.name name line) =
       good_as (named g.at name line (level_of name ls)) (Fine g.at (types_of ls) fs) _ (named_fine g.at ls fs name line (level_of name ls) (level_typed name ls)) (λ t p. (p, tt))
   expr_good g fs r behind ls (U.call name args line) =
-      good_as (call_of g behind name line (listed args) (typed_args g ls [] args)) (Fine g.at (types_of ls) fs) _
-      (call_with_fine g (types_of ls) fs behind name line (listed args) (typed_args g ls [] args) (formals_in name g.own) r (all_fine g.at (types_of ls) fs (listed args) (typed_args g ls [] args) (args_behind g fs r ls [] args))) (λ t p. (p, tt))
+      good_as (call_of g behind name line (listed args) (typed_args g ls args)) (Fine g.at (types_of ls) fs) _
+      (call_with_fine g (types_of ls) fs behind name line (listed args) (typed_args g ls args) (formals_in name g.own) r (args_good g fs r ls args)) (λ t p. (p, tt))
   expr_good g fs r behind ls (U.paren e line) = expr_good g fs r false ls e
   expr_good g fs r behind ls (U.triple kind space x y z line) =
       good_as _ (Fine g.at (types_of ls) fs) _ (tripled_fine g.at (types_of ls) fs kind space line _
@@ -356,16 +294,15 @@ mutual
       good_bind (typed_expr g false ls t) _ (Fine g.at (types_of ls) fs) _ (fine g.at (types_of ls) fs t (typed_expr g false ls t) (expr_good g fs r false ls t))
       (λ x p. good_bind (typed_expr g false ls a) _ (Fine g.at (types_of ls) fs) _ (fine g.at (types_of ls) fs a (typed_expr g false ls a) (expr_good g fs r false ls a))
       (λ y q. good_bind (typed_expr g false ls b) _ (Fine g.at (types_of ls) fs) _ (fine g.at (types_of ls) fs b (typed_expr g false ls b) (expr_good g fs r false ls b))
-      (λ z s. good_as (applied ops.Select line (x ∷ y ∷ z ∷ [])) (Fine g.at (types_of ls) fs) _
-      (applied_fine g.at (types_of ls) fs ops.Select line (x ∷ y ∷ z ∷ []) (λ kind is n. refl) (p, (q, (s, tt)))) (λ w u. (u, tt)))))
+      (λ z s. good_as (applied (operations.Value ops.Select) line (x ∷ y ∷ z ∷ [])) (Fine g.at (types_of ls) fs) _
+      (applied_fine g.at (types_of ls) fs (operations.Value ops.Select) line (x ∷ y ∷ z ∷ []) (λ kind is n. refl) (p, (q, (s, tt)))) (λ w u. (u, tt)))))
 
-  args_behind : (g : Around) (fs : List Built) → Ready g.at.kind g.at.default g.known fs → (ls : List Local) (before : List T.Expr) (es : U.Exprs)
-      → Good (typed_args g ls before es) (Behind g.at (types_of ls) fs before (listed es))
-  args_behind g fs r ls before U.none = ([], sym (nil_behind before), tt, tt)
-  args_behind g fs r ls before (U.more e rest) =
+  pub args_good : (g : Around) (fs : List Built) → Ready g.at.kind g.at.default g.known fs → (ls : List Local) (es : U.Exprs)
+      → Good (typed_args g ls es) (GoodArgs g.at (types_of ls) fs (listed es))
+  args_good g fs r ls U.none = (tt, tt)
+  args_good g fs r ls (U.more e rest) =
       good_bind (typed_expr g false ls e) _ (GoodExpr g.at (types_of ls) fs e) _ (expr_good g fs r false ls e)
-      (λ t p. good_as (typed_args g ls (before ++ t ∷ []) rest) (Behind g.at (types_of ls) fs (before ++ t ∷ []) (listed rest)) _ (args_behind g fs r ls (before ++ t ∷ []) rest)
-      (λ ts q. (t ∷ q.0, q.1 ∙ append_assoc before (t ∷ []) q.0, (p.0, q.2), (p.1, q.3))))
+      (λ t p. good_bind (typed_args g ls rest) _ (GoodArgs g.at (types_of ls) fs (listed rest)) _ (args_good g fs r ls rest) (λ ts q. ((p.0, q.0), (p.1, q.1))))
 
   links_fine : (g : Around) (fs : List Built) → Ready g.at.kind g.at.default g.known fs → (ls : List Local) (t : T.Expr) (rest : U.Links) → Fine g.at (types_of ls) fs t
       → Good (typed_links g ls t rest) (Fine g.at (types_of ls) fs)
@@ -379,7 +316,3 @@ mutual
 pub expr_fine : (g : Around) (fs : List Built) → Ready g.at.kind g.at.default g.known fs → (behind : Bool) (ls : List Local) (e : U.Expr)
     → Good (typed_expr g behind ls e) (Fine g.at (types_of ls) fs)
 expr_fine g fs r behind ls e = fine g.at (types_of ls) fs e (typed_expr g behind ls e) (expr_good g fs r behind ls e)
-
-pub args_good : (g : Around) (fs : List Built) → Ready g.at.kind g.at.default g.known fs → (ls : List Local) (es : U.Exprs)
-    → Good (typed_args g ls [] es) (GoodArgs g.at (types_of ls) fs (listed es))
-args_good g fs r ls es = all_fine g.at (types_of ls) fs (listed es) (typed_args g ls [] es) (args_behind g fs r ls [] es)

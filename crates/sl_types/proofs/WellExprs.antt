@@ -11,8 +11,9 @@ use Rattle.sl_ast.specs.declared.kinds.SlType.{SlType}
 use Rattle.sl_ast.specs.declared.kinds.SlType.TheVariants as types
 use Rattle.sl_ast.specs.declared.kinds.NodeType.{NodeType}
 use Rattle.sl_ast.specs.declared.kinds.NodeType.TheVariants as nodes
-use Rattle.sl_ast.specs.declared.kinds.Operation.{Operation}
-use Rattle.sl_ast.specs.declared.kinds.Operation.TheVariants as ops
+use Rattle.sl_ast.specs.declared.operations.Operation.{Operation}
+use Rattle.sl_ast.specs.declared.operations.Operation.TheVariants as operations
+use Rattle.sl_ast.specs.declared.operations.ValueOperation.TheVariants as ops
 use Rattle.sl_ast.specs.declared.kinds.Operator.{Operator}
 use Rattle.sl_ast.specs.declared.kinds.Operator.TheVariants as operators
 use Rattle.sl_ast.specs.declared.kinds.Prefix.{Prefix}
@@ -200,14 +201,14 @@ pub converted_fine : (g : W.Around) (ks : List SlType) (fs : List Built) (kind :
     → Good (converted g kind space line part) (Fine g ks fs)
 converted_fine g ks fs kind space line (Err e) h = good_bind (space_of g kind space) _ (λ s. Unit {0}) (Fine g ks fs) (good_any (space_of g kind space)) (λ s u. tt)
 converted_fine g ks fs kind space line (Ok t) h =
-    cond_both (refuses_space kind space || misfits (ops.Convert kind Current) (t ∷ [])) _ _ (λ r. Good r (Fine g ks fs)) (λ e. tt)
+    cond_both (refuses_space kind space || misfits (operations.Value (ops.Convert kind Current)) (t ∷ [])) _ _ (λ r. Good r (Fine g ks fs)) (λ e. tt)
     (λ e. good_bind (space_of g kind space) _ (SpaceFits g kind) (Fine g ks fs) (space_fits g kind space)
-    (λ s p. applied_fine g ks fs (ops.Convert kind s) line (t ∷ []) (λ k is n. p) (h, tt)))
+    (λ s p. applied_fine g ks fs (operations.Value (ops.Convert kind s)) line (t ∷ []) (λ k is n. p) (h, tt)))
 
 pub tripled_fine : (g : W.Around) (ks : List SlType) (fs : List Built) (kind : SlType) (space : Option Space) (line : ℕ) (parts : Found (List T.Expr)) → Good parts (AllFine g ks fs)
     → Good (tripled g kind space line parts) (Fine g ks fs)
 tripled_fine g ks fs kind space line (Err e) h = good_bind (space_of g kind space) _ (λ s. Unit {0}) (Fine g ks fs) (good_any (space_of g kind space)) (λ s u. tt)
 tripled_fine g ks fs kind space line (Ok ts) h =
-    cond_both (misfits (ops.Triple kind Current) ts) _ _ (λ r. Good r (Fine g ks fs)) (λ e. tt)
+    cond_both (misfits (operations.Value (ops.Triple kind Current)) ts) _ _ (λ r. Good r (Fine g ks fs)) (λ e. tt)
     (λ e. good_bind (space_of g kind space) _ (SpaceFits g kind) (Fine g ks fs) (space_fits g kind space)
-    (λ s p. applied_fine g ks fs (ops.Triple kind s) line ts (λ k is n. p) h))
+    (λ s p. applied_fine g ks fs (operations.Value (ops.Triple kind s)) line ts (λ k is n. p) h))

@@ -1,5 +1,5 @@
 -- The tree of a file without faults of names, types, kinds and places is well typed.
-use Rattle.std.proofs.Common.{◌≡◌, ℕ, ◌+◌, Bool, true, false, ◌&&◌, List, [], ◌∷◌, ◌++◌, map, length, is_some, Option, Some, None, Ok, refl, sym, ap, ap₂, ◌∙◌, subst, append_assoc}
+use Rattle.std.proofs.Common.{◌≡◌, ℕ, ◌+◌, Bool, true, false, ◌&&◌, List, [], ◌∷◌, ◌++◌, map, length, is_some, Option, Some, None, Ok, refl, sym, ap, ap₂, ◌∙◌, subst, append_assoc, append-nil}
 use Rattle.std.proofs.lemmas.Bool.{cond_both}
 use Rattle.sl_ast.specs.Syntax as U
 use Rattle.sl_ast.specs.WellTyped as W
@@ -14,13 +14,13 @@ use Rattle.sl_types.specs.Typed as T
 use Rattle.sl_types.specs.Typed.{kind_of}
 use Rattle.sl_types.specs.Scope.{Local, level_of, Callee, callee_named, Around, body_in}
 use Rattle.sl_types.specs.Exprs.{typed_expr}
-use Rattle.sl_types.specs.Stmts.{value_in, typed_stmt, typed_rows}
+use Rattle.sl_types.specs.Stmts.{value_in, behind, typed_stmt, typed_rows}
 use Rattle.sl_types.specs.Functions.{gives_any, given_last, returned, either, typed_body, formals_of, scope_from, body_of, spot_within, within, callee_in, known_from, Param, locals_of, by_default, default_in, typed_param, typed_params, typed_groups, Program, in_body, program}
 use Rattle.sl_types.specs.Inline.{Built, count, count_params, inline, inline_stmts, tree_formal, built_in, built_from, declared_of, defaults_at, tree_of}
 use Rattle.sl_types.proofs.WellScope.{Good, good_bind, good_as, types_of}
 use Rattle.sl_types.proofs.WellExprs.{Works, Ready, Fine, kind_kept}
 use Rattle.sl_types.proofs.WellCalls.{expr_fine}
-use Rattle.sl_types.proofs.WellStmts.{RowsFine, GoodRows, rows_typed, rows_after, value_fine, stmt_fine, rows_fine}
+use Rattle.sl_types.proofs.WellStmts.{RowsFine, GoodRows, rows_typed, rows_after, behind_fine, value_fine, stmt_fine, rows_fine}
 
 -- what goes into a variable of a type goes into a node of it
 takes_goes : (kind : SlType) (value : NodeType) → takes kind value ≡ true → W.goes_into (node_type kind) (Some value) ≡ true
@@ -94,16 +94,13 @@ body_fine : (g : Around) (fs : List Built) → Ready g.at.kind g.at.default g.kn
 body_fine g fs r from ks kind line ts ls U.done h = tt
 body_fine g fs r from ks kind line ts ls (U.first s rest) h =
     either_good (given_last rest s) (returned g kind ts ls) _ (BodyFine g.at fs ks kind) (λ x. returned_fine g fs r ks kind ts ls x h)
-    (good_bind (typed_stmt g from ts ls s) _ (GoodRows g.at fs ks) (BodyFine g.at fs ks kind) (stmt_fine g fs r from ks ts ls s h)
+    (good_bind (behind ts (typed_stmt g from ls s)) _ (GoodRows g.at fs ks) (BodyFine g.at fs ks kind)
+    (behind_fine g.at fs ks (types_of ls) ts (typed_stmt g from ls s) h (stmt_fine g fs r from ls s))
     (λ x p. body_fine g fs r from ks kind line x.0 x.1 rest p))
 
 -- the scope of formals holds them
 scope_is : (before : List Local) (formals : List Local) → Good (scope_from before formals) (λ ls. ls ≡ before ++ formals)
-scope_is before [] = sym (nil_behind before)
-  where
-    nil_behind : (xs : List Local) → xs ++ [] ≡ xs
-    nil_behind [] = refl
-    nil_behind (x ∷ xs) = ap (λ r. x ∷ r) (nil_behind xs)
+scope_is before [] = sym (append-nil before)
 scope_is before (f ∷ formals) =
     cond_both (is_some (level_of f.name before)) _ _ (λ r. Good r (λ ls. ls ≡ before ++ f ∷ formals)) (λ e. tt)
     (λ e. good_as (scope_from (before ++ f ∷ []) formals) (λ ls. ls ≡ (before ++ f ∷ []) ++ formals) (λ ls. ls ≡ before ++ f ∷ formals) (scope_is (before ++ f ∷ []) formals)
@@ -225,9 +222,9 @@ program_fine s =
     good_bind (known_from s.kind [] s.functions) _ (BothReady s.kind) (λ p. W.well_typed (tree_of s p) ≡ true) (known_ready s.kind [] s.functions (tt, tt))
     (λ known r. good_bind (typed_groups (by_default s.kind known) [] s.params) _ (ParamsFine s.kind (built_from true [] known)) (λ p. W.well_typed (tree_of s p) ≡ true)
     (groups_fine s.kind known (built_from true [] known) r.0 [] s.params tt)
-    (λ params h. good_bind (typed_rows (in_body s.kind known) (length params) [] (locals_of params) s.body) _ (GoodRows (W.in_shader s.kind) (built_from false [] known) (types_of (locals_of params)))
+    (λ params h. good_bind (typed_rows (in_body s.kind known) (length params) (locals_of params) s.body) _ (GoodRows (W.in_shader s.kind) (built_from false [] known) (types_of (locals_of params)))
     (λ p. W.well_typed (tree_of s p) ≡ true)
-    (rows_fine (in_body s.kind known) (built_from false [] known) r.1 (length params) (types_of (locals_of params)) [] (locals_of params) s.body refl)
+    (rows_fine (in_body s.kind known) (built_from false [] known) r.1 (length params) (locals_of params) s.body)
     (λ rows q.
     let fs = built_from false [] known in
     let n = 1 + count_params (built_from true [] known) params in

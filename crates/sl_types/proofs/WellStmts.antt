@@ -19,7 +19,7 @@ use Rattle.sl_types.specs.Typed as T
 use Rattle.sl_types.specs.Typed.{kind_of}
 use Rattle.sl_types.specs.Scope.{Local, level_of, Around}
 use Rattle.sl_types.specs.Exprs.{operands_of, typed_expr, typed_args, listed}
-use Rattle.sl_types.specs.Stmts.{Rows, is_since, is_uniform, value_in, declared, typed_name, typed_names, predefined_set, variable_set, sets, typed_set, optional_set, no_test, condition, one_of, inner, branch, in_loop, in_lights, light_word, light_args, light_misfit, lights_of, typed_stmt, typed_rows}
+use Rattle.sl_types.specs.Stmts.{Rows, behind, followed, is_since, is_uniform, value_in, declared, typed_name, typed_names, predefined_set, variable_set, sets, typed_set, optional_set, no_test, condition, one_of, inner, branch, in_loop, in_lights, light_word, light_args, light_misfit, lights_of, typed_stmt, typed_rows}
 use Rattle.sl_types.specs.Inline.{Built, count, count_args, count_stmt, count_stmts, inline_stmt, inline_stmts}
 use Rattle.sl_types.proofs.WellScope.{Good, GoodSome, good_bind, good_as, types_of, TypedAt, level_typed}
 use Rattle.sl_types.proofs.WellExprs.{Ready, Fine, AllFine, kind_kept, operands_kept, args_fine, same}
@@ -33,10 +33,10 @@ abbrev pub RowsFine : W.Around → List Built → List SlType → List T.Stmt �
 RowsFine g fs ks [] after = ks ≡ after
 RowsFine g fs ks (s ∷ ts) after = (mid : List SlType) × StmtFine g fs ks s mid × RowsFine g fs mid ts after
 
-pub rows_push : (g : W.Around) (fs : List Built) (ks : List SlType) (ts : List T.Stmt) (s : T.Stmt) (mid after : List SlType) → RowsFine g fs ks ts mid → StmtFine g fs mid s after
-    → RowsFine g fs ks (ts ++ s ∷ []) after
-rows_push g fs ks [] s mid after h p = (after, subst (λ k. StmtFine g fs k s after) (sym h) p, refl)
-rows_push g fs ks (t ∷ ts) s mid after h p = (h.0, h.1, rows_push g fs h.0 ts s mid after h.2 p)
+rows_join : (g : W.Around) (fs : List Built) (ks : List SlType) (ts ss : List T.Stmt) (mid after : List SlType) → RowsFine g fs ks ts mid → RowsFine g fs mid ss after
+    → RowsFine g fs ks (ts ++ ss) after
+rows_join g fs ks [] ss mid after h p = subst (λ k. RowsFine g fs k ss after) (sym h) p
+rows_join g fs ks (t ∷ ts) ss mid after h p = (h.0, h.1, rows_join g fs h.0 ts ss mid after h.2 p)
 
 pub rows_typed : (g : W.Around) (fs : List Built) (ks : List SlType) (ts : List T.Stmt) (after : List SlType) → RowsFine g fs ks ts after → (n : ℕ)
     → W.typed_stmts g ks (inline_stmts fs n (T.stmts ts)) ≡ true
@@ -70,20 +70,28 @@ declared_fine g fs r uniform kind ls line set_line (Some e) =
 abbrev pub GoodRows : W.Around → List Built → List SlType → List T.Stmt × List Local → Type 0
 GoodRows g fs ks r = RowsFine g fs ks r.0 (types_of r.1)
 
-name_fine : (g : Around) (fs : List Built) → Ready g.at.kind g.at.default g.known fs → (from : ℕ) (uniform : Bool) (kind : SlType) (ks : List SlType) (ts : List T.Stmt) (ls : List Local) (d : U.Declared)
-    → RowsFine g.at fs ks ts (types_of ls) → Good (typed_name g from uniform kind ts ls d) (GoodRows g.at fs ks)
-name_fine g fs r from uniform kind ks ts ls d h =
-    cond_both (is_since from (level_of d.name ls)) _ _ (λ x. Good x (GoodRows g.at fs ks)) (λ e. tt)
-    (λ e. good_bind (declared g uniform kind ls d.line d.set_line d.value) _ (λ s. StmtFine g.at fs (types_of ls) s (types_of ls ++ kind ∷ [])) (GoodRows g.at fs ks)
-    (declared_fine g fs r uniform kind ls d.line d.set_line d.value)
-    (λ s p. subst (RowsFine g.at fs ks (ts ++ s ∷ [])) (sym (map-append (λ l. l.kind) ls _)) (rows_push g.at fs ks ts s (types_of ls) (types_of ls ++ kind ∷ []) h p)))
+pub behind_fine : (g : W.Around) (fs : List Built) (ks mid : List SlType) (ts : List T.Stmt) (rows : Rows) → RowsFine g fs ks ts mid → Good rows (GoodRows g fs mid)
+    → Good (behind ts rows) (GoodRows g fs ks)
+behind_fine g fs ks mid ts rows h p = good_bind rows _ (GoodRows g fs mid) (GoodRows g fs ks) p (λ r q. rows_join g fs ks ts r.0 mid (types_of r.1) h q)
 
-names_fine : (g : Around) (fs : List Built) → Ready g.at.kind g.at.default g.known fs → (from : ℕ) (uniform : Bool) (kind : SlType) (ks : List SlType) (ts : List T.Stmt) (ls : List Local) (ds : List U.Declared)
-    → RowsFine g.at fs ks ts (types_of ls) → Good (typed_names g from uniform kind ts ls ds) (GoodRows g.at fs ks)
-names_fine g fs r from uniform kind ks ts ls [] h = h
-names_fine g fs r from uniform kind ks ts ls (d ∷ ds) h =
-    good_bind (typed_name g from uniform kind ts ls d) _ (GoodRows g.at fs ks) (GoodRows g.at fs ks) (name_fine g fs r from uniform kind ks ts ls d h)
-    (λ x p. names_fine g fs r from uniform kind ks x.0 x.1 ds p)
+followed_fine : (g : W.Around) (fs : List Built) (ks : List SlType) (rows : Rows) (next : List Local → Rows) → Good rows (GoodRows g fs ks)
+    → ((left : List Local) → Good (next left) (GoodRows g fs (types_of left))) → Good (followed rows next) (GoodRows g fs ks)
+followed_fine g fs ks rows next h k =
+    good_bind rows _ (GoodRows g fs ks) (GoodRows g fs ks) h (λ r p. behind_fine g fs ks (types_of r.1) r.0 (next r.1) p (k r.1))
+
+name_fine : (g : Around) (fs : List Built) → Ready g.at.kind g.at.default g.known fs → (from : ℕ) (uniform : Bool) (kind : SlType) (ls : List Local) (d : U.Declared)
+    → Good (typed_name g from uniform kind ls d) (GoodRows g.at fs (types_of ls))
+name_fine g fs r from uniform kind ls d =
+    cond_both (is_since from (level_of d.name ls)) _ _ (λ x. Good x (GoodRows g.at fs (types_of ls))) (λ e. tt)
+    (λ e. good_bind (declared g uniform kind ls d.line d.set_line d.value) _ (λ s. StmtFine g.at fs (types_of ls) s (types_of ls ++ kind ∷ [])) (GoodRows g.at fs (types_of ls))
+    (declared_fine g fs r uniform kind ls d.line d.set_line d.value)
+    (λ s p. (types_of ls ++ kind ∷ [], p, sym (map-append (λ l. l.kind) ls _))))
+
+names_fine : (g : Around) (fs : List Built) → Ready g.at.kind g.at.default g.known fs → (from : ℕ) (uniform : Bool) (kind : SlType) (ls : List Local) (ds : List U.Declared)
+    → Good (typed_names g from uniform kind ls ds) (GoodRows g.at fs (types_of ls))
+names_fine g fs r from uniform kind ls [] = refl
+names_fine g fs r from uniform kind ls (d ∷ ds) =
+    followed_fine g.at fs (types_of ls) (typed_name g from uniform kind ls d) _ (name_fine g fs r from uniform kind ls d) (λ left. names_fine g fs r from uniform kind left ds)
 
 -- assignments
 abbrev SetType : W.Around → List SlType → Variable × SlType → Type 0
@@ -178,58 +186,62 @@ lit_fine g ks fs word ts s line p q = λ n. (
   refl,
 )
 
+-- a statement that declares nothing
+alone : (g : W.Around) (fs : List Built) (ls : List Local) (s : T.Stmt) → StmtFine g fs (types_of ls) s (types_of ls) → GoodRows g fs (types_of ls) (s ∷ [], ls)
+alone g fs ls s p = (types_of ls, p, refl)
+
 mutual
-  pub stmt_fine : (g : Around) (fs : List Built) → Ready g.at.kind g.at.default g.known fs → (from : ℕ) (ks : List SlType) (ts : List T.Stmt) (ls : List Local) (s : U.Stmt)
-      → RowsFine g.at fs ks ts (types_of ls) → Good (typed_stmt g from ts ls s) (GoodRows g.at fs ks)
-  stmt_fine g fs r from ks ts ls (U.empty line) h = rows_push g.at fs ks ts (T.empty line) (types_of ls) (types_of ls) h (λ n. (refl, refl))
-  stmt_fine g fs r from ks ts ls (U.leave line) h =
-      cond_both g.at.looped _ _ (λ x. Good x (GoodRows g.at fs ks)) (λ e. rows_push g.at fs ks ts (T.leave line) (types_of ls) (types_of ls) h (λ n. (e, refl))) (λ e. tt)
-  stmt_fine g fs r from ks ts ls (U.again line) h =
-      cond_both g.at.looped _ _ (λ x. Good x (GoodRows g.at fs ks)) (λ e. rows_push g.at fs ks ts (T.again line) (types_of ls) (types_of ls) h (λ n. (e, refl))) (λ e. tt)
-  stmt_fine g fs r from ks ts ls (U.block ss line) h =
-      good_bind (inner (typed_rows g (length ls) [] ls ss)) _ (InnerFine g.at fs (types_of ls)) (GoodRows g.at fs ks)
-      (inner_fine g.at fs (types_of ls) (typed_rows g (length ls) [] ls ss) (rows_fine g fs r (length ls) (types_of ls) [] ls ss refl))
-      (λ b p. rows_push g.at fs ks ts (T.block (T.stmts b) line) (types_of ls) (types_of ls) h (λ n. (p (n + 1), refl)))
-  stmt_fine g fs r from ks ts ls (U.assign a) h =
-      good_bind (typed_set g ls a) _ (SetFine g.at fs (types_of ls)) (GoodRows g.at fs ks) (set_fine g fs r ls a) (λ s p. rows_push g.at fs ks ts s (types_of ls) (types_of ls) h p.0)
-  stmt_fine g fs r from ks ts ls (U.give e line) h = tt
-  stmt_fine g fs r from ks ts ls (U.declare class kind names line) h = names_fine g fs r from (is_uniform class) kind ks ts ls names h
-  stmt_fine g fs r from ks ts ls (U.test e s line) h =
-      good_bind (condition line (typed_expr g false ls e)) _ (TestFine g.at (types_of ls) fs) (GoodRows g.at fs ks)
+  pub stmt_fine : (g : Around) (fs : List Built) → Ready g.at.kind g.at.default g.known fs → (from : ℕ) (ls : List Local) (s : U.Stmt)
+      → Good (typed_stmt g from ls s) (GoodRows g.at fs (types_of ls))
+  stmt_fine g fs r from ls (U.empty line) = alone g.at fs ls (T.empty line) (λ n. (refl, refl))
+  stmt_fine g fs r from ls (U.leave line) =
+      cond_both g.at.looped _ _ (λ x. Good x (GoodRows g.at fs (types_of ls))) (λ e. alone g.at fs ls (T.leave line) (λ n. (e, refl))) (λ e. tt)
+  stmt_fine g fs r from ls (U.again line) =
+      cond_both g.at.looped _ _ (λ x. Good x (GoodRows g.at fs (types_of ls))) (λ e. alone g.at fs ls (T.again line) (λ n. (e, refl))) (λ e. tt)
+  stmt_fine g fs r from ls (U.block ss line) =
+      good_bind (inner (typed_rows g (length ls) ls ss)) _ (InnerFine g.at fs (types_of ls)) (GoodRows g.at fs (types_of ls))
+      (inner_fine g.at fs (types_of ls) (typed_rows g (length ls) ls ss) (rows_fine g fs r (length ls) ls ss))
+      (λ b p. alone g.at fs ls (T.block (T.stmts b) line) (λ n. (p (n + 1), refl)))
+  stmt_fine g fs r from ls (U.assign a) =
+      good_bind (typed_set g ls a) _ (SetFine g.at fs (types_of ls)) (GoodRows g.at fs (types_of ls)) (set_fine g fs r ls a) (λ s p. alone g.at fs ls s p.0)
+  stmt_fine g fs r from ls (U.give e line) = tt
+  stmt_fine g fs r from ls (U.declare class kind names line) = names_fine g fs r from (is_uniform class) kind ls names
+  stmt_fine g fs r from ls (U.test e s line) =
+      good_bind (condition line (typed_expr g false ls e)) _ (TestFine g.at (types_of ls) fs) (GoodRows g.at fs (types_of ls))
       (condition_fine g.at (types_of ls) fs line (typed_expr g false ls e) (expr_fine g fs r false ls e))
-      (λ t p. good_bind (branch (typed_stmt g (length ls) [] ls s)) _ (BranchFine g.at fs (types_of ls)) (GoodRows g.at fs ks)
-      (branch_fine g.at fs (types_of ls) (typed_stmt g (length ls) [] ls s) (stmt_fine g fs r (length ls) (types_of ls) [] ls s refl))
-      (λ x q. rows_push g.at fs ks ts (T.test t x line) (types_of ls) (types_of ls) h
+      (λ t p. good_bind (branch (typed_stmt g (length ls) ls s)) _ (BranchFine g.at fs (types_of ls)) (GoodRows g.at fs (types_of ls))
+      (branch_fine g.at fs (types_of ls) (typed_stmt g (length ls) ls s) (stmt_fine g fs r (length ls) ls s))
+      (λ x q. alone g.at fs ls (T.test t x line)
       (λ n. (ap₂ (λ a b. a && b) (ap is_test (kind_kept fs (n + 1) t) ∙ p.0) (ap₂ (λ a b. a && b) (p.1 (n + 1)) (q (n + 1 + count fs t))), refl))))
-  stmt_fine g fs r from ks ts ls (U.test_else e s o line) h =
-      good_bind (condition line (typed_expr g false ls e)) _ (TestFine g.at (types_of ls) fs) (GoodRows g.at fs ks)
+  stmt_fine g fs r from ls (U.test_else e s o line) =
+      good_bind (condition line (typed_expr g false ls e)) _ (TestFine g.at (types_of ls) fs) (GoodRows g.at fs (types_of ls))
       (condition_fine g.at (types_of ls) fs line (typed_expr g false ls e) (expr_fine g fs r false ls e))
-      (λ t p. good_bind (branch (typed_stmt g (length ls) [] ls s)) _ (BranchFine g.at fs (types_of ls)) (GoodRows g.at fs ks)
-      (branch_fine g.at fs (types_of ls) (typed_stmt g (length ls) [] ls s) (stmt_fine g fs r (length ls) (types_of ls) [] ls s refl))
-      (λ x q. good_bind (branch (typed_stmt g (length ls) [] ls o)) _ (BranchFine g.at fs (types_of ls)) (GoodRows g.at fs ks)
-      (branch_fine g.at fs (types_of ls) (typed_stmt g (length ls) [] ls o) (stmt_fine g fs r (length ls) (types_of ls) [] ls o refl))
-      (λ y w. rows_push g.at fs ks ts (T.test_else t x y line) (types_of ls) (types_of ls) h
+      (λ t p. good_bind (branch (typed_stmt g (length ls) ls s)) _ (BranchFine g.at fs (types_of ls)) (GoodRows g.at fs (types_of ls))
+      (branch_fine g.at fs (types_of ls) (typed_stmt g (length ls) ls s) (stmt_fine g fs r (length ls) ls s))
+      (λ x q. good_bind (branch (typed_stmt g (length ls) ls o)) _ (BranchFine g.at fs (types_of ls)) (GoodRows g.at fs (types_of ls))
+      (branch_fine g.at fs (types_of ls) (typed_stmt g (length ls) ls o) (stmt_fine g fs r (length ls) ls o))
+      (λ y w. alone g.at fs ls (T.test_else t x y line)
       (λ n. (
         ap₂ (λ a b. a && b) (ap is_test (kind_kept fs (n + 1) t) ∙ p.0) (ap₂ (λ a b. a && b) (p.1 (n + 1))
             (ap₂ (λ a b. a && b) (q (n + 1 + count fs t)) (w (n + 1 + count fs t + count_stmt fs x)))),
         refl,
       )))))
-  stmt_fine g fs r from ks ts ls (U.repeat e s line) h =
-      good_bind (condition line (typed_expr g false ls e)) _ (TestFine g.at (types_of ls) fs) (GoodRows g.at fs ks)
+  stmt_fine g fs r from ls (U.repeat e s line) =
+      good_bind (condition line (typed_expr g false ls e)) _ (TestFine g.at (types_of ls) fs) (GoodRows g.at fs (types_of ls))
       (condition_fine g.at (types_of ls) fs line (typed_expr g false ls e) (expr_fine g fs r false ls e))
-      (λ t p. good_bind (branch (typed_stmt (in_loop g) (length ls) [] ls s)) _ (BranchFine (W.in_loop g.at) fs (types_of ls)) (GoodRows g.at fs ks)
-      (branch_fine (W.in_loop g.at) fs (types_of ls) (typed_stmt (in_loop g) (length ls) [] ls s) (stmt_fine (in_loop g) fs r (length ls) (types_of ls) [] ls s refl))
-      (λ x q. rows_push g.at fs ks ts (T.repeat t x line) (types_of ls) (types_of ls) h
+      (λ t p. good_bind (branch (typed_stmt (in_loop g) (length ls) ls s)) _ (BranchFine (W.in_loop g.at) fs (types_of ls)) (GoodRows g.at fs (types_of ls))
+      (branch_fine (W.in_loop g.at) fs (types_of ls) (typed_stmt (in_loop g) (length ls) ls s) (stmt_fine (in_loop g) fs r (length ls) ls s))
+      (λ x q. alone g.at fs ls (T.repeat t x line)
       (λ n. (ap₂ (λ a b. a && b) (ap is_test (kind_kept fs (n + 1) t) ∙ p.0) (ap₂ (λ a b. a && b) (p.1 (n + 1)) (q (n + 1 + count fs t))), refl))))
-  stmt_fine g fs r from ks ts ls (U.steps a e b s line) h =
-      cond_both (refuses (typed_expr g false ls e) no_test) _ _ (λ x. Good x (GoodRows g.at fs ks)) (λ x. tt)
-      (λ ok. good_bind (optional_set g ls a) _ (OptionalFine g.at fs (types_of ls)) (GoodRows g.at fs ks) (optional_fine g fs r ls a)
-      (λ x p. good_bind (typed_expr g false ls e) _ (TestFine g.at (types_of ls) fs) (GoodRows g.at fs ks)
+  stmt_fine g fs r from ls (U.steps a e b s line) =
+      cond_both (refuses (typed_expr g false ls e) no_test) _ _ (λ x. Good x (GoodRows g.at fs (types_of ls))) (λ x. tt)
+      (λ ok. good_bind (optional_set g ls a) _ (OptionalFine g.at fs (types_of ls)) (GoodRows g.at fs (types_of ls)) (optional_fine g fs r ls a)
+      (λ x p. good_bind (typed_expr g false ls e) _ (TestFine g.at (types_of ls) fs) (GoodRows g.at fs (types_of ls))
       (tested_fine g.at (types_of ls) fs (typed_expr g false ls e) (expr_fine g fs r false ls e) ok)
-      (λ t q. good_bind (optional_set g ls b) _ (OptionalFine g.at fs (types_of ls)) (GoodRows g.at fs ks) (optional_fine g fs r ls b)
-      (λ y u. good_bind (branch (typed_stmt (in_loop g) (length ls) [] ls s)) _ (BranchFine (W.in_loop g.at) fs (types_of ls)) (GoodRows g.at fs ks)
-      (branch_fine (W.in_loop g.at) fs (types_of ls) (typed_stmt (in_loop g) (length ls) [] ls s) (stmt_fine (in_loop g) fs r (length ls) (types_of ls) [] ls s refl))
-      (λ z w. rows_push g.at fs ks ts (T.steps (T.stmts x) t (T.stmts y) z line) (types_of ls) (types_of ls) h
+      (λ t q. good_bind (optional_set g ls b) _ (OptionalFine g.at fs (types_of ls)) (GoodRows g.at fs (types_of ls)) (optional_fine g fs r ls b)
+      (λ y u. good_bind (branch (typed_stmt (in_loop g) (length ls) ls s)) _ (BranchFine (W.in_loop g.at) fs (types_of ls)) (GoodRows g.at fs (types_of ls))
+      (branch_fine (W.in_loop g.at) fs (types_of ls) (typed_stmt (in_loop g) (length ls) ls s) (stmt_fine (in_loop g) fs r (length ls) ls s))
+      (λ z w. alone g.at fs ls (T.steps (T.stmts x) t (T.stmts y) z line)
       (λ n.
       let j = n + 1 + count_stmts fs (T.stmts x) in
       let k = j + count fs t in (
@@ -238,24 +250,23 @@ mutual
             (ap₂ (λ c d. c && d) ((u k).0) (w (k + count_stmts fs (T.stmts y))))))),
         refl,
       )))))))
-  stmt_fine g fs r from ks ts ls (U.lights word e c s line) h =
-      good_bind (lights_of g.at (light_word word) line (typed_args g ls [] (light_args e c))) _ (LightsFine g.at (types_of ls) fs (light_word word)) (GoodRows g.at fs ks)
-      (lights_fine g.at (types_of ls) fs (light_word word) line (typed_args g ls [] (light_args e c))
-      (good_as (typed_args g ls [] (light_args e c)) (GoodArgs g.at (types_of ls) fs (listed (light_args e c))) (AllFine g.at (types_of ls) fs) (args_good g fs r ls (light_args e c)) (λ xs p. p.0)))
-      (λ xs p. good_bind (branch (typed_stmt (in_lights g) (length ls) [] ls s)) _ (BranchFine (W.in_lights g.at) fs (types_of ls)) (GoodRows g.at fs ks)
-      (branch_fine (W.in_lights g.at) fs (types_of ls) (typed_stmt (in_lights g) (length ls) [] ls s) (stmt_fine (in_lights g) fs r (length ls) (types_of ls) [] ls s refl))
-      (λ x q. rows_push g.at fs ks ts (T.lights (light_word word) (T.exprs xs) x line) (types_of ls) (types_of ls) h (lit_fine g.at (types_of ls) fs (light_word word) xs x line p q)))
-  stmt_fine g fs r from ks ts ls (U.solar e f s line) h =
-      good_bind (lights_of g.at Solar line (typed_args g ls [] (U.more e (U.more f U.none)))) _ (LightsFine g.at (types_of ls) fs Solar) (GoodRows g.at fs ks)
-      (lights_fine g.at (types_of ls) fs Solar line (typed_args g ls [] (U.more e (U.more f U.none)))
-      (good_as (typed_args g ls [] (U.more e (U.more f U.none))) (GoodArgs g.at (types_of ls) fs (e ∷ f ∷ [])) (AllFine g.at (types_of ls) fs) (args_good g fs r ls (U.more e (U.more f U.none))) (λ xs p. p.0)))
-      (λ xs p. good_bind (branch (typed_stmt (in_lights g) (length ls) [] ls s)) _ (BranchFine (W.in_lights g.at) fs (types_of ls)) (GoodRows g.at fs ks)
-      (branch_fine (W.in_lights g.at) fs (types_of ls) (typed_stmt (in_lights g) (length ls) [] ls s) (stmt_fine (in_lights g) fs r (length ls) (types_of ls) [] ls s refl))
-      (λ x q. rows_push g.at fs ks ts (T.lights Solar (T.exprs xs) x line) (types_of ls) (types_of ls) h (lit_fine g.at (types_of ls) fs Solar xs x line p q)))
+  stmt_fine g fs r from ls (U.lights word e c s line) =
+      good_bind (lights_of g.at (light_word word) line (typed_args g ls (light_args e c))) _ (LightsFine g.at (types_of ls) fs (light_word word)) (GoodRows g.at fs (types_of ls))
+      (lights_fine g.at (types_of ls) fs (light_word word) line (typed_args g ls (light_args e c))
+      (good_as (typed_args g ls (light_args e c)) (GoodArgs g.at (types_of ls) fs (listed (light_args e c))) (AllFine g.at (types_of ls) fs) (args_good g fs r ls (light_args e c)) (λ xs p. p.0)))
+      (λ xs p. good_bind (branch (typed_stmt (in_lights g) (length ls) ls s)) _ (BranchFine (W.in_lights g.at) fs (types_of ls)) (GoodRows g.at fs (types_of ls))
+      (branch_fine (W.in_lights g.at) fs (types_of ls) (typed_stmt (in_lights g) (length ls) ls s) (stmt_fine (in_lights g) fs r (length ls) ls s))
+      (λ x q. alone g.at fs ls (T.lights (light_word word) (T.exprs xs) x line) (lit_fine g.at (types_of ls) fs (light_word word) xs x line p q)))
+  stmt_fine g fs r from ls (U.solar e f s line) =
+      good_bind (lights_of g.at Solar line (typed_args g ls (U.more e (U.more f U.none)))) _ (LightsFine g.at (types_of ls) fs Solar) (GoodRows g.at fs (types_of ls))
+      (lights_fine g.at (types_of ls) fs Solar line (typed_args g ls (U.more e (U.more f U.none)))
+      (good_as (typed_args g ls (U.more e (U.more f U.none))) (GoodArgs g.at (types_of ls) fs (e ∷ f ∷ [])) (AllFine g.at (types_of ls) fs) (args_good g fs r ls (U.more e (U.more f U.none))) (λ xs p. p.0)))
+      (λ xs p. good_bind (branch (typed_stmt (in_lights g) (length ls) ls s)) _ (BranchFine (W.in_lights g.at) fs (types_of ls)) (GoodRows g.at fs (types_of ls))
+      (branch_fine (W.in_lights g.at) fs (types_of ls) (typed_stmt (in_lights g) (length ls) ls s) (stmt_fine (in_lights g) fs r (length ls) ls s))
+      (λ x q. alone g.at fs ls (T.lights Solar (T.exprs xs) x line) (lit_fine g.at (types_of ls) fs Solar xs x line p q)))
 
-  pub rows_fine : (g : Around) (fs : List Built) → Ready g.at.kind g.at.default g.known fs → (from : ℕ) (ks : List SlType) (ts : List T.Stmt) (ls : List Local) (ss : U.Stmts)
-      → RowsFine g.at fs ks ts (types_of ls) → Good (typed_rows g from ts ls ss) (GoodRows g.at fs ks)
-  rows_fine g fs r from ks ts ls U.done h = h
-  rows_fine g fs r from ks ts ls (U.first s rest) h =
-      good_bind (typed_stmt g from ts ls s) _ (GoodRows g.at fs ks) (GoodRows g.at fs ks) (stmt_fine g fs r from ks ts ls s h)
-      (λ x p. rows_fine g fs r from ks x.0 x.1 rest p)
+  pub rows_fine : (g : Around) (fs : List Built) → Ready g.at.kind g.at.default g.known fs → (from : ℕ) (ls : List Local) (ss : U.Stmts)
+      → Good (typed_rows g from ls ss) (GoodRows g.at fs (types_of ls))
+  rows_fine g fs r from ls U.done = refl
+  rows_fine g fs r from ls (U.first s rest) =
+      followed_fine g.at fs (types_of ls) (typed_stmt g from ls s) _ (stmt_fine g fs r from ls s) (λ left. rows_fine g fs r from left rest)

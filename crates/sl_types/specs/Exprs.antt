@@ -1,6 +1,6 @@
 -- The typed tree that the rules relate to an expression, or the first fault in the order of the text
 -- (Shading Language, RenderMan Interface 3.2, sections 11 to 15).
-use Rattle.std.specs.Prelude.{ℕ, ℤ, pos, Bool, true, false, ◌&&◌, ◌||◌, not, List, [], ◌∷◌, ◌++◌, Option, Some, None, Result, Ok, Err, codes, if◌then◌else◌, is_some}
+use Rattle.std.specs.Prelude.{ℕ, ℤ, pos, Bool, true, false, ◌&&◌, ◌||◌, not, List, [], ◌∷◌, Option, Some, None, Result, Ok, Err, codes, if◌then◌else◌, is_some}
 use Rattle.std.specs.Str.{bytes_eq}
 use Rattle.rib_lex.specs.Tokens.{tokens_of}
 use Rattle.rib_lex.specs.Decimal.{num}
@@ -16,8 +16,9 @@ use Rattle.sl_ast.specs.declared.operands.Operands.TheVariants.{Nothing, One, Tw
 use Rattle.sl_ast.specs.declared.kinds.SlType.{SlType}
 use Rattle.sl_ast.specs.declared.kinds.SlType.TheVariants as types
 use Rattle.sl_ast.specs.declared.kinds.NodeType.{NodeType}
-use Rattle.sl_ast.specs.declared.kinds.Operation.{Operation}
-use Rattle.sl_ast.specs.declared.kinds.Operation.TheVariants as ops
+use Rattle.sl_ast.specs.declared.operations.Operation.{Operation}
+use Rattle.sl_ast.specs.declared.operations.Operation.TheVariants as operations
+use Rattle.sl_ast.specs.declared.operations.ValueOperation.TheVariants as ops
 use Rattle.sl_ast.specs.declared.kinds.Predefined.{Predefined}
 use Rattle.sl_ast.specs.declared.kinds.SpaceName.{SpaceName}
 use Rattle.sl_ast.specs.declared.kinds.SpaceName.TheVariants.{Current}
@@ -102,14 +103,14 @@ refuses_space kind space = false
 -- a type before a value: its own fault, then that of the space, then those of the value
 abbrev pub converted : W.Around → SlType → Option Space → ℕ → Found T.Expr → Found T.Expr
 converted g kind space line part =
-    if refuses part (λ t. refuses_space kind space || misfits (ops.Convert kind Current) (t ∷ [])) then Err (T2, line) else
-    (space_of g kind space >>= λ s. part >>= λ t. applied (ops.Convert kind s) line (t ∷ []))
+    if refuses part (λ t. refuses_space kind space || misfits (operations.Value (ops.Convert kind Current)) (t ∷ [])) then Err (T2, line) else
+    (space_of g kind space >>= λ s. part >>= λ t. applied (operations.Value (ops.Convert kind s)) line (t ∷ []))
 
 -- a type before three components
 abbrev pub tripled : W.Around → SlType → Option Space → ℕ → Found (List T.Expr) → Found T.Expr
 tripled g kind space line parts =
-    if refuses parts (misfits (ops.Triple kind Current)) then Err (T2, line) else
-    (space_of g kind space >>= λ s. parts >>= applied (ops.Triple kind s) line)
+    if refuses parts (misfits (operations.Value (ops.Triple kind Current))) then Err (T2, line) else
+    (space_of g kind space >>= λ s. parts >>= applied (operations.Value (ops.Triple kind s)) line)
 
 -- whether those values go into those formals
 abbrev pub fits : List Local → List T.Expr → Bool
@@ -148,22 +149,22 @@ spaces_of g line _ = Ok (Current, Current)
 
 -- an operation with the spaces that its arguments name; `faceforward` of two arguments reads Ng
 abbrev pub operation_in : W.Around → Operation → ℕ → List U.Expr → Found Operation
-operation_in g (ops.Transform a b) line es = spaces_of g line es >>= λ s. Ok (ops.Transform s.0 s.1)
-operation_in g (ops.VTransform a b) line es = spaces_of g line es >>= λ s. Ok (ops.VTransform s.0 s.1)
-operation_in g (ops.NTransform a b) line es = spaces_of g line es >>= λ s. Ok (ops.NTransform s.0 s.1)
+operation_in g (operations.Value (ops.Transform a b)) line es = spaces_of g line es >>= λ s. Ok (operations.Value (ops.Transform s.0 s.1))
+operation_in g (operations.Value (ops.VTransform a b)) line es = spaces_of g line es >>= λ s. Ok (operations.Value (ops.VTransform s.0 s.1))
+operation_in g (operations.Value (ops.NTransform a b)) line es = spaces_of g line es >>= λ s. Ok (operations.Value (ops.NTransform s.0 s.1))
 operation_in g op line es = Ok op
 
 abbrev pub facing : List T.Expr → Operation
-facing (a ∷ b ∷ []) = ops.FaceForwardNg
-facing args = ops.FaceForward
+facing (a ∷ b ∷ []) = operations.FaceForwardNg
+facing args = operations.Value ops.FaceForward
 
 abbrev pub by_count : Operation → List T.Expr → Operation
-by_count ops.FaceForward args = facing args
+by_count (operations.Value ops.FaceForward) args = facing args
 by_count op args = op
 
 -- what can't be called at that place: `depth` in a default, `noise` directly behind a type
 abbrev pub is_noise : Operation → Bool
-is_noise ops.Noise = true
+is_noise (operations.Value ops.Noise) = true
 is_noise _ = false
 
 abbrev pub is_barred : W.Around → Bool → Operation → Bool
@@ -176,7 +177,7 @@ allowed g behind op line =
 
 -- the predefined normal, which a kind of shader without a surface and a parameter's default don't have
 abbrev pub lacks : W.Around → Operation → Bool
-lacks g ops.FaceForwardNg = g.default || not (has_surface g.kind)
+lacks g operations.FaceForwardNg = g.default || not (has_surface g.kind)
 lacks g op = false
 
 -- no rule fits, or what would fit isn't there
@@ -224,7 +225,7 @@ abbrev mutual
   typed_expr g behind ls (U.number text line) = Ok (T.number (number_value text) line)
   typed_expr g behind ls (U.string text line) = Ok (T.word text line)
   typed_expr g behind ls (U.name name line) = named g.at name line (level_of name ls)
-  typed_expr g behind ls (U.call name args line) = call_of g behind name line (listed args) (typed_args g ls [] args)
+  typed_expr g behind ls (U.call name args line) = call_of g behind name line (listed args) (typed_args g ls args)
   typed_expr g behind ls (U.paren e line) = typed_expr g false ls e
   typed_expr g behind ls (U.triple kind space x y z line) =
       tripled g.at kind space line (three (typed_expr g false ls x) (typed_expr g false ls y) (typed_expr g false ls z))
@@ -232,12 +233,11 @@ abbrev mutual
   typed_expr g behind ls (U.prefixed operator e line) = typed_expr g false ls e >>= λ t. applied (prefix_operation operator) line (t ∷ [])
   typed_expr g behind ls (U.chain row e rest) = typed_expr g false ls e >>= λ t. typed_links g ls t rest
   typed_expr g behind ls (U.choice t a b line) =
-      typed_expr g false ls t >>= λ x. typed_expr g false ls a >>= λ y. typed_expr g false ls b >>= λ z. applied ops.Select line (x ∷ y ∷ z ∷ [])
+      typed_expr g false ls t >>= λ x. typed_expr g false ls a >>= λ y. typed_expr g false ls b >>= λ z. applied (operations.Value ops.Select) line (x ∷ y ∷ z ∷ [])
 
-  -- behind those that are typed
-  pub typed_args : Around → List Local → List T.Expr → U.Exprs → Found (List T.Expr)
-  typed_args g ls before U.none = Ok before
-  typed_args g ls before (U.more e rest) = typed_expr g false ls e >>= λ t. typed_args g ls (before ++ t ∷ []) rest
+  pub typed_args : Around → List Local → U.Exprs → Found (List T.Expr)
+  typed_args g ls U.none = Ok []
+  typed_args g ls (U.more e rest) = typed_expr g false ls e >>= λ t. typed_args g ls rest >>= λ ts. Ok (t ∷ ts)
 
   -- a chain groups to the left: `t` is what stands before
   pub typed_links : Around → List Local → T.Expr → U.Links → Found T.Expr

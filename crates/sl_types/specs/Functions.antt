@@ -10,7 +10,7 @@ use Rattle.sl_types.specs.Found.{Found, ◌>>=◌}
 use Rattle.sl_types.specs.Typed as T
 use Rattle.sl_types.specs.Scope.{Local, level_of, Callee, callee_named, Around}
 use Rattle.sl_types.specs.Exprs.{typed_expr}
-use Rattle.sl_types.specs.Stmts.{is_uniform, is_varying, value_in, typed_stmt, typed_rows}
+use Rattle.sl_types.specs.Stmts.{is_uniform, is_varying, value_in, behind, typed_stmt, typed_rows}
 
 -- whether a `return` stands anywhere
 abbrev mutual
@@ -53,7 +53,7 @@ either None f y = y
 abbrev pub typed_body : Around → ℕ → SlType → ℕ → List T.Stmt → List Local → U.Stmts → Found T.Body
 typed_body g from kind line ts ls U.done = Err (T8, line)
 typed_body g from kind line ts ls (U.first s rest) =
-    either (given_last rest s) (returned g kind ts ls) (typed_stmt g from ts ls s >>= λ r. typed_body g from kind line r.0 r.1 rest)
+    either (given_last rest s) (returned g kind ts ls) (behind ts (typed_stmt g from ls s) >>= λ r. typed_body g from kind line r.0 r.1 rest)
 
 -- formals are varying where nothing else is said
 abbrev pub formals_named : Bool → SlType → List U.Declared → List Local
@@ -139,5 +139,5 @@ in_body kind known = record { at = W.in_shader kind; own = None; known = known }
 abbrev pub program : U.Shader → Found Program
 program s =
     known_from s.kind [] s.functions >>= λ known. typed_groups (by_default s.kind known) [] s.params >>= λ params.
-    typed_rows (in_body s.kind known) (length params) [] (locals_of params) s.body >>= λ rows.
+    typed_rows (in_body s.kind known) (length params) (locals_of params) s.body >>= λ rows.
     Ok (record { known = known; params = params; body = rows.0 })

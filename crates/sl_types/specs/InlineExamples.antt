@@ -3,7 +3,8 @@ use Rattle.std.specs.Prelude.{◌≡◌, ℕ, false, List, [], ◌∷◌, pos, O
 use Rattle.sl_ast.specs.Typed as A
 use Rattle.sl_ast.specs.declared.kinds.SlType.TheVariants as types
 use Rattle.sl_ast.specs.declared.kinds.NodeType.TheVariants.{Float, Test}
-use Rattle.sl_ast.specs.declared.kinds.Operation.TheVariants.{Less}
+use Rattle.sl_ast.specs.declared.operations.Operation.TheVariants.{Value}
+use Rattle.sl_ast.specs.declared.operations.ValueOperation.TheVariants.{Less}
 use Rattle.sl_ast.specs.declared.typed.Variable.TheVariants.{Level}
 use Rattle.sl_types.specs.Typed as T
 use Rattle.sl_types.specs.Scope.{Local, Callee}
@@ -41,7 +42,7 @@ set_to n = T.declare false types.Float (T.number (pos n) 2) 2
 
 abbrev together : T.Stmt
 together =
-    T.test (T.apply Less (T.more (T.variable (Level 0) Float 1) (T.more (T.number (pos 1) 1) T.none)) Test 1) (one_of (set_to 1 ∷ set_to 2 ∷ [])) 1
+    T.test (T.apply (Value Less) (T.more (T.variable (Level 0) Float 1) (T.more (T.number (pos 1) 1) T.none)) Test 1) (one_of (set_to 1 ∷ set_to 2 ∷ [])) 1
 
 -- the choice, the three nodes of its condition, and two for each name: no more
 abbrev numbers_together : A.numbers_stmt (inline_stmt [] 0 together) ≡ 0 ∷ 1 ∷ 2 ∷ 3 ∷ 4 ∷ 5 ∷ 6 ∷ 7 ∷ []

@@ -1,6 +1,5 @@
 -- The typed statements that the rules relate to a statement with the scope behind it, or the first fault in the order of the text
--- (Shading Language, RenderMan Interface 3.2, sections 12 and 14). `ts` are the typed statements before, `ls` is the scope, and `from` the
--- level at which the block began.
+-- (Shading Language, RenderMan Interface 3.2, sections 12 and 14). `ls` is the scope, and `from` the level at which the block began.
 use Rattle.std.specs.Prelude.{ℕ, Bool, true, false, not, nat_lt, List, [], ◌∷◌, ◌++◌, length, Option, Some, None, Ok, Err, if◌then◌else◌}
 use Rattle.sl_ast.specs.Syntax as U
 use Rattle.sl_ast.specs.WellTyped as W
@@ -31,6 +30,14 @@ use Rattle.sl_types.specs.Exprs.{operands_of, typed_expr, typed_args}
 abbrev pub Rows : Type 0
 Rows = Found (List T.Stmt × List Local)
 
+-- statements behind others
+abbrev pub behind : List T.Stmt → Rows → Rows
+behind ts rows = rows >>= λ r. Ok (ts ++ r.0, r.1)
+
+-- statements, and those that follow in the scope that they leave
+abbrev pub followed : Rows → (List Local → Rows) → Rows
+followed rows next = rows >>= λ r. behind r.0 (next r.1)
+
 -- whether the last variable of a name was declared at that level or behind it
 abbrev pub is_since : ℕ → Option (ℕ × Local) → Bool
 is_since from None = false
@@ -54,14 +61,14 @@ abbrev pub declared : Around → Bool → SlType → List Local → ℕ → ℕ 
 declared g uniform kind ls line set_line None = Ok (T.start uniform kind line)
 declared g uniform kind ls line set_line (Some e) = value_in kind set_line (typed_expr g false ls e) >>= λ t. Ok (T.declare uniform kind t line)
 
-abbrev pub typed_name : Around → ℕ → Bool → SlType → List T.Stmt → List Local → U.Declared → Rows
-typed_name g from uniform kind ts ls d =
+abbrev pub typed_name : Around → ℕ → Bool → SlType → List Local → U.Declared → Rows
+typed_name g from uniform kind ls d =
     if is_since from (level_of d.name ls) then Err (T10, d.line) else
-    (declared g uniform kind ls d.line d.set_line d.value >>= λ s. Ok (ts ++ s ∷ [], ls ++ record { uniform = uniform; kind = kind; name = d.name; line = d.line } ∷ []))
+    (declared g uniform kind ls d.line d.set_line d.value >>= λ s. Ok (s ∷ [], ls ++ record { uniform = uniform; kind = kind; name = d.name; line = d.line } ∷ []))
 
-abbrev pub typed_names : Around → ℕ → Bool → SlType → List T.Stmt → List Local → List U.Declared → Rows
-typed_names g from uniform kind ts ls [] = Ok (ts, ls)
-typed_names g from uniform kind ts ls (d ∷ ds) = typed_name g from uniform kind ts ls d >>= λ r. typed_names g from uniform kind r.0 r.1 ds
+abbrev pub typed_names : Around → ℕ → Bool → SlType → List Local → List U.Declared → Rows
+typed_names g from uniform kind ls [] = Ok ([], ls)
+typed_names g from uniform kind ls (d ∷ ds) = followed (typed_name g from uniform kind ls d) (λ left. typed_names g from uniform kind left ds)
 
 -- the variable that is set, with its type: unknown where this kind of shader has none of that name, else only read
 abbrev pub predefined_set : W.Around → ℕ → Option Predefined → Found (Variable × SlType)
@@ -135,32 +142,32 @@ lights_of g word line args =
     (if not (has_lights g.kind word) then Err (T6, line) else (if g.default then Err (T11, line) else args))
 
 abbrev mutual
-  pub typed_stmt : Around → ℕ → List T.Stmt → List Local → U.Stmt → Rows
-  typed_stmt g from ts ls (U.empty line) = Ok (ts ++ T.empty line ∷ [], ls)
-  typed_stmt g from ts ls (U.leave line) = if g.at.looped then Ok (ts ++ T.leave line ∷ [], ls) else Err (T8, line)
-  typed_stmt g from ts ls (U.again line) = if g.at.looped then Ok (ts ++ T.again line ∷ [], ls) else Err (T8, line)
-  typed_stmt g from ts ls (U.block ss line) = inner (typed_rows g (length ls) [] ls ss) >>= λ b. Ok (ts ++ T.block (T.stmts b) line ∷ [], ls)
-  typed_stmt g from ts ls (U.assign a) = typed_set g ls a >>= λ s. Ok (ts ++ s ∷ [], ls)
-  typed_stmt g from ts ls (U.give e line) = Err (misplaced g.own (typed_expr g false ls e), line)
-  typed_stmt g from ts ls (U.declare class kind names line) = typed_names g from (is_uniform class) kind ts ls names
-  typed_stmt g from ts ls (U.test e s line) =
-      condition line (typed_expr g false ls e) >>= λ t. branch (typed_stmt g (length ls) [] ls s) >>= λ r. Ok (ts ++ T.test t r line ∷ [], ls)
-  typed_stmt g from ts ls (U.test_else e s o line) =
-      condition line (typed_expr g false ls e) >>= λ t. branch (typed_stmt g (length ls) [] ls s) >>= λ r.
-      branch (typed_stmt g (length ls) [] ls o) >>= λ q. Ok (ts ++ T.test_else t r q line ∷ [], ls)
-  typed_stmt g from ts ls (U.repeat e s line) =
-      condition line (typed_expr g false ls e) >>= λ t. branch (typed_stmt (in_loop g) (length ls) [] ls s) >>= λ r. Ok (ts ++ T.repeat t r line ∷ [], ls)
-  typed_stmt g from ts ls (U.steps a e b s line) =
+  pub typed_stmt : Around → ℕ → List Local → U.Stmt → Rows
+  typed_stmt g from ls (U.empty line) = Ok (T.empty line ∷ [], ls)
+  typed_stmt g from ls (U.leave line) = if g.at.looped then Ok (T.leave line ∷ [], ls) else Err (T8, line)
+  typed_stmt g from ls (U.again line) = if g.at.looped then Ok (T.again line ∷ [], ls) else Err (T8, line)
+  typed_stmt g from ls (U.block ss line) = inner (typed_rows g (length ls) ls ss) >>= λ b. Ok (T.block (T.stmts b) line ∷ [], ls)
+  typed_stmt g from ls (U.assign a) = typed_set g ls a >>= λ s. Ok (s ∷ [], ls)
+  typed_stmt g from ls (U.give e line) = Err (misplaced g.own (typed_expr g false ls e), line)
+  typed_stmt g from ls (U.declare class kind names line) = typed_names g from (is_uniform class) kind ls names
+  typed_stmt g from ls (U.test e s line) =
+      condition line (typed_expr g false ls e) >>= λ t. branch (typed_stmt g (length ls) ls s) >>= λ r. Ok (T.test t r line ∷ [], ls)
+  typed_stmt g from ls (U.test_else e s o line) =
+      condition line (typed_expr g false ls e) >>= λ t. branch (typed_stmt g (length ls) ls s) >>= λ r.
+      branch (typed_stmt g (length ls) ls o) >>= λ q. Ok (T.test_else t r q line ∷ [], ls)
+  typed_stmt g from ls (U.repeat e s line) =
+      condition line (typed_expr g false ls e) >>= λ t. branch (typed_stmt (in_loop g) (length ls) ls s) >>= λ r. Ok (T.repeat t r line ∷ [], ls)
+  typed_stmt g from ls (U.steps a e b s line) =
       if refuses (typed_expr g false ls e) no_test then Err (T2, line) else
       (optional_set g ls a >>= λ x. typed_expr g false ls e >>= λ t. optional_set g ls b >>= λ y.
-      branch (typed_stmt (in_loop g) (length ls) [] ls s) >>= λ r. Ok (ts ++ T.steps (T.stmts x) t (T.stmts y) r line ∷ [], ls))
-  typed_stmt g from ts ls (U.lights word e c s line) =
-      lights_of g.at (light_word word) line (typed_args g ls [] (light_args e c)) >>= λ xs.
-      branch (typed_stmt (in_lights g) (length ls) [] ls s) >>= λ r. Ok (ts ++ T.lights (light_word word) (T.exprs xs) r line ∷ [], ls)
-  typed_stmt g from ts ls (U.solar e f s line) =
-      lights_of g.at Solar line (typed_args g ls [] (U.more e (U.more f U.none))) >>= λ xs.
-      branch (typed_stmt (in_lights g) (length ls) [] ls s) >>= λ r. Ok (ts ++ T.lights Solar (T.exprs xs) r line ∷ [], ls)
+      branch (typed_stmt (in_loop g) (length ls) ls s) >>= λ r. Ok (T.steps (T.stmts x) t (T.stmts y) r line ∷ [], ls))
+  typed_stmt g from ls (U.lights word e c s line) =
+      lights_of g.at (light_word word) line (typed_args g ls (light_args e c)) >>= λ xs.
+      branch (typed_stmt (in_lights g) (length ls) ls s) >>= λ r. Ok (T.lights (light_word word) (T.exprs xs) r line ∷ [], ls)
+  typed_stmt g from ls (U.solar e f s line) =
+      lights_of g.at Solar line (typed_args g ls (U.more e (U.more f U.none))) >>= λ xs.
+      branch (typed_stmt (in_lights g) (length ls) ls s) >>= λ r. Ok (T.lights Solar (T.exprs xs) r line ∷ [], ls)
 
-  pub typed_rows : Around → ℕ → List T.Stmt → List Local → U.Stmts → Rows
-  typed_rows g from ts ls U.done = Ok (ts, ls)
-  typed_rows g from ts ls (U.first s rest) = typed_stmt g from ts ls s >>= λ r. typed_rows g from r.0 r.1 rest
+  pub typed_rows : Around → ℕ → List Local → U.Stmts → Rows
+  typed_rows g from ls U.done = Ok ([], ls)
+  typed_rows g from ls (U.first s rest) = followed (typed_stmt g from ls s) (λ left. typed_rows g from left rest)

@@ -2,7 +2,8 @@
 use Rattle.std.specs.Prelude.{◌≡◌, ℕ, true, [], ◌∷◌, pos, Option, Some, None, Ok, Err, codes, refl}
 use Rattle.sl_ast.specs.declared.kinds.SlType.TheVariants as types
 use Rattle.sl_ast.specs.declared.kinds.NodeType.TheVariants.{Float}
-use Rattle.sl_ast.specs.declared.kinds.Operation.TheVariants.{Add, Subtract}
+use Rattle.sl_ast.specs.declared.operations.Operation.TheVariants.{Value}
+use Rattle.sl_ast.specs.declared.operations.ValueOperation.TheVariants.{Add, Subtract}
 use Rattle.sl_types.specs.declared.fault.TypeCode.TheVariants.{T1, T2, T8}
 use Rattle.sl_types.specs.Typed as T
 use Rattle.sl_types.specs.Scope.{Local, level_of, Own}
@@ -22,8 +23,8 @@ unknown = refl
 abbrev number : ℕ → T.Expr
 number n = T.number (pos n) 1
 
-abbrev two_operators : T.chained (number 1) (record { operation = Add; operand = number 2; kind = Float; line = 1 } ∷ record { operation = Subtract; operand = number 3; kind = Float; line = 1 } ∷ []) ≡
-    T.apply Subtract (T.more (T.apply Add (T.more (number 1) (T.more (number 2) T.none)) Float 1) (T.more (number 3) T.none)) Float 1
+abbrev two_operators : T.chained (number 1) (record { operation = Value Add; operand = number 2; kind = Float; line = 1 } ∷ record { operation = Value Subtract; operand = number 3; kind = Float; line = 1 } ∷ []) ≡
+    T.apply (Value Subtract) (T.more (T.apply (Value Add) (T.more (number 1) (T.more (number 2) T.none)) Float 1) (T.more (number 3) T.none)) Float 1
 two_operators = refl
 
 -- in a function of floats

@@ -17,7 +17,7 @@ use crate::predefined::space_named;
 use crate::rules::{Builtin, builtin_names};
 use crate::typed::TypedExpr;
 use fixed_math::{List, Text};
-use sl_ast::{Expr, NodeType, Operation, SpaceName};
+use sl_ast::{Expr, NodeType, Operation, SpaceName, ValueOperation};
 use std::alloc::Global;
 
 // Whether those values go into those formals.
@@ -162,17 +162,17 @@ fn operation_in(
     ensures { Gives (λ o. o) result (spec.operation_in (spot_of g.now) operation line (map expr_of es.now)) }
 {
     match operation {
-        Operation::Transform(_, _) => {
+        Operation::Value(ValueOperation::Transform(_, _)) => {
             let (from, into) = spaces_of(g, line, es)?;
-            Ok(Operation::Transform(from, into))
+            Ok(Operation::Value(ValueOperation::Transform(from, into)))
         }
-        Operation::VTransform(_, _) => {
+        Operation::Value(ValueOperation::VTransform(_, _)) => {
             let (from, into) = spaces_of(g, line, es)?;
-            Ok(Operation::VTransform(from, into))
+            Ok(Operation::Value(ValueOperation::VTransform(from, into)))
         }
-        Operation::NTransform(_, _) => {
+        Operation::Value(ValueOperation::NTransform(_, _)) => {
             let (from, into) = spaces_of(g, line, es)?;
-            Ok(Operation::NTransform(from, into))
+            Ok(Operation::Value(ValueOperation::NTransform(from, into)))
         }
         _ => Ok(operation),
     }
@@ -184,7 +184,7 @@ fn facing(args: &[TypedExpr]) -> Operation
 {
     match args {
         [_, _] => Operation::FaceForwardNg,
-        _ => Operation::FaceForward,
+        _ => Operation::Value(ValueOperation::FaceForward),
     }
 }
 
@@ -192,7 +192,7 @@ fn by_count(operation: Operation, args: &[TypedExpr]) -> Operation
     ensures { result ≡ spec.by_count operation (map typed_of args.now) }
 {
     match operation {
-        Operation::FaceForward => facing(args),
+        Operation::Value(ValueOperation::FaceForward) => facing(args),
         _ => operation,
     }
 }
@@ -200,7 +200,8 @@ fn by_count(operation: Operation, args: &[TypedExpr]) -> Operation
 fn is_barred(g: &Spot, behind: bool, operation: Operation) -> bool
     ensures { result ≡ spec.is_barred (spot_of g.now) behind operation }
 {
-    (behind && matches!(operation, Operation::Noise)) || (g.default && !operation.is_constant())
+    (behind && matches!(operation, Operation::Value(ValueOperation::Noise)))
+        || (g.default && !operation.is_constant())
 }
 
 // Whether an operation may stand there.

@@ -9,7 +9,7 @@ ghost use Rattle.sl_types.specs.Views.{Gives, GivesAll, spot_of, around_of, loca
 
 use crate::calls::call_of;
 use crate::fault::{TypeCode, TypeFault, fault};
-use crate::names::{copied, find};
+use crate::names::find;
 use crate::operations::{applied_one, applied_three, chained, converted, kind_of, linked, tripled};
 use crate::places::{Around, Local, Spot};
 use crate::predefined::{is_own, is_read, predefined_names};
@@ -18,7 +18,7 @@ use crate::scope::{Scope, place_of};
 use crate::typed::TypedExpr;
 use fixed_math::{Num, Text};
 use rib_lex::{LexFault, Token, TokenKind, tokens};
-use sl_ast::{Expr, Link, Operation, Predefined, Variable};
+use sl_ast::{Expr, Link, Operation, Predefined, ValueOperation, Variable};
 use std::alloc::Global;
 
 fn first_value(tokens: &[Token]) -> Num
@@ -58,7 +58,7 @@ fn number(alloc: Global, text: &Text, line: u32) -> Result<TypedExpr, TypeFault>
 fn word(alloc: Global, text: &Text, line: u32) -> Result<TypedExpr, TypeFault>
     ensures { Gives typed_of result (Ok (T.word text.now line)) }
 {
-    let text = copied(alloc, text)?;
+    let text = text.copied(alloc)?;
     Ok(TypedExpr::Word { text, line })
 }
 
@@ -138,7 +138,14 @@ pub fn expr(
             let test = expr(test, alloc, g, false, scope)?;
             let first = expr(first, alloc, g, false, scope)?;
             let second = expr(second, alloc, g, false, scope)?;
-            applied_three(alloc, Operation::Select, *line, test, first, second)
+            applied_three(
+                alloc,
+                Operation::Value(ValueOperation::Select),
+                *line,
+                test,
+                first,
+                second,
+            )
         }
         Expr::Triple {
             kind,
@@ -169,13 +176,14 @@ pub fn expr(
 
 // The typed trees of arguments.
 #[cycle(exprs)]
+#[tactic(auto, using(crate::proofs::Behind::args_step, crate::proofs::Behind::args_end))]
 pub fn exprs(
     es: &[Expr],
     alloc: Global,
     g: &Around<'_, '_>,
     scope: &Scope<'_>,
 ) -> Result<Vec<TypedExpr>, TypeFault>
-    ensures { GivesAll typed_of result (spec.typed_args (around_of g.now) (map local_of scope.now) [] (U.exprs (map expr_of es.now))) }
+    ensures { GivesAll typed_of result (spec.typed_args (around_of g.now) (map local_of scope.now) (U.exprs (map expr_of es.now))) }
 {
     let mut before = Vec::new(alloc);
     for e in es {

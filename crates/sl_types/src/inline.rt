@@ -9,7 +9,6 @@ ghost use Rattle.sl_types.specs.Typed as T;
 ghost use Rattle.sl_types.specs.TypedView.{typed_of, tlink_of, tstmt_of};
 ghost use Rattle.sl_types.specs.Views.{body_of, callee_of, local_of, param_of};
 
-use crate::names::copied;
 use crate::places::{Body, Faulty, Known, Local, Param};
 use crate::typed::{TypedExpr, TypedLink, TypedStmt};
 use fixed_math::{List, NoMemory, Num};
@@ -278,7 +277,7 @@ fn expr(
             place: place(*line, next),
         }),
         TypedExpr::Word { text, line } => Ok(TreeExpr::Word {
-            text: copied(alloc, text)?,
+            text: text.copied(alloc)?,
             place: place(*line, next),
         }),
         TypedExpr::Variable {
@@ -556,7 +555,7 @@ pub fn stmts(
 fn declared_one(alloc: Global, param: &Param<'_>) -> Result<ParamDecl, NoMemory>
     ensures { IfOk result (λ d. param_type d ≡ spec.declared_of (param_of param.now)) }
 {
-    let name = copied(alloc, param.local.name)?;
+    let name = param.local.name.copied(alloc)?;
     Ok(ParamDecl {
         name,
         kind: param.local.kind,

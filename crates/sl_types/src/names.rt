@@ -1,10 +1,9 @@
-ghost use Rattle.std.specs.Prelude.{◌≡◌, map, IfOk};
+ghost use Rattle.std.specs.Prelude.{◌≡◌, map};
 ghost use Rattle.std.specs.Str.{bytes_eq};
 ghost use Rattle.sl_types.specs.Names.{entry_of, plain};
 
 use crate::entry::Entry;
-use fixed_math::{NoMemory, Text};
-use std::alloc::Global;
+use fixed_math::Text;
 
 // What the name stands for in this table.
 pub fn find<T: Copy>(entries: &[Entry<T>], name: &Text) -> Option<T>
@@ -30,11 +29,4 @@ pub fn is(name: &Text, word: &str) -> bool
     ensures { result ≡ bytes_eq name.now word.now }
 {
     name.as_str().as_bytes() == word.as_bytes()
-}
-
-// A copy of a text.
-pub fn copied(alloc: Global, text: &Text) -> Result<Text, NoMemory>
-    ensures { IfOk result (λ t. t ≡ text.now) }
-{
-    Text::from_bytes(alloc, text.as_str().as_bytes())
 }

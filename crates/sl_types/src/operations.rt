@@ -14,7 +14,7 @@ use crate::places::Spot;
 use crate::predefined::space_named;
 use crate::typed::{TypedExpr, TypedLink};
 use fixed_math::{List, NoMemory, Text};
-use sl_ast::{Expr, NodeType, Operands, Operation, SlType, Space, SpaceName};
+use sl_ast::{NodeType, Operands, Operation, SlType, Space, SpaceName, ValueOperation};
 use std::alloc::Global;
 
 pub fn kind_of(e: &TypedExpr) -> NodeType
@@ -204,14 +204,18 @@ pub fn converted(
             let args = vec![in alloc; value]?;
             if refuses_space(kind, space)
                 || misfits(
-                    Operation::Convert(kind, SpaceName::Current),
+                    Operation::Value(ValueOperation::Convert(kind, SpaceName::Current)),
                     args.as_slice(),
                 )
             {
                 return fault(TypeCode::T2, line);
             }
             let space = space_of(g, kind, space)?;
-            applied(Operation::Convert(kind, space), line, args)
+            applied(
+                Operation::Value(ValueOperation::Convert(kind, space)),
+                line,
+                args,
+            )
         }
     }
 }
@@ -233,11 +237,18 @@ pub fn tripled(
             fault(code, line)
         }
         Ok(args) => {
-            if misfits(Operation::Triple(kind, SpaceName::Current), args.as_slice()) {
+            if misfits(
+                Operation::Value(ValueOperation::Triple(kind, SpaceName::Current)),
+                args.as_slice(),
+            ) {
                 return fault(TypeCode::T2, line);
             }
             let space = space_of(g, kind, space)?;
-            applied(Operation::Triple(kind, space), line, args)
+            applied(
+                Operation::Value(ValueOperation::Triple(kind, space)),
+                line,
+                args,
+            )
         }
     }
 }

@@ -138,6 +138,7 @@ fn in_body<'a, 'b>(kind: SlKind, known: &'a Functions<'b>) -> Around<'a, 'b>
 }
 
 /// The typed functions, parameters and body of a file, or the first fault of names, types, kinds and places.
+#[tactic(auto, using(crate::proofs::Behind::behind_none))]
 pub fn program<'a>(alloc: Global, shader: &'a Shader) -> Result<Program<'a>, TypeFault>
     ensures { Gives program_of result (spec.program (shader_of shader.now)) }
 {

@@ -102,7 +102,7 @@ fn name<'a>(
     scope: &mut Scope<'a>,
     d: &'a Declared,
 ) -> Result<(), TypeFault>
-    ensures gives { GivesRows result done.new.items scope.new (spec.typed_name (around_of g.now) from uniform kind (map tstmt_of done.old.items) (map local_of scope.old) (declared_of d.now)) }
+    ensures gives { GivesRows result done.new.items scope.new (spec.behind (map tstmt_of done.old.items) (spec.typed_name (around_of g.now) from uniform kind (map local_of scope.old) (declared_of d.now))) }
     ensures extends { OnOk result (Extends scope.old scope.new) }
 {
     if is_since(from, scope.level(&d.name)) {
@@ -120,7 +120,7 @@ fn name<'a>(
 }
 
 // The names of a declaration.
-#[tactic(auto, using(crate::proofs::Scopes::extends_same, crate::proofs::Scopes::extends_trans))]
+#[tactic(auto, using(crate::proofs::Scopes::extends_same, crate::proofs::Scopes::extends_trans, crate::proofs::Behind::names_step, crate::proofs::Behind::names_end))]
 pub fn names<'a>(
     alloc: Global,
     g: &Around<'_, 'a>,
@@ -131,7 +131,7 @@ pub fn names<'a>(
     scope: &mut Scope<'a>,
     ds: &'a [Declared],
 ) -> Result<(), TypeFault>
-    ensures gives { GivesRows result done.new.items scope.new (spec.typed_names (around_of g.now) from uniform kind (map tstmt_of done.old.items) (map local_of scope.old) (map declared_of ds.now)) }
+    ensures gives { GivesRows result done.new.items scope.new (spec.behind (map tstmt_of done.old.items) (spec.typed_names (around_of g.now) from uniform kind (map local_of scope.old) (map declared_of ds.now))) }
     ensures extends { OnOk result (Extends scope.old scope.new) }
 {
     for d in ds {
@@ -296,7 +296,7 @@ pub fn light_args(
     place: &Expr,
     cone: &Option<Cone>,
 ) -> Result<Vec<TypedExpr>, TypeFault>
-    ensures { GivesAll typed_of result (typed_args (around_of g.now) (map local_of scope.now) [] (spec.light_args (expr_of place.now) (option_map cone_of cone.now))) }
+    ensures { GivesAll typed_of result (typed_args (around_of g.now) (map local_of scope.now) (spec.light_args (expr_of place.now) (option_map cone_of cone.now))) }
 {
     let mut args = Vec::new(alloc);
     let place = expr(place, alloc, g, false, scope)?;

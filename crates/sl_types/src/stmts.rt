@@ -97,7 +97,7 @@ fn solar_args(
     axis: &Expr,
     angle: &Expr,
 ) -> Result<Vec<TypedExpr>, TypeFault>
-    ensures { GivesAll typed_of result (typed_args (around_of g.now) (map local_of scope.now) [] (U.more (expr_of axis.now) (U.more (expr_of angle.now) U.none))) }
+    ensures { GivesAll typed_of result (typed_args (around_of g.now) (map local_of scope.now) (U.more (expr_of axis.now) (U.more (expr_of angle.now) U.none))) }
 {
     let mut args = Vec::new(alloc);
     let axis = expr(axis, alloc, g, false, scope)?;
@@ -155,7 +155,7 @@ pub fn stmt<'a>(
     done: &mut Vec<TypedStmt>,
     scope: &mut Scope<'a>,
 ) -> Result<(), TypeFault>
-    ensures gives { GivesRows result done.new.items scope.new (spec.typed_stmt (around_of g.now) from (map tstmt_of done.old.items) (map local_of scope.old) (stmt_of s.now)) }
+    ensures gives { GivesRows result done.new.items scope.new (spec.behind (map tstmt_of done.old.items) (spec.typed_stmt (around_of g.now) from (map local_of scope.old) (stmt_of s.now))) }
     ensures extends { OnOk result (Extends scope.old scope.new) }
 {
     match s {
@@ -281,13 +281,14 @@ pub fn stmt<'a>(
 
 // A statement that is a block of its own for names.
 #[cycle(stmts)]
+#[tactic(auto, using(crate::proofs::Behind::behind_none))]
 fn branch<'a>(
     s: &'a Stmt,
     alloc: Global,
     g: &Around<'_, 'a>,
     scope: &mut Scope<'a>,
 ) -> Result<Box<TypedStmt>, TypeFault>
-    ensures gives { Gives boxed_of result (spec.branch (spec.typed_stmt (around_of g.now) (length scope.old) [] (map local_of scope.old) (stmt_of s.now))) }
+    ensures gives { Gives boxed_of result (spec.branch (spec.typed_stmt (around_of g.now) (length scope.old) (map local_of scope.old) (stmt_of s.now))) }
     ensures same { OnOk result (scope.new ≡ scope.old) }
 {
     let start = scope.len();
@@ -299,7 +300,7 @@ fn branch<'a>(
 
 // A block.
 #[cycle(stmts)]
-#[tactic(auto, using(crate::proofs::Scopes::extends_same))]
+#[tactic(auto, using(crate::proofs::Scopes::extends_same, crate::proofs::Behind::behind_none))]
 fn block<'a>(
     body: &'a [Stmt],
     alloc: Global,
@@ -308,7 +309,7 @@ fn block<'a>(
     done: &mut Vec<TypedStmt>,
     scope: &mut Scope<'a>,
 ) -> Result<(), TypeFault>
-    ensures gives { GivesRows result done.new.items scope.new (spec.typed_stmt (around_of g.now) 0 (map tstmt_of done.old.items) (map local_of scope.old) (U.block (U.stmts (map stmt_of body.now)) line)) }
+    ensures gives { GivesRows result done.new.items scope.new (spec.behind (map tstmt_of done.old.items) (spec.typed_stmt (around_of g.now) 0 (map local_of scope.old) (U.block (U.stmts (map stmt_of body.now)) line))) }
     ensures extends { OnOk result (Extends scope.old scope.new) }
 {
     let start = scope.len();
@@ -321,7 +322,7 @@ fn block<'a>(
 
 /// Adds the typed statements of statements one after another to those before them, and what they declare to the scope.
 #[cycle(stmts)]
-#[tactic(auto, using(crate::proofs::Scopes::extends_same, crate::proofs::Scopes::extends_trans))]
+#[tactic(auto, using(crate::proofs::Scopes::extends_same, crate::proofs::Scopes::extends_trans, crate::proofs::Behind::rows_step, crate::proofs::Behind::rows_end))]
 pub fn rows<'a>(
     body: &'a [Stmt],
     alloc: Global,
@@ -330,7 +331,7 @@ pub fn rows<'a>(
     done: &mut Vec<TypedStmt>,
     scope: &mut Scope<'a>,
 ) -> Result<(), TypeFault>
-    ensures gives { GivesRows result done.new.items scope.new (spec.typed_rows (around_of g.now) from (map tstmt_of done.old.items) (map local_of scope.old) (U.stmts (map stmt_of body.now))) }
+    ensures gives { GivesRows result done.new.items scope.new (spec.behind (map tstmt_of done.old.items) (spec.typed_rows (around_of g.now) from (map local_of scope.old) (U.stmts (map stmt_of body.now)))) }
     ensures extends { OnOk result (Extends scope.old scope.new) }
 {
     for s in body {

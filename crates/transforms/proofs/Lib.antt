@@ -1,3 +1,5 @@
+pub mod Between
+pub mod Pairs
 pub mod Scales
 pub mod Signs
 pub mod Orders

@@ -13,7 +13,7 @@ use Rattle.transforms.proofs.Scales.{scale_some}
 pub clamped_mono : (a b : ℤ) → a ≤ℤ b → clamped a ≤ℤ clamped b
 clamped_mono a b h = grind (arith, ints)
 
-size_some : (l r : ℤ) → l <ℤ r → 0 < unsigned_abs (r -ℤ l)
+pub size_some : (l r : ℤ) → l <ℤ r → 0 < unsigned_abs (r -ℤ l)
 size_some l r h = omega (arith, ints)
 
 pub x_place_mono : (s : Option ℕ) (w : ℕ) (l r x y : ℤ) (z : ℕ) → IfSome s (λ t. 0 < t) → l <ℤ r → 0 < z → x ≤ℤ y → x_place s w l r x z ≤ℤ x_place s w l r y z
@@ -38,7 +38,7 @@ y_place_mono (Some t) h b u x y z hs hw hz o =
     floor_mono (pos (256 * h) *ℤ c) (pos (256 * h) *ℤ d) (z * t * unsigned_abs (u -ℤ b)) (mul-pos (mul-pos hz hs) (size_some b u hw))
     (mul_mono (256 * h) c d (omega (arith, ints, e)))
 
-depth_some : (n z : ℤ) → pos 1 ≤ℤ n → n ≤ℤ z → 0 < unsigned_abs z
+pub depth_some : (n z : ℤ) → pos 1 ≤ℤ n → n ≤ℤ z → 0 < unsigned_abs z
 depth_some n z h k = omega (arith, ints)
 
 -- at one depth

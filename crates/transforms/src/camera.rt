@@ -61,7 +61,7 @@ impl Camera {
     }
 
     /// Does nothing: a call tells a proof what holds of every camera's view.
-    fn recall(&self)
+    pub(crate) fn recall(&self)
         ensures { IsView self.now }
     {
         let _view = &self.view;
@@ -86,7 +86,7 @@ impl Camera {
     }
 
     #[tactic(auto, using(crate::proofs::Scales::scale_is_some))]
-    fn across(&self, x: i64, z: u32) -> i64
+    pub(crate) fn across(&self, x: i64, z: u32) -> i64
         requires small { unsigned_abs x ≤ 2147483647 }
         requires depth { 0 < z }
         ensures value { result ≡ clamped (x_place (scale_of self.now) self.now.width (left self.now) (right self.now) x z) }
@@ -97,7 +97,7 @@ impl Camera {
     }
 
     #[tactic(auto, using(crate::proofs::Scales::scale_is_some))]
-    fn down(&self, y: i64, z: u32) -> i64
+    pub(crate) fn down(&self, y: i64, z: u32) -> i64
         requires small { unsigned_abs y ≤ 2147483647 }
         requires depth { 0 < z }
         ensures value { result ≡ clamped (y_place (scale_of self.now) self.now.height (bottom self.now) (top self.now) y z) }

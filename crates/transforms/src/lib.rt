@@ -6,6 +6,7 @@
 mod affine;
 mod camera;
 mod concat;
+mod corners;
 mod fault;
 mod field;
 mod image;

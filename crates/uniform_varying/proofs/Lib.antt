@@ -1,4 +1,4 @@
-mod Scopes
+pub mod Scopes
 mod Loops
 mod Lengths
 pub mod Leaves

@@ -1,6 +1,6 @@
 -- What the parts of a settled tree are: each law takes one node apart. `lit` says whether an `illuminate` or `solar` has
 -- stood before the node, `after` whether one has stood behind it.
-use Rattle.std.proofs.Common.{◌≡◌, ℕ, Bool, true, false, ◌&&◌, ◌||◌, not, List, [], ◌∷◌, Ok, Err, None, refl, sym, ap, subst, ◌∙◌}
+use Rattle.std.proofs.Common.{◌≡◌, ℕ, Bool, true, false, ◌&&◌, ◌||◌, not, List, [], ◌∷◌, Ok, Err, None, refl, sym, ap, subst}
 use Rattle.std.specs.List.{All}
 use Rattle.std.proofs.lemmas.Bool.{or_parts}
 use Rattle.std.proofs.lemmas.List.Elements.{All-nil, All-cons}
@@ -9,13 +9,13 @@ use Rattle.sl_ast.specs.declared.kinds.ControlCode.TheVariants.{T3, T4, T5, T9, 
 use Rattle.sl_ast.specs.declared.kinds.LightStmt.{LightStmt}
 use Rattle.sl_ast.specs.declared.kinds.LightStmt.TheVariants.{Illuminance, Illuminate, Solar}
 use Rattle.sl_ast.specs.declared.kinds.NodeType.{NodeType}
-use Rattle.sl_ast.specs.declared.kinds.Operation.{Operation}
+use Rattle.sl_ast.specs.declared.operations.Operation.{Operation}
 use Rattle.sl_ast.specs.declared.kinds.SetOperator.{SetOperator}
 use Rattle.sl_ast.specs.declared.kinds.SlType.{SlType}
 use Rattle.sl_ast.specs.declared.typed.Place.{Place}
 use Rattle.sl_ast.specs.declared.typed.TreeFormal.{TreeFormal}
 use Rattle.sl_ast.specs.declared.typed.Variable.{Variable}
-use Rattle.sl_ast.specs.Typed.{Expr, apply, call, Exprs, more, Stmt, block, group, declare, start, assign, test, test_else, repeat, steps, lights, Stmts, first, Tree}
+use Rattle.sl_ast.specs.Typed.{Expr, apply, call, Exprs, more, Stmt, declare, start, assign, test, test_else, repeat, steps, lights, Stmts, first, Tree}
 use Rattle.sl_ast.specs.Classes.{class_of, formal_classes, local_classes, after as scope_after, after_all, is_uniform, is_uniform_loop, leaves_together}
 use Rattle.sl_ast.specs.Settled.{Spot, Settles, ◌then◌, unless, is_varying_string, is_difference, is_component, index_varies, varies_into, goes_wrong, settled_formals, in_control, in_loop, in_lights, settled_word, settled_operation, settled_declare, settled_set, settled_expr, settled_args, settled_stmt, settled_stmts, outermost, settled_defaults, fault_of, settles, IsSettled}
 

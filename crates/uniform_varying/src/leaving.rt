@@ -9,7 +9,8 @@ use crate::uniform::is_uniform;
 use sl_ast::{TreeExpr, TreeStmt};
 use std::alloc::{AllocError, Global};
 
-// Whether control is uniform in a branch on that condition.
+/// Whether control is uniform in a branch on that condition, where the `if` stands in uniform control or not and the
+/// variables in scope have these classes. The one refusal is want of memory.
 pub fn in_branch(
     test: &TreeExpr,
     alloc: Global,

@@ -15,7 +15,7 @@ mod uniform;
 
 pub use classes::{Classes, control, param_classes};
 pub use fault::ControlFault;
-pub use leaving::is_uniform_loop;
+pub use leaving::{in_branch, is_uniform_loop};
 pub use scope::{class_of, enter, enter_all, formal_classes};
 pub use settled::first_fault;
 pub use uniform::is_uniform;

@@ -8,7 +8,7 @@ ghost use Rattle.uniform_varying.specs.Gives.{Gives, spot_of};
 use crate::fault::{Stop, refuse};
 use crate::spot::Spot;
 use crate::uniform::is_uniform;
-use sl_ast::{ControlCode, LightStmt, Operation, SlType, TreeExpr, TreeFormal};
+use sl_ast::{ControlCode, LightStmt, Operation, SlType, TreeExpr, TreeFormal, ValueOperation};
 use std::alloc::{AllocError, Global};
 
 // Whether a varying string is declared.
@@ -21,16 +21,13 @@ pub fn is_varying_string(uniform: bool, kind: SlType) -> bool
 pub fn is_difference(operation: Operation) -> bool
     ensures { result ≡ spec.is_difference operation }
 {
-    matches!(
-        operation,
-        Operation::Du | Operation::Dv | Operation::CalculateNormal
-    )
+    matches!(operation, Operation::Difference(_))
 }
 
 pub fn is_component(operation: Operation) -> bool
     ensures { result ≡ spec.is_component operation }
 {
-    matches!(operation, Operation::Comp)
+    matches!(operation, Operation::Value(ValueOperation::Comp))
 }
 
 // Whether a varying value goes into a variable of that class.

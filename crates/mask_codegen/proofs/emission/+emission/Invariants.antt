@@ -34,4 +34,4 @@ abbrev pub invariant-arguments-loop-argument : goal.invariant-arguments-loop-arg
 invariant-arguments-loop-argument l = Passing l.args l.argument-index l.base l.next l.target (scope_of l.scope) (block_of l.initial.code.items) (block_of l.code.items) (scope_of l.initial.inner) (scope_of l.inner) l.uniform
 
 abbrev pub invariant-statements-loop-s : goal.invariant-statements-loop-s
-invariant-statements-loop-s l = Running l.all l.s-index l.base (block_of l.initial.code.items) (block_of l.code.items) (scope_of l.initial.scope) (scope_of l.scope) l.uniform
+invariant-statements-loop-s l = Running l.all l.s-index l.base l.temps (block_of l.initial.code.items) (block_of l.code.items) (scope_of l.initial.scope) (scope_of l.scope) l.uniform

@@ -1,6 +1,6 @@
 use Rattle.std.proofs.Common.{◌+◌, arith, drop, sym, ap, ◌∙◌}
 use Rattle.std.specs.Prelude.{◌&&◌}
-use Rattle.mask_codegen.specs.Registers.{are_uniform_registers}
+use Rattle.grid_code.specs.Shapes.{are_uniform_registers}
 use Rattle.mask_codegen.proofs.ValueRegisters.{uniform_next, nothing_left}
 use Rattle.mask_codegen.proofs.registers.are_uniform.Goals as goal
 

@@ -1,5 +1,5 @@
 use Rattle.std.proofs.Common.{◌≡◌, drop}
-use Rattle.mask_codegen.specs.Registers.{are_uniform_registers}
+use Rattle.grid_code.specs.Shapes.{are_uniform_registers}
 use Rattle.mask_codegen.proofs.registers.are_uniform.Given as goal
 
 abbrev pub invariant-loop-register : goal.invariant-loop-register

@@ -4,4 +4,4 @@ use Rattle.render.specs.Drawn.{is_prim_drawn}
 use Rattle.render.proofs.drawn.are_prims_drawn.Given as goal
 
 abbrev pub invariant-loop-prim : goal.invariant-loop-prim
-invariant-loop-prim l = list_all (is_prim_drawn l.uses l.camera) (drop l.prim-index l.prims) ≡ list_all (is_prim_drawn l.uses l.camera) l.prims
+invariant-loop-prim l = list_all (is_prim_drawn l.uses) (drop l.prim-index l.prims) ≡ list_all (is_prim_drawn l.uses) l.prims

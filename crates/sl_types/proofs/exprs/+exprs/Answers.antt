@@ -51,12 +51,12 @@ expr-returns-in-Call t c =
     let g = around_of c.args.g.now in
     let ls = map local_of c.args.scope.now in
     let q = call_is c.args.e.now c.in-Call.name c.in-Call.args c.in-Call.line c.in-Call.is in
-    let parts = typed_args g ls [] (U.exprs (map expr_of c.as_slice-in-Call.result.now)) in
-    let same : parts ≡ typed_args g ls [] (U.exprs (map expr_of c.in-Call.args)) = ap (λ xs. typed_args g ls [] (U.exprs (map expr_of xs))) c.as_slice-in-Call.ensures in
+    let parts = typed_args g ls (U.exprs (map expr_of c.as_slice-in-Call.result.now)) in
+    let same : parts ≡ typed_args g ls (U.exprs (map expr_of c.in-Call.args)) = ap (λ xs. typed_args g ls (U.exprs (map expr_of xs))) c.as_slice-in-Call.ensures in
     let args = ap (λ xs. map expr_of xs) c.as_slice-in-Call-2.ensures in
     subst (λ r. Gives typed_of c.call_of.result r)
     (sym (ap (typed_expr g c.args.behind ls) q
-    ∙ ap (λ xs. call_of g c.args.behind c.in-Call.name c.in-Call.line xs (typed_args g ls [] (U.exprs (map expr_of c.in-Call.args)))) (listed_all (map expr_of c.in-Call.args) ∙ sym args)
+    ∙ ap (λ xs. call_of g c.args.behind c.in-Call.name c.in-Call.line xs (typed_args g ls (U.exprs (map expr_of c.in-Call.args)))) (listed_all (map expr_of c.in-Call.args) ∙ sym args)
     ∙ ap (λ r. call_of g c.args.behind c.in-Call.name c.in-Call.line (map expr_of c.as_slice-in-Call-2.result.now) r) (sym same)))
     (c.call_of.ensures parts c.exprs-parts.ensures)
 

@@ -1,4 +1,4 @@
-use Rattle.std.proofs.Common.{◌≡◌, ◌+◌, [], drop, map}
+use Rattle.std.proofs.Common.{◌≡◌, ◌+◌, drop, map}
 use Rattle.sl_ast.specs.Syntax as U
 use Rattle.sl_ast.specs.SyntaxView.{expr_of, link_of}
 use Rattle.sl_types.specs.Exprs.{typed_args, typed_links}
@@ -6,6 +6,7 @@ use Rattle.sl_types.specs.Measures.{size, size_args, size_links}
 use Rattle.sl_types.specs.Typed as T
 use Rattle.sl_types.specs.TypedView.{typed_of, tlink_of}
 use Rattle.sl_types.specs.Views.{around_of, local_of}
+use Rattle.sl_types.proofs.Behind.{args_behind}
 use Rattle.sl_types.proofs.exprs.+exprs.Given as goal
 
 abbrev pub decreases-expr : goal.decreases-expr
@@ -22,8 +23,8 @@ decreases-components l = 1 + (size (expr_of l.x.now) + (size (expr_of l.y.now) +
 
 abbrev pub invariant-exprs-loop-e : goal.invariant-exprs-loop-e
 invariant-exprs-loop-e l =
-    typed_args (around_of l.g) (map local_of l.scope) (map typed_of l.before.items) (U.exprs (map expr_of (drop l.e-index l.es)))
-    ≡ typed_args (around_of l.g) (map local_of l.scope) [] (U.exprs (map expr_of l.es))
+    args_behind (map typed_of l.before.items) (typed_args (around_of l.g) (map local_of l.scope) (U.exprs (map expr_of (drop l.e-index l.es))))
+    ≡ typed_args (around_of l.g) (map local_of l.scope) (U.exprs (map expr_of l.es))
 
 abbrev pub invariant-chain-loop-link : goal.invariant-chain-loop-link
 invariant-chain-loop-link l = record {

@@ -1,13 +1,13 @@
 use Rattle.std.proofs.Common.{◌≡◌, drop, map}
 use Rattle.sl_ast.specs.SyntaxView.{declared_of}
-use Rattle.sl_types.specs.Stmts.{typed_names}
+use Rattle.sl_types.specs.Stmts.{behind, typed_names}
 use Rattle.sl_types.specs.TypedView.{tstmt_of}
 use Rattle.sl_types.specs.Views.{Extends, around_of, local_of}
 use Rattle.sl_types.proofs.sets.names.Given as goal
 
 abbrev pub invariant-loop-d : goal.invariant-loop-d
 invariant-loop-d l = record {
-  same : typed_names (around_of l.g) l.from l.uniform l.kind (map tstmt_of l.done.items) (map local_of l.scope) (map declared_of (drop l.d-index l.ds))
-      ≡ typed_names (around_of l.g) l.from l.uniform l.kind (map tstmt_of l.initial.done.items) (map local_of l.initial.scope) (map declared_of l.ds);
+  same : behind (map tstmt_of l.done.items) (typed_names (around_of l.g) l.from l.uniform l.kind (map local_of l.scope) (map declared_of (drop l.d-index l.ds)))
+      ≡ behind (map tstmt_of l.initial.done.items) (typed_names (around_of l.g) l.from l.uniform l.kind (map local_of l.initial.scope) (map declared_of l.ds));
   extends : Extends l.initial.scope l.scope;
 }

@@ -1,7 +1,7 @@
 use Rattle.std.proofs.Common.{◌≡◌, ◌+◌, ◌*◌, drop, map}
 use Rattle.sl_ast.specs.Syntax as U
 use Rattle.sl_ast.specs.SyntaxView.{stmt_of}
-use Rattle.sl_types.specs.Stmts.{typed_rows}
+use Rattle.sl_types.specs.Stmts.{behind, typed_rows}
 use Rattle.sl_types.specs.Measures.{size_stmt, size_rows}
 use Rattle.sl_types.specs.TypedView.{tstmt_of}
 use Rattle.sl_types.specs.Views.{Extends, around_of, local_of}
@@ -21,7 +21,7 @@ decreases-block l = 3 * size_rows (U.stmts (map stmt_of l.body.now)) + 1
 
 abbrev pub invariant-rows-loop-s : goal.invariant-rows-loop-s
 invariant-rows-loop-s l = record {
-  same : typed_rows (around_of l.g) l.from (map tstmt_of l.done.items) (map local_of l.scope) (U.stmts (map stmt_of (drop l.s-index l.body)))
-      ≡ typed_rows (around_of l.g) l.from (map tstmt_of l.initial.done.items) (map local_of l.initial.scope) (U.stmts (map stmt_of l.body));
+  same : behind (map tstmt_of l.done.items) (typed_rows (around_of l.g) l.from (map local_of l.scope) (U.stmts (map stmt_of (drop l.s-index l.body))))
+      ≡ behind (map tstmt_of l.initial.done.items) (typed_rows (around_of l.g) l.from (map local_of l.initial.scope) (U.stmts (map stmt_of l.body)));
   extends : Extends l.initial.scope l.scope;
 }

@@ -1,4 +1,4 @@
-use Rattle.std.proofs.Common.{◌≡◌, None, Some, get_or, length, map, ap, arith, sym, ◌∙◌}
+use Rattle.std.proofs.Common.{None, Some, get_or, length, map, ap, arith, sym, ◌∙◌}
 use Rattle.fixed_math.specs.Names.{last_place}
 use Rattle.sl_types.specs.Scope.{callee_named}
 use Rattle.sl_types.specs.Views.{callee_of}

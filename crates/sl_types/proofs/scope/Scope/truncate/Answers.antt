@@ -1,4 +1,4 @@
-use Rattle.std.proofs.Common.{◌≡◌, map, take, ap, sym, ◌∙◌}
+use Rattle.std.proofs.Common.{map, take, ap, sym, ◌∙◌}
 use Rattle.std.proofs.lemmas.List.{take-map}
 use Rattle.sl_types.proofs.scope.Scope.truncate.Goals as goal
 

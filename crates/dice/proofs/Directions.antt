@@ -1,0 +1,55 @@
+-- Laws of cross products and their units, and of a shader's parameters.
+use Rattle.std.proofs.Common.{◌≡◌, ℕ, zero, suc, ◌+◌, ◌*◌, ◌/◌, ◌^◌, ◌<◌, ◌≤◌, ℤ, pos, unsigned_abs, to_z, of_z, arith, List, [], ◌∷◌, slice_index_or}
+use Rattle.std.specs.Int.{w128}
+use Rattle.fixed_math.specs.declared.vec3.Vec3.{Vec3}
+use Rattle.fixed_math.specs.Unit.{unit_part}
+use Rattle.std.proofs.lemmas.Int.{ints, to_z-of_z, fits_signed_from_abs}
+use Rattle.std.proofs.Math.Nat.{div-le_of_le-mul}
+use Rattle.std.proofs.lemmas.Nat.{pow_pos}
+use Rattle.fixed_math.specs.Fixed.{sat}
+use Rattle.dice.specs.Normals.{item, direction}
+
+three_below : (x y z : ℤ) → unsigned_abs x ≤ 2 ^ 81 → unsigned_abs y ≤ 2 ^ 81 → unsigned_abs z ≤ 2 ^ 81 →
+    (i : ℕ) → i < 3 → unsigned_abs (slice_index_or (x ∷ y ∷ z ∷ []) i (pos 0)) < 2 ^ 100
+three_below x y z a b c zero h = omega arith
+three_below x y z a b c (suc zero) h = omega arith
+three_below x y z a b c (suc (suc zero)) h = omega arith
+three_below x y z a b c (suc (suc (suc i))) h = absurd (omega arith)
+
+same : (z : ℤ) → unsigned_abs z ≤ 2 ^ 81 → to_z w128 (of_z w128 z) ≡ z
+same z h = to_z-of_z w128 z (fits_signed_from_abs w128 z (omega arith))
+
+-- three numbers of the code, read back
+pub cross_below : (x y z : ℤ) → unsigned_abs x ≤ 2 ^ 81 → unsigned_abs y ≤ 2 ^ 81 → unsigned_abs z ≤ 2 ^ 81 →
+    (i : ℕ) → i < 3 → unsigned_abs (slice_index_or (to_z w128 (of_z w128 x) ∷ to_z w128 (of_z w128 y) ∷ to_z w128 (of_z w128 z) ∷ []) i (pos 0)) < 2 ^ 100
+cross_below x y z a b c = rw (same x a, same y b, same z c) (three_below x y z a b c)
+
+same_point : (r s : Vec3) → r.x ≡ s.x → r.y ≡ s.y → r.z ≡ s.z → r ≡ s
+same_point r s e f g = let h : vec3 r.x r.y r.z ≡ vec3 s.x s.y s.z = cc in h
+  where
+    vec3 : ℤ → ℤ → ℤ → Vec3
+    vec3 x y z = record { x = x; y = y; z = z }
+
+pub unit_is : (r : Vec3) (c : List ℤ) → r.x ≡ unit_part (item c 0) (item c 0) (item c 1) (item c 2) → r.y ≡ unit_part (item c 1) (item c 0) (item c 1) (item c 2) →
+    r.z ≡ unit_part (item c 2) (item c 0) (item c 1) (item c 2) → r ≡ direction c
+unfolding direction
+unit_is r c e f g = same_point r (direction c) e f g
+
+-- ---- a shader's parameter is at most 1
+pub parameter_below : (c m n : ℕ) → c < m → n ≤ 4096 → (65536 * c + 16 * n) / m ≤ 65536
+parameter_below c m n h k = let room : 65536 * c + 16 * n ≤ m * 65536 = omega arith in div-le_of_le-mul m room
+
+pub parameter_read : (k : ℕ) → k ≤ 65536 → sat (to_z w128 k) ≡ pos k
+parameter_read k h = grind (arith, ints)
+
+-- ---- lines that bound 2 ^ p cells
+pub cells_from : (p : ℕ) → 2 ≤ 2 ^ p + 1
+cells_from p = let e = pow_pos p in omega (arith, e)
+
+pub cells_to : (p : ℕ) → p ≤ 4 → 2 ^ p + 1 ≤ 17
+cells_to zero h = omega arith
+cells_to (suc zero) h = omega arith
+cells_to (suc (suc zero)) h = omega arith
+cells_to (suc (suc (suc zero))) h = omega arith
+cells_to (suc (suc (suc (suc zero)))) h = omega arith
+cells_to (suc (suc (suc (suc (suc p))))) h = absurd (omega arith)

@@ -1,0 +1,177 @@
+-- The laws of runs, for a shader that is bound; and the shader of a use in its set.
+use Rattle.std.proofs.Common.{◌≡◌, ℕ, zero, suc, ◌*◌, ◌<◌, Bool, true, false, ℤ, List, [], ◌∷◌, ◌++◌, length, map, get_or, take, drop, refl, sym, ap, ◌∙◌, subst, arith}
+use Rattle.std.specs.Prelude.{Result, Ok, Err, IfOk, not, ◌||◌, Some, slice_get, option_map}
+use Rattle.std.specs.List.{list_all}
+use Rattle.std.proofs.lemmas.Bool.{and_parts, false≢true}
+use Rattle.std.proofs.lemmas.List.{length-map, take_at}
+use Rattle.std.proofs.lemmas.Option.{slice_get-map, slice_get_read}
+use Rattle.transforms.specs.declared.spaces.Spaces.{Spaces}
+use Rattle.scene_state.specs.declared.uses.ShaderUse.{ShaderUse}
+use Rattle.scene_state.specs.Scene.{IsUse}
+use Rattle.scene_state.specs.declared.uses.ShaderKind.{ShaderKind as UseKind}
+use Rattle.scene_state.specs.declared.uses.ShaderKind.TheVariants as requested
+use Rattle.sl_ast.specs.declared.kinds.SlKind.{SlKind}
+use Rattle.sl_ast.specs.declared.kinds.SlKind.TheVariants as written
+use Rattle.sl_ast.specs.declared.kinds.SlType.{SlType}
+use Rattle.sl_ast.specs.declared.kinds.SlType.TheVariants as types
+use Rattle.sl_ast.specs.declared.typed.Value.{Value}
+use Rattle.sl_ast.specs.Settled.{is_string}
+use Rattle.sl_ast.specs.TreeView.{tree_of}
+use Rattle.sl_ast.specs.Typed.{Tree}
+use Rattle.builtins.specs.declared.shape.Shape.{Shape}
+use Rattle.builtins.specs.declared.shape.Shape.TheVariants as shapes
+use Rattle.builtins.specs.Shapes.{shape}
+use Rattle.builtins.specs.Values.{shape_of}
+use Rattle.grid_code.specs.declared.shader_code.Code.{Code}
+use Rattle.grid_code.specs.View.{block_of}
+use Rattle.grid_code.specs.declared.slot.Slot.{Slot}
+use Rattle.grid_code.specs.Masked.{masked}
+use Rattle.sl_meaning.specs.Core as core
+use Rattle.sl_meaning.specs.Environment.{zero_value}
+use Rattle.displace_shade.specs.Sets.{FitsUse, FitUses, is_of_kind}
+use Rattle.mask_codegen.specs.Compiled.{Seen}
+use Rattle.displace_shade.specs.Shaded.{bound_with}
+use Rattle.displace_shade.specs.Points.{Leaf, normal_of, u_at, v_at, dpdu, dpdv}
+use Rattle.grid_machine.specs.Run.{begun, lines_given, Leaves}
+use Rattle.displace_shade.specs.Rows.{AreRowable, slot_of}
+use Rattle.displace_shade.specs.Diced.{point_count, ArePlaces}
+use Rattle.displace_shade.specs.Shop.{is_rowable, Runs}
+use Rattle.displace_shade.specs.declared.bound.BoundShader.{BoundShader}
+use Rattle.displace_shade.specs.declared.places.Places.{Places}
+use Rattle.displace_shade.proofs.Begun.{values_counted, values_shaped}
+use Rattle.displace_shade.proofs.Over.{over_long}
+
+word_is_string : (k : SlType) → shape_of k ≡ shapes.Word → is_string k ≡ true
+word_is_string types.Str h = refl
+word_is_string types.Float h = absurd (false≢true (ap is_word h))
+  where
+    is_word : Shape → Bool
+    is_word shapes.Word = true
+    is_word _ = false
+word_is_string _ h = absurd (false≢true (ap is_word h))
+  where
+    is_word : Shape → Bool
+    is_word shapes.Word = true
+    is_word _ = false
+
+no_text : (u s : Bool) → (u || not s) ≡ true → u ≡ false → s ≡ true → ⊥
+no_text true s h e f = false≢true (sym e)
+no_text false true h e f = false≢true h
+no_text false false h e f = false≢true f
+
+rowable_from : (ps : List Slot) (vs : List Value) → length vs ≡ length ps → ((k : ℕ) → k < length ps → shape (get_or vs k zero_value) ≡ shape_of (get_or (map slot_of ps) k core.no_slot).kind) → list_all is_rowable ps ≡ true → AreRowable ps vs
+rowable_from [] [] e g h = tt
+rowable_from [] (v ∷ vs) e g h = tt
+rowable_from (p ∷ ps) [] e g h = tt
+rowable_from (p ∷ ps) (v ∷ vs) e g h =
+    let both = and_parts (is_rowable p) (list_all is_rowable ps) h in
+    (λ u w. no_text p.uniform (is_string p.kind) both.0 u (word_is_string p.kind (sym (g 0 (omega arith)) ∙ w)), rowable_from ps vs (omega arith) (λ k l. g (suc k) (omega arith)) both.1)
+
+module _ (b : BoundShader) (r : Runs b) where
+  pub bound_count : length b.values.now ≡ length b.compiled.now.code.params
+  bound_count = values_counted (tree_of b.compiled.now.tree).params b.values.now r.values ∙ ap (λ xs. length xs) (sym r.code.params) ∙ length-map b.compiled.now.code.params slot_of
+
+  pub bound_rowable : AreRowable b.compiled.now.code.params b.values.now
+  bound_rowable =
+      rowable_from b.compiled.now.code.params b.values.now bound_count
+      (λ k l. subst (λ q. k < length q → shape (get_or b.values.now k zero_value) ≡ shape_of (get_or q k core.no_slot).kind) (sym r.code.params)
+      (λ m. values_shaped (tree_of b.compiled.now.tree).params b.values.now r.values k m) (subst (λ n. k < n) (sym (length-map b.compiled.now.code.params slot_of)) l)) r.can.rowable
+
+-- the lengths of what doesn't change
+pub places_long : (l : Leaf) (f : Places) → ArePlaces l f → (length f.normals.now ≡ point_count l) × ((length f.u.now ≡ point_count l) × ((length f.v.now ≡ point_count l) × ((length f.dpdu.now ≡ point_count l) × (length f.dpdv.now ≡ point_count l))))
+places_long l f h = (
+  ap (λ xs. length xs) h.normals ∙ over_long (normal_of l) (point_count l),
+  (
+    ap (λ xs. length xs) h.u ∙ over_long (u_at l) (point_count l),
+    (
+      ap (λ xs. length xs) h.v ∙ over_long (v_at l) (point_count l),
+      (ap (λ xs. length xs) h.dpdu ∙ over_long (dpdu l) (point_count l), ap (λ xs. length xs) h.dpdv ∙ over_long (dpdv l) (point_count l)),
+    ),
+  ),
+)
+
+-- the rows that are written back to where they were
+pub written_back : (n : ℕ) (new items : List ℤ) → length new ≡ n → take n (new ++ drop (length new) items) ≡ new
+written_back n new items e = take_at new (drop (length new) items) n e
+
+abbrev Left : Code → List Value → ℕ → ℕ → List ℤ → List ℤ → Spaces → Type 0
+Left k us m w vr out sp = Leaves k.kind (m * w) out (masked (block_of k.nodes) record { lines = lines_given m w k.params us; spaces = sp; lights = [] } (m * w) 65536 (begun k.kind k.params (m * w) us vr))
+
+pub leaves_as : (k k' : Code) (us : List Value) (m m' w w' : ℕ) (vr vr' out out' : List ℤ) (sp sp' : Spaces) → k ≡ k' → m ≡ m' → w ≡ w' → vr ≡ vr' → out ≡ out' → sp ≡ sp' →
+    Leaves k.kind (m * w) out (masked (block_of k.nodes) record { lines = lines_given m w k.params us; spaces = sp; lights = [] } (m * w) 65536 (begun k.kind k.params (m * w) us vr)) →
+    Leaves k'.kind (m' * w') out' (masked (block_of k'.nodes) record { lines = lines_given m' w' k'.params us; spaces = sp'; lights = [] } (m' * w') 65536 (begun k'.kind k'.params (m' * w') us vr'))
+leaves_as k k' us m m' w w' vr vr' out out' sp sp' ek em ew ev eo es h =
+    let a = subst (λ z. Left z us m w vr out sp) ek h in
+    let b = subst (λ z. Left k' us z w vr out sp) em a in
+    let c = subst (λ z. Left k' us m' z vr out sp) ew b in
+    let d = subst (λ z. Left k' us m' w' z out sp) ev c in
+    let e = subst (λ z. Left k' us m' w' vr' z sp) eo d in
+    subst (λ z. Left k' us m' w' vr' out' z) es e
+
+-- ---- the shader of a use
+-- a tree is there
+pub fits_there : (u : ShaderUse) (vs : List Value) (trees : List Tree) (k : ℕ) → FitsUse u vs (slice_get trees k) → k < length trees
+fits_there u vs [] k h = absurd h
+fits_there u vs (t ∷ trees) zero h = omega arith
+fits_there u vs (t ∷ trees) (suc k) h = let r = fits_there u vs trees k h in omega (arith, r)
+
+pub fits_place : (trees : List Tree) (uses : List ShaderUse) (ofs : List ℕ) (bounds : List (List Value)) (n : ℕ) → FitUses trees uses ofs bounds → n < length uses → get_or ofs n 0 < length trees
+fits_place trees (u ∷ uses) (k ∷ ofs) (b ∷ bounds) zero h l = fits_there u b trees k h.0
+fits_place trees (u ∷ uses) (k ∷ ofs) (b ∷ bounds) (suc n) h l = fits_place trees uses ofs bounds n h.1 (omega arith)
+fits_place trees [] ofs bounds n h l = absurd (omega arith)
+fits_place trees (u ∷ uses) [] bounds n h l = absurd h
+fits_place trees (u ∷ uses) (k ∷ ofs) [] n h l = absurd h
+
+-- one place and one list of values for each use
+pub fits_long : (trees : List Tree) (uses : List ShaderUse) (ofs : List ℕ) (bounds : List (List Value)) → FitUses trees uses ofs bounds → (length ofs ≡ length uses) × (length bounds ≡ length uses)
+fits_long trees [] [] [] h = (refl, refl)
+fits_long trees (u ∷ uses) (k ∷ ofs) (b ∷ bounds) h = let r = fits_long trees uses ofs bounds h.1 in (ap (λ n. suc n) r.0, ap (λ n. suc n) r.1)
+fits_long trees [] (k ∷ ofs) bounds h = absurd h
+fits_long trees [] [] (b ∷ bounds) h = absurd h
+fits_long trees (u ∷ uses) [] bounds h = absurd h
+fits_long trees (u ∷ uses) (k ∷ ofs) [] h = absurd h
+
+-- the use fits what is found for it
+pub fits_use : (trees : List Tree) (uses : List ShaderUse) (ofs : List ℕ) (bounds : List (List Value)) (n : ℕ) (t : Tree) (vs : List Value) (u : ShaderUse) → FitUses trees uses ofs bounds → n < length uses → get_or uses n u ≡ u → get_or bounds n vs ≡ vs → slice_get trees (get_or ofs n 0) ≡ Some t →
+    FitsUse u vs (Some t)
+fits_use trees (x ∷ uses) (k ∷ ofs) (b ∷ bounds) zero t vs u h l eu ev et = subst (λ o. FitsUse u vs o) et (subst (λ z. FitsUse u z (slice_get trees k)) ev (subst (λ z. FitsUse z b (slice_get trees k)) eu h.0))
+fits_use trees (x ∷ uses) (k ∷ ofs) (b ∷ bounds) (suc n) t vs u h l eu ev et = fits_use trees uses ofs bounds n t vs u h.1 (omega arith) eu ev et
+fits_use trees [] ofs bounds n t vs u h l eu ev et = absurd (omega arith)
+fits_use trees (x ∷ uses) [] bounds n t vs u h l eu ev et = absurd h
+fits_use trees (x ∷ uses) (k ∷ ofs) [] n t vs u h l eu ev et = absurd h
+
+pub tree_found : (xs : List Seen) (k : ℕ) (x : Seen) → k < length xs → x ≡ get_or xs k x → slice_get (map (λ (c : Seen). tree_of c.tree) xs) k ≡ Some (tree_of x.tree)
+tree_found xs k x l e = slice_get-map (λ (c : Seen). tree_of c.tree) xs k ∙ ap (λ o. option_map (λ (c : Seen). tree_of c.tree) o) (slice_get_read xs (length xs) k x refl l e)
+
+pub found_law : (trees : List Tree) (ofs : List ℕ) (bounds : List (List Value)) (uses : List ShaderUse) (n : ℕ) (t : Tree) (vs : List Value) (u : ShaderUse) → slice_get trees (get_or ofs n 0) ≡ Some t → slice_get bounds n ≡ Some vs → slice_get uses n ≡ Some u →
+    bound_with (slice_get trees (get_or ofs n 0)) (slice_get bounds n) (slice_get uses n) ≡ Some record { tree = t; values = vs; space = u.space }
+found_law trees ofs bounds uses n t vs u et ev eu =
+    ap (λ o. bound_with o (slice_get bounds n) (slice_get uses n)) et ∙ ap (λ o. bound_with (Some t) o (slice_get uses n)) ev ∙ ap (λ o. bound_with (Some t) (Some vs) o) eu
+
+-- ---- uses of a kind
+pub use_there : (uses : List ShaderUse) (kind : UseKind) (n : ℕ) → IsUse uses kind n → n < length uses
+use_there [] kind n h = absurd h
+use_there (u ∷ uses) kind zero h = omega arith
+use_there (u ∷ uses) kind (suc n) h = let r = use_there uses kind n h in omega (arith, r)
+
+pub of_displacement : (k : SlKind) → is_of_kind k requested.Displacement ≡ true → k ≡ written.Displacement
+of_displacement written.Displacement h = refl
+of_displacement written.Surface h = absurd (false≢true h)
+of_displacement written.Light h = absurd (false≢true h)
+of_displacement written.Volume h = absurd (false≢true h)
+
+pub of_surface : (k : SlKind) → is_of_kind k requested.Surface ≡ true → k ≡ written.Surface
+of_surface written.Surface h = refl
+of_surface written.Displacement h = absurd (false≢true h)
+of_surface written.Light h = absurd (false≢true h)
+of_surface written.Volume h = absurd (false≢true h)
+
+pub of_volume : (k : SlKind) → is_of_kind k requested.Volume ≡ true → k ≡ written.Volume
+of_volume written.Volume h = refl
+of_volume written.Surface h = absurd (false≢true h)
+of_volume written.Displacement h = absurd (false≢true h)
+of_volume written.Light h = absurd (false≢true h)
+
+pub if_ok : {A E : Type 0} (r : Result A E) (P Q : A → Type 0) → ((x : A) → P x → Q x) → IfOk r P → IfOk r Q
+if_ok (Ok x) P Q f h = f x h
+if_ok (Err e) P Q f h = h

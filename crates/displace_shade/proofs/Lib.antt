@@ -1,0 +1,14 @@
+pub mod Begun
+pub mod Looks
+pub mod Starts
+pub mod Ran
+pub mod Filled
+pub mod Bounded
+pub mod Over
+pub mod Params
+pub mod Dicing
+pub mod Stages
+pub mod GivenRows
+pub mod Plain
+pub mod Laws
+pub mod BoundLaws

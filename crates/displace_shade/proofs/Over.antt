@@ -1,0 +1,16 @@
+-- Lists of what a function gives at the first places.
+use Rattle.std.proofs.Common.{◌≡◌, ℕ, ◌+◌, ◌<◌, List, [], ◌∷◌, ◌++◌, length, get_or, sym, ap, ◌∙◌, arith}
+use Rattle.std.proofs.lemmas.List.FromFn.{length-map-range_with_len, get_or-map-range_with_len, map-range_with_len_more, fill_by_all}
+use Rattle.displace_shade.specs.Diced.{over}
+
+pub over_more : {A : Type 0} (f : ℕ → A) (n : ℕ) (items new : List A) (x : A) → new ≡ items ++ x ∷ [] → x ≡ f n → items ≡ over n f → new ≡ over (n + 1) f
+over_more f n items new x e p h = e ∙ ap (λ y. items ++ y ∷ []) p ∙ ap (λ ys. ys ++ f n ∷ []) h ∙ sym (map-range_with_len_more f 0 n n (omega arith))
+
+pub over_long : {A : Type 0} (f : ℕ → A) (c : ℕ) → length (over c f) ≡ c
+over_long f c = length-map-range_with_len f 0 c
+
+pub over_at : {A : Type 0} (f : ℕ → A) (c i : ℕ) (d : A) → i < c → get_or (over c f) i d ≡ f i
+over_at f c i d l = get_or-map-range_with_len f 0 c i i d l (omega arith)
+
+pub over_all : {A : Type 0} (f : ℕ → A) (xs : List A) (c : ℕ) (d : A) → length xs ≡ c → ((i : ℕ) → i < c → get_or xs i d ≡ f i) → xs ≡ over c f
+over_all f xs c d e h = fill_by_all f xs c d e h

@@ -1,0 +1,111 @@
+-- What is known of the points of a leaf's grid before any shader runs (RenderMan Interface 3.2, section 11, predefined shader variables).
+use Rattle.std.specs.Prelude.{ℕ, ◌/◌, ◌%◌, ℤ, pos, Bool, cond, Option, Some, None, slice_index_or}
+use Rattle.fixed_math.specs.declared.vec3.Vec3.{Vec3}
+use Rattle.patches.specs.Parts.{Part}
+use Rattle.patches.specs.Patches.{patch_point, patch_du, patch_dv}
+use Rattle.transforms.specs.Map.{Map}
+use Rattle.transforms.specs.declared.view.View.{View}
+use Rattle.dice.specs.Grids.{line_count, line_at}
+use Rattle.dice.specs.Normals.{normal}
+use Rattle.dice.specs.Placed.{parameter_of, step_of, derivative_of}
+use Rattle.scene_state.specs.Scene.{PrimValue}
+use Rattle.sl_ast.specs.declared.kinds.Predefined.TheVariants as names
+use Rattle.sl_ast.specs.declared.typed.Value.TheVariants.{Number, Triple}
+use Rattle.builtins.specs.Triples.{negated}
+use Rattle.builtins.specs.Differences.{Lines}
+use Rattle.sl_meaning.specs.Runs.{Names, nothing}
+
+-- a part of a primitive of a frame, in 2 ^ p + 1 columns and 2 ^ q + 1 rows
+pub record Leaf : Type 0 where
+  pub camera : View
+  pub world : Map
+  pub prim : PrimValue
+  pub part : Part
+  pub p : ℕ
+  pub q : ℕ
+
+abbrev pub columns : Leaf → ℕ
+columns l = line_count l.p
+
+abbrev pub rows : Leaf → ℕ
+rows l = line_count l.q
+
+-- the column and row of the primitive's patch in its mesh, and how many columns and rows that has
+abbrev pub patch_column : PrimValue → ℕ
+patch_column prim = slice_index_or prim.place 0 0
+
+abbrev pub patch_columns : PrimValue → ℕ
+patch_columns prim = slice_index_or prim.place 1 0
+
+abbrev pub patch_row : PrimValue → ℕ
+patch_row prim = slice_index_or prim.place 2 0
+
+abbrev pub patch_rows : PrimValue → ℕ
+patch_rows prim = slice_index_or prim.place 3 0
+
+-- the patch's own parameters at place i, over 4096; places go by rows
+abbrev pub own_u : Leaf → ℕ → ℕ
+own_u l i = line_at l.part.a l.part.i l.p (i % columns l)
+
+abbrev pub own_v : Leaf → ℕ → ℕ
+own_v l i = line_at l.part.b l.part.j l.q (i / columns l)
+
+abbrev pub point_at : Leaf → ℕ → Vec3
+point_at l i = patch_point l.prim.patch (own_u l i) (own_v l i)
+
+abbrev pub flat_or : Option Vec3 → Vec3 → Vec3
+flat_or (Some flat) n = flat
+flat_or None n = n
+
+abbrev pub turned : Bool → Vec3 → Vec3
+turned flip n = cond flip (negated n) n
+
+-- the geometric normal: that of a flat primitive, else that of the patch, turned over where the primitive is
+abbrev pub normal_of : Leaf → ℕ → Vec3
+normal_of l i = turned l.prim.flip (flat_or l.prim.flat (normal (patch_du l.prim.patch) (patch_dv l.prim.patch) (own_u l i) (own_v l i)))
+
+-- the direction in which a point is seen
+abbrev pub sight_by : Option ℤ → Vec3 → Vec3
+sight_by (Some fov) p = p
+sight_by None p = record { x = pos 0; y = pos 0; z = pos 65536 }
+
+abbrev pub sight : View → Vec3 → Vec3
+sight v p = sight_by v.fov p
+
+abbrev pub u_at : Leaf → ℕ → ℤ
+u_at l i = parameter_of (patch_column l.prim) (patch_columns l.prim) (own_u l i)
+
+abbrev pub v_at : Leaf → ℕ → ℤ
+v_at l i = parameter_of (patch_row l.prim) (patch_rows l.prim) (own_v l i)
+
+abbrev pub lines : Leaf → Lines
+lines l = record {
+  columns = columns l;
+  rows = rows l;
+  du = step_of (patch_columns l.prim) l.part.a l.p;
+  dv = step_of (patch_rows l.prim) l.part.b l.q;
+}
+
+abbrev pub dpdu : Leaf → ℕ → Vec3
+dpdu l i = derivative_of (patch_columns l.prim) (patch_du l.prim.patch (own_u l i) (own_v l i))
+
+abbrev pub dpdv : Leaf → ℕ → Vec3
+dpdv l i = derivative_of (patch_rows l.prim) (patch_dv l.prim.patch (own_u l i) (own_v l i))
+
+-- the variables at place i
+abbrev pub diced_names : Leaf → ℕ → Names
+diced_names l i names.P = Triple (point_at l i)
+diced_names l i names.N = Triple (normal_of l i)
+diced_names l i names.Ng = Triple (normal_of l i)
+diced_names l i names.I = Triple (sight l.camera (point_at l i))
+diced_names l i names.U = Number (u_at l i)
+diced_names l i names.V = Number (v_at l i)
+diced_names l i names.Du = Number (lines l).du
+diced_names l i names.Dv = Number (lines l).dv
+diced_names l i names.S = Number (u_at l i)
+diced_names l i names.T = Number (v_at l i)
+diced_names l i names.Cs = Triple l.prim.cs
+diced_names l i names.Os = Triple l.prim.os
+diced_names l i names.DPdu = Triple (dpdu l i)
+diced_names l i names.DPdv = Triple (dpdv l i)
+diced_names l i name = nothing name

@@ -1,0 +1,44 @@
+// The shader of a use.
+ghost use Rattle.std.specs.Prelude.{◌≡◌, ◌<◌, true, Some, length, slice_get};
+ghost use Rattle.scene_state.specs.Scene.{IsUse};
+ghost use Rattle.scene_state.specs.declared.uses.ShaderKind.{ShaderKind as UseKind};
+ghost use Rattle.sl_ast.specs.TreeView.{tree_of};
+ghost use Rattle.displace_shade.specs.Sets.{Fits, is_of_kind};
+ghost use Rattle.displace_shade.specs.Shaded.{bound_at as bound_at_use};
+ghost use Rattle.displace_shade.specs.Shop.{set_value, bound_value, CanRunAll, Runs};
+
+use crate::set::ShaderSet;
+use mask_codegen::Compiled;
+use scene_state::ShaderUse;
+use sl_ast::Value;
+use transforms::Affine;
+
+/// The shader of a use, with the values of its parameters and the map from its shader space to camera space.
+#[derive(Clone, Copy)]
+pub(crate) struct BoundShader<'s> {
+    pub(crate) compiled: &'s Compiled,
+    pub(crate) values: &'s [Value],
+    pub(crate) space: &'s Affine,
+}
+
+/// The shader of use `n`.
+pub(crate) fn bound_at<'s>(set: &'s ShaderSet, uses: &'s [ShaderUse], n: u32) -> BoundShader<'s>
+    requires fits { Fits (set_value set.now) uses.now }
+    requires there { n < length uses.now }
+    requires can { CanRunAll set.now }
+    ensures found { bound_at_use (set_value set.now) uses.now n ≡ Some (bound_value result) }
+    ensures runs { Runs result }
+    ensures kind { (kind : UseKind) → IsUse uses.now kind n → is_of_kind (tree_of result.compiled.now.tree).kind kind ≡ true }
+{
+    let place = set.of_use.as_slice()[n as usize];
+    let compiled = &set.compiled.as_slice()[place as usize];
+    let values = &set.bound.as_slice()[n as usize];
+    let shader = &uses[n as usize];
+    // the code is one of the tree
+    let _code = compiled.code();
+    BoundShader {
+        compiled,
+        values: values.as_slice(),
+        space: &shader.space,
+    }
+}

@@ -1,0 +1,194 @@
+// The shaded grid of a leaf: its three shaders in turn.
+ghost use Rattle.std.specs.Prelude.{◌≡◌, ℕ, List, [], map, length, get_or, IfOk};
+ghost use Rattle.fixed_math.specs.Axes.{origin};
+ghost use Rattle.fixed_math.specs.declared.vec3.Vec3.{Vec3 as Triple};
+ghost use Rattle.scene_state.specs.Scene.{IsUse, IsSomeUse, HasUses};
+ghost use Rattle.scene_state.specs.declared.uses.ShaderKind.TheVariants as requested;
+ghost use Rattle.builtins.specs.Lights.{Light};
+ghost use Rattle.sl_meaning.specs.Runs.{Names};
+ghost use Rattle.displace_shade.specs.Sets.{Fits};
+ghost use Rattle.displace_shade.specs.Points.{sight};
+ghost use Rattle.displace_shade.specs.Shaded.{bound_at as bound_at_use, bound_for, shaded_by, moved, shaded};
+ghost use Rattle.displace_shade.specs.Diced.{point_count, over, Hold, IsSized, IsColoured, ArePlaces, grid_value};
+ghost use Rattle.displace_shade.specs.Shop.{set_value, CanRunAll};
+
+use crate::bound::bound_at;
+use crate::diced::{first_variables, grid_of, places_of};
+use crate::leaf::Leaf;
+use crate::moves::{kept_points, sights};
+use crate::places::Places;
+use crate::runs::{colour, dim, displace};
+use crate::set::ShaderSet;
+use crate::variables::Variables;
+use bumpalo::Bump;
+use dice::GridRef;
+use fixed_math::NoMemory;
+use scene_state::ShaderUse;
+use std::alloc::Global;
+
+/// The shaders of a scene and their uses, with memory for what a run needs.
+#[derive(Clone, Copy)]
+pub(crate) struct Shaders<'s> {
+    pub(crate) alloc: Global,
+    pub(crate) set: &'s ShaderSet,
+    pub(crate) uses: &'s [ShaderUse],
+}
+
+/// The variables behind the displacement of use `n`.
+fn displaced_by<'a>(
+    shaders: &Shaders,
+    arena: &'a Bump,
+    leaf: &Leaf,
+    places: &Places,
+    variables: &Variables<'a>,
+    n: u32,
+) -> Result<Variables<'a>, NoMemory>
+    requires fits { Fits (set_value shaders.now.set.now) shaders.now.uses.now }
+    requires can { CanRunAll shaders.now.set.now }
+    requires use_of { IsUse shaders.now.uses.now requested.Displacement n }
+    requires places { ArePlaces leaf.now places.now }
+    requires sized { IsSized leaf.now variables.now }
+    ensures sized { IfOk result (λ e. IsSized leaf.now e) }
+    ensures hold { IfOk result (λ e. (f : ℕ → Names) → Hold leaf.now variables.now f → Hold leaf.now e (shaded_by leaf.now (bound_at_use (set_value shaders.now.set.now) shaders.now.uses.now n) [] f)) }
+{
+    let bound = bound_at(shaders.set, shaders.uses, n);
+    displace(shaders.alloc, arena, leaf, &bound, places, variables)
+}
+
+/// The variables behind the displacement, if there is one.
+fn displaced<'a>(
+    shaders: &Shaders,
+    arena: &'a Bump,
+    leaf: &Leaf,
+    places: &Places,
+    variables: &Variables<'a>,
+    shader: Option<u32>,
+) -> Result<Variables<'a>, NoMemory>
+    requires fits { Fits (set_value shaders.now.set.now) shaders.now.uses.now }
+    requires can { CanRunAll shaders.now.set.now }
+    requires use_of { IsSomeUse shaders.now.uses.now requested.Displacement shader }
+    requires places { ArePlaces leaf.now places.now }
+    requires sized { IsSized leaf.now variables.now }
+    ensures sized { IfOk result (λ e. IsSized leaf.now e) }
+    ensures hold { IfOk result (λ e. (f : ℕ → Names) → Hold leaf.now variables.now f → Hold leaf.now e (shaded_by leaf.now (bound_for (set_value shaders.now.set.now) shaders.now.uses.now shader) [] f)) }
+{
+    match shader {
+        None => Ok(*variables),
+        Some(n) => displaced_by(shaders, arena, leaf, places, variables, n),
+    }
+}
+
+/// The variables where points are kept near their old places, and are seen from there.
+fn kept_near<'a>(
+    arena: &'a Bump,
+    leaf: &Leaf,
+    old: &Variables,
+    new: &Variables<'a>,
+) -> Result<Variables<'a>, NoMemory>
+    requires old { IsSized leaf.now old.now }
+    requires new { IsSized leaf.now new.now }
+    ensures points { IfOk result (λ e. e.points.now ≡ over (length old.now.points.now) (λ i. moved leaf.now.prim.bound (get_or old.now.points.now i origin) (get_or new.now.points.now i origin))) }
+    ensures sights { IfOk result (λ e. e.sights.now ≡ map (sight leaf.now.camera) e.points.now) }
+    ensures normals { IfOk result (λ e. e.normals.now ≡ new.now.normals.now) }
+    ensures colours { IfOk result (λ e. e.colours.now ≡ new.now.colours.now) }
+    ensures opacities { IfOk result (λ e. e.opacities.now ≡ new.now.opacities.now) }
+{
+    let prim = leaf.prim;
+    let camera = leaf.camera;
+    let points = kept_points(arena, prim.bound, old.points, new.points)?;
+    let directions = sights(arena, camera.view(), points)?;
+    Ok(Variables {
+        points,
+        normals: new.normals,
+        sights: directions,
+        colours: new.colours,
+        opacities: new.opacities,
+    })
+}
+
+/// The variables behind the surface of use `n`.
+fn coloured<'a>(
+    shaders: &Shaders,
+    arena: &'a Bump,
+    leaf: &Leaf,
+    places: &Places,
+    variables: &Variables<'a>,
+    n: u32,
+) -> Result<Variables<'a>, NoMemory>
+    requires fits { Fits (set_value shaders.now.set.now) shaders.now.uses.now }
+    requires can { CanRunAll shaders.now.set.now }
+    requires use_of { IsUse shaders.now.uses.now requested.Surface n }
+    requires places { ArePlaces leaf.now places.now }
+    requires sized { IsSized leaf.now variables.now }
+    ensures sized { IfOk result (λ e. IsSized leaf.now e) }
+    ensures coloured { IfOk result (λ e. IsColoured leaf.now e) }
+    ensures hold { IfOk result (λ e. (lights : List (Triple → Light)) (f : ℕ → Names) → Hold leaf.now variables.now f → Hold leaf.now e (shaded_by leaf.now (bound_at_use (set_value shaders.now.set.now) shaders.now.uses.now n) lights f)) }
+{
+    let bound = bound_at(shaders.set, shaders.uses, n);
+    colour(shaders.alloc, arena, leaf, &bound, places, variables)
+}
+
+/// The variables behind the volume of use `n`.
+fn dimmed_by<'a>(
+    shaders: &Shaders,
+    arena: &'a Bump,
+    leaf: &Leaf,
+    variables: &Variables<'a>,
+    n: u32,
+) -> Result<Variables<'a>, NoMemory>
+    requires fits { Fits (set_value shaders.now.set.now) shaders.now.uses.now }
+    requires can { CanRunAll shaders.now.set.now }
+    requires use_of { IsUse shaders.now.uses.now requested.Volume n }
+    requires sized { IsSized leaf.now variables.now }
+    requires coloured { IsColoured leaf.now variables.now }
+    ensures sized { IfOk result (λ e. IsSized leaf.now e) }
+    ensures coloured { IfOk result (λ e. IsColoured leaf.now e) }
+    ensures hold { IfOk result (λ e. (f : ℕ → Names) → Hold leaf.now variables.now f → Hold leaf.now e (shaded_by leaf.now (bound_at_use (set_value shaders.now.set.now) shaders.now.uses.now n) [] f)) }
+{
+    let bound = bound_at(shaders.set, shaders.uses, n);
+    dim(shaders.alloc, arena, leaf, &bound, variables)
+}
+
+/// The variables behind the volume, if there is one.
+fn dimmed<'a>(
+    shaders: &Shaders,
+    arena: &'a Bump,
+    leaf: &Leaf,
+    variables: &Variables<'a>,
+    shader: Option<u32>,
+) -> Result<Variables<'a>, NoMemory>
+    requires fits { Fits (set_value shaders.now.set.now) shaders.now.uses.now }
+    requires can { CanRunAll shaders.now.set.now }
+    requires use_of { IsSomeUse shaders.now.uses.now requested.Volume shader }
+    requires sized { IsSized leaf.now variables.now }
+    requires coloured { IsColoured leaf.now variables.now }
+    ensures sized { IfOk result (λ e. IsSized leaf.now e) }
+    ensures coloured { IfOk result (λ e. IsColoured leaf.now e) }
+    ensures hold { IfOk result (λ e. (f : ℕ → Names) → Hold leaf.now variables.now f → Hold leaf.now e (shaded_by leaf.now (bound_for (set_value shaders.now.set.now) shaders.now.uses.now shader) [] f)) }
+{
+    match shader {
+        None => Ok(*variables),
+        Some(n) => dimmed_by(shaders, arena, leaf, variables, n),
+    }
+}
+
+/// The shaded grid of a leaf.
+pub(crate) fn shaded_leaf<'a>(
+    shaders: &Shaders,
+    arena: &'a Bump,
+    leaf: &Leaf,
+) -> Result<GridRef<'a>, NoMemory>
+    requires fits { Fits (set_value shaders.now.set.now) shaders.now.uses.now }
+    requires can { CanRunAll shaders.now.set.now }
+    requires uses { HasUses shaders.now.uses.now leaf.now.prim }
+    ensures { IfOk result (λ grid. grid_value grid ≡ shaded leaf.now (set_value shaders.now.set.now) shaders.now.uses.now) }
+{
+    let first = first_variables(arena, leaf)?;
+    let places = places_of(arena, leaf, first.normals)?;
+    let free = displaced(shaders, arena, leaf, &places, &first, leaf.displacement())?;
+    let near = kept_near(arena, leaf, &first, &free)?;
+    let lit = coloured(shaders, arena, leaf, &places, &near, leaf.surface())?;
+    let last = dimmed(shaders, arena, leaf, &lit, leaf.atmosphere())?;
+    let grid = grid_of(arena, leaf, &last)?;
+    Ok(grid)
+}

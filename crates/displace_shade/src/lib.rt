@@ -1,0 +1,20 @@
+//! Shading: displacement, surface and volume over the diced grid of a leaf.
+#![tactic(auto)]
+
+mod bound;
+mod diced;
+mod given;
+mod leaf;
+mod leaves;
+mod left;
+mod moves;
+mod places;
+mod rows;
+mod runs;
+mod set;
+mod shop;
+mod unlit;
+mod variables;
+
+pub use set::ShaderSet;
+pub use shop::Shop;

@@ -1,0 +1,48 @@
+// What doesn't change at the points of a grid while shaders run.
+ghost use Rattle.std.specs.Prelude.{◌≡◌, ◌≤◌, length, map, IfOk};
+ghost use Rattle.displace_shade.specs.Diced.{point_count, over, parameter_at, derivative_at};
+
+use crate::leaf::{Along, Leaf};
+use bumpalo::Bump;
+use bumpalo::collections::into_bump_slice;
+use fixed_math::{NoMemory, Num, Vec3};
+
+/// What doesn't change at the points of a grid while shaders run, by rows: geometric normals, u and v, and the derivatives by them.
+#[derive(Clone, Copy)]
+pub(crate) struct Places<'a> {
+    pub(crate) normals: &'a [Vec3],
+    pub(crate) u: &'a [Num],
+    pub(crate) v: &'a [Num],
+    pub(crate) dpdu: &'a [Vec3],
+    pub(crate) dpdv: &'a [Vec3],
+}
+
+/// The shader's u or v at all points.
+pub(crate) fn parameters<'a>(
+    arena: &'a Bump,
+    leaf: &Leaf,
+    along: Along,
+) -> Result<&'a [Num], NoMemory>
+    ensures { IfOk result (λ xs. xs.now ≡ over (point_count leaf.now) (parameter_at along leaf.now)) }
+{
+    let mut numbers = Vec::new(arena);
+    for i in 0..leaf.point_count() {
+        numbers.push(leaf.parameter(along, i))?;
+    }
+    Ok(into_bump_slice(numbers))
+}
+
+/// The derivatives of the place by the shader's u or v at all points.
+pub(crate) fn derivatives<'a>(
+    arena: &'a Bump,
+    leaf: &Leaf,
+    along: Along,
+) -> Result<&'a [Vec3], NoMemory>
+    ensures { IfOk result (λ xs. xs.now ≡ over (point_count leaf.now) (derivative_at along leaf.now)) }
+{
+    let mut vectors = Vec::new(arena);
+    for i in 0..leaf.point_count() {
+        vectors.push(leaf.derivative(along, i))?;
+    }
+    Ok(into_bump_slice(vectors))
+}

@@ -1,0 +1,303 @@
+// Runs of the three shaders of a primitive.
+ghost use Rattle.std.specs.Prelude.{◌≡◌, ◌≤◌, ◌*◌, ◌++◌, ◌∷◌, [], List, ℕ, true, false, length, map, IfOk};
+ghost use Rattle.fixed_math.specs.declared.vec3.Vec3.{Vec3 as Triple};
+ghost use Rattle.transforms.specs.declared.spaces.Spaces.{Spaces as Maps};
+ghost use Rattle.sl_ast.specs.Names.{is_light};
+ghost use Rattle.sl_ast.specs.TreeView.{tree_of};
+ghost use Rattle.sl_ast.specs.declared.kinds.SlKind.TheVariants as kinds;
+ghost use Rattle.sl_ast.specs.declared.typed.Value.TheVariants as values;
+ghost use Rattle.builtins.specs.Lights.{Light};
+ghost use Rattle.builtins.specs.Shapes.{shape as shape_of_value};
+ghost use Rattle.grid_code.specs.Masked.{masked};
+ghost use Rattle.grid_code.specs.Shapes.{register_shape};
+ghost use Rattle.grid_code.specs.View.{block_of};
+ghost use Rattle.sl_meaning.specs.Runs.{Names, ran};
+ghost use Rattle.displace_shade.specs.Points.{columns as column_count, rows as row_count, lines};
+ghost use Rattle.displace_shade.specs.Shaded.{spaces_of as maps_of, around};
+ghost use Rattle.grid_machine.specs.Run.{row_length, rows_of, uniform_inputs, varying_inputs, written_names, lines_given, begun, Leaves, without_lights};
+ghost use Rattle.displace_shade.specs.Rows.{AreRaws, values_of};
+ghost use Rattle.displace_shade.specs.Diced.{point_count, over, triple_in, Hold, IsSized, IsColoured, ArePlaces};
+ghost use Rattle.displace_shade.specs.Given.{displacement_rows as displacement_list, surface_rows as surface_list, volume_rows as volume_list};
+ghost use Rattle.displace_shade.specs.Shop.{bound_value, Runs};
+
+use crate::bound::BoundShader;
+use crate::given::{displacement_rows, surface_rows, uniform_values, volume_rows};
+use crate::leaf::Leaf;
+use crate::left::triples_from;
+use crate::places::Places;
+use crate::rows::{length_of_row, raws_of};
+use crate::unlit::Unlit;
+use crate::variables::Variables;
+use bumpalo::Bump;
+use fixed_math::{NoMemory, Num, Vec3};
+use grid_machine::{Inputs, run};
+use sl_ast::Value;
+use std::alloc::Global;
+use transforms::{Affine, Spaces};
+
+/// The maps to camera space for a shader of a primitive.
+fn spaces_of(leaf: &Leaf, space: &Affine) -> Spaces
+    ensures { (b : _) → b.space ≡ space.now → result ≡ maps_of leaf.now b }
+{
+    let prim = leaf.prim;
+    let camera = leaf.camera;
+    let view = camera.view();
+    Spaces {
+        world: *leaf.world,
+        object: prim.object,
+        shader: *space,
+        near: view.near,
+        far: view.far,
+        flip: prim.flip,
+    }
+}
+
+/// The uniform values of a shader on a surface: those of its parameters and the steps of u and v.
+fn surface_values(alloc: Global, leaf: &Leaf, bound: &BoundShader) -> Result<Vec<Value>, NoMemory>
+    requires { length bound.now.values.now ≡ length bound.now.compiled.now.code.params }
+    ensures { IfOk result (λ given. given.items ≡ values_of true bound.now.compiled.now.code.params bound.now.values.now ++ values.Number (lines leaf.now).du ∷ values.Number (lines leaf.now).dv ∷ []) }
+{
+    let compiled = bound.compiled;
+    let code = compiled.code();
+    let mut given = uniform_values(alloc, code.params.as_slice(), bound.values)?;
+    given.push(Value::Number(leaf.du()))?;
+    given.push(Value::Number(leaf.dv()))?;
+    Ok(given)
+}
+
+/// The six rows that a run of a shader leaves.
+fn run_on<'a>(
+    arena: &'a Bump,
+    leaf: &Leaf,
+    bound: &BoundShader,
+    uniforms: &[Value],
+    rows: &[Num],
+) -> Result<Vec<i64, &'a Bump>, NoMemory>
+    requires kind { is_light bound.now.compiled.now.code.kind ≡ false }
+    requires written { rows_of (written_names bound.now.compiled.now.code.kind) ≡ 6 }
+    requires plain { without_lights (block_of bound.now.compiled.now.code.nodes) ≡ true }
+    requires uniforms { map shape_of_value uniforms.now ≡ map register_shape (uniform_inputs bound.now.compiled.now.code.kind bound.now.compiled.now.code.params) }
+    requires rows { length rows.now ≡ rows_of (varying_inputs bound.now.compiled.now.code.kind bound.now.compiled.now.code.params) * row_length (point_count leaf.now) }
+    ensures long { IfOk result (λ out. length out.items ≡ 6 * row_length (point_count leaf.now)) }
+    ensures small { IfOk result (λ out. AreRaws out.items) }
+    ensures values { IfOk result (λ out. Leaves bound.now.compiled.now.code.kind (point_count leaf.now) out.items (masked (block_of bound.now.compiled.now.code.nodes) record { lines = lines_given (column_count leaf.now) (row_count leaf.now) bound.now.compiled.now.code.params uniforms.now; spaces = maps_of leaf.now (bound_value bound.now); lights = [] } (point_count leaf.now) 65536 (begun bound.now.compiled.now.code.kind bound.now.compiled.now.code.params (point_count leaf.now) uniforms.now rows.now))) }
+{
+    let raws = raws_of(arena, rows)?;
+    let spaces = spaces_of(leaf, bound.space);
+    let width = length_of_row(leaf.point_count());
+    let mut out = vec![in arena; 0; 6 * width]?;
+    let inputs = Inputs {
+        columns: leaf.columns(),
+        rows: leaf.rows(),
+        uniforms,
+        varyings: &raws,
+        spaces: &spaces,
+    };
+    let compiled = bound.compiled;
+    let code = compiled.code();
+    let unlit = Unlit {
+        code,
+        values: uniforms,
+        spaces: &spaces,
+    };
+    run(code, arena, &inputs, &unlit, &mut out)?;
+    Ok(out)
+}
+
+/// The triples that a run leaves for the points of a leaf, in three rows from row `first` on.
+fn triples_left<'a>(
+    arena: &'a Bump,
+    leaf: &Leaf,
+    rows: &[i64],
+    first: usize,
+) -> Result<&'a [Vec3], NoMemory>
+    requires first { first ≤ 3 }
+    requires long { length rows.now ≡ 6 * row_length (point_count leaf.now) }
+    requires small { AreRaws rows.now }
+    ensures { IfOk result (λ ts. ts.now ≡ over (point_count leaf.now) (triple_in rows.now (row_length (point_count leaf.now)) first)) }
+{
+    triples_from(arena, rows, first, leaf.point_count())
+}
+
+/// The rows that a displacement is given.
+fn displacement_given<'a>(
+    arena: &'a Bump,
+    leaf: &Leaf,
+    bound: &BoundShader,
+    places: &Places,
+    variables: &Variables,
+) -> Result<Vec<Num, &'a Bump>, NoMemory>
+    requires counted { length bound.now.values.now ≡ length bound.now.compiled.now.code.params }
+    requires places { ArePlaces leaf.now places.now }
+    requires sized { IsSized leaf.now variables.now }
+    ensures { IfOk result (λ rows. rows.items ≡ displacement_list (point_count leaf.now) bound.now.compiled.now.code.params bound.now.values.now leaf.now.prim.cs leaf.now.prim.os places.now variables.now) }
+{
+    let prim = leaf.prim;
+    let points = leaf.point_count();
+    let compiled = bound.compiled;
+    let code = compiled.code();
+    displacement_rows(
+        arena,
+        code.params.as_slice(),
+        bound.values,
+        points,
+        &prim.cs,
+        &prim.os,
+        places,
+        variables,
+    )
+}
+
+/// The variables behind a run of a displacement.
+pub(crate) fn displace<'a>(
+    alloc: Global,
+    arena: &'a Bump,
+    leaf: &Leaf,
+    bound: &BoundShader,
+    places: &Places,
+    variables: &Variables<'a>,
+) -> Result<Variables<'a>, NoMemory>
+    requires runs { Runs bound.now }
+    requires kind { (tree_of bound.now.compiled.now.tree).kind ≡ kinds.Displacement }
+    requires places { ArePlaces leaf.now places.now }
+    requires sized { IsSized leaf.now variables.now }
+    ensures sized { IfOk result (λ e. IsSized leaf.now e) }
+    ensures hold { IfOk result (λ e. (lights : List (Triple → Light)) (f : ℕ → Names) → Hold leaf.now variables.now f → Hold leaf.now e (ran (tree_of bound.now.compiled.now.tree) (around leaf.now (bound_value bound.now) lights) (λ i. bound.now.values.now) f)) }
+{
+    let rows = displacement_given(arena, leaf, bound, places, variables)?;
+    let uniforms = surface_values(alloc, leaf, bound)?;
+    let out = run_on(arena, leaf, bound, &uniforms, &rows)?;
+    let points = triples_left(arena, leaf, &out, 0)?;
+    let normals = triples_left(arena, leaf, &out, 3)?;
+    Ok(Variables {
+        points,
+        normals,
+        sights: variables.sights,
+        colours: variables.colours,
+        opacities: variables.opacities,
+    })
+}
+
+/// The rows that a surface is given.
+fn surface_given<'a>(
+    arena: &'a Bump,
+    leaf: &Leaf,
+    bound: &BoundShader,
+    places: &Places,
+    variables: &Variables,
+) -> Result<Vec<Num, &'a Bump>, NoMemory>
+    requires counted { length bound.now.values.now ≡ length bound.now.compiled.now.code.params }
+    requires places { ArePlaces leaf.now places.now }
+    requires sized { IsSized leaf.now variables.now }
+    ensures { IfOk result (λ rows. rows.items ≡ surface_list (point_count leaf.now) bound.now.compiled.now.code.params bound.now.values.now leaf.now.prim.cs leaf.now.prim.os places.now variables.now) }
+{
+    let prim = leaf.prim;
+    let points = leaf.point_count();
+    let compiled = bound.compiled;
+    let code = compiled.code();
+    surface_rows(
+        arena,
+        code.params.as_slice(),
+        bound.values,
+        points,
+        &prim.cs,
+        &prim.os,
+        places,
+        variables,
+    )
+}
+
+/// The variables behind a run of a surface.
+pub(crate) fn colour<'a>(
+    alloc: Global,
+    arena: &'a Bump,
+    leaf: &Leaf,
+    bound: &BoundShader,
+    places: &Places,
+    variables: &Variables<'a>,
+) -> Result<Variables<'a>, NoMemory>
+    requires runs { Runs bound.now }
+    requires kind { (tree_of bound.now.compiled.now.tree).kind ≡ kinds.Surface }
+    requires places { ArePlaces leaf.now places.now }
+    requires sized { IsSized leaf.now variables.now }
+    ensures sized { IfOk result (λ e. IsSized leaf.now e) }
+    ensures coloured { IfOk result (λ e. IsColoured leaf.now e) }
+    ensures hold { IfOk result (λ e. (lights : List (Triple → Light)) (f : ℕ → Names) → Hold leaf.now variables.now f → Hold leaf.now e (ran (tree_of bound.now.compiled.now.tree) (around leaf.now (bound_value bound.now) lights) (λ i. bound.now.values.now) f)) }
+{
+    let rows = surface_given(arena, leaf, bound, places, variables)?;
+    let uniforms = surface_values(alloc, leaf, bound)?;
+    let out = run_on(arena, leaf, bound, &uniforms, &rows)?;
+    let colours = triples_left(arena, leaf, &out, 0)?;
+    let opacities = triples_left(arena, leaf, &out, 3)?;
+    Ok(Variables {
+        points: variables.points,
+        normals: variables.normals,
+        sights: variables.sights,
+        colours,
+        opacities,
+    })
+}
+
+/// The rows that a volume is given.
+fn volume_given<'a>(
+    arena: &'a Bump,
+    leaf: &Leaf,
+    bound: &BoundShader,
+    variables: &Variables,
+) -> Result<Vec<Num, &'a Bump>, NoMemory>
+    requires counted { length bound.now.values.now ≡ length bound.now.compiled.now.code.params }
+    requires sized { IsSized leaf.now variables.now }
+    requires coloured { IsColoured leaf.now variables.now }
+    ensures { IfOk result (λ rows. rows.items ≡ volume_list (point_count leaf.now) bound.now.compiled.now.code.params bound.now.values.now variables.now) }
+{
+    let points = leaf.point_count();
+    let compiled = bound.compiled;
+    let code = compiled.code();
+    volume_rows(
+        arena,
+        code.params.as_slice(),
+        bound.values,
+        points,
+        variables,
+    )
+}
+
+/// The uniform values of a volume.
+fn volume_values(alloc: Global, bound: &BoundShader) -> Result<Vec<Value>, NoMemory>
+    requires { length bound.now.values.now ≡ length bound.now.compiled.now.code.params }
+    ensures { IfOk result (λ given. given.items ≡ values_of true bound.now.compiled.now.code.params bound.now.values.now) }
+{
+    let compiled = bound.compiled;
+    let code = compiled.code();
+    uniform_values(alloc, code.params.as_slice(), bound.values)
+}
+
+/// The variables behind a run of a volume.
+pub(crate) fn dim<'a>(
+    alloc: Global,
+    arena: &'a Bump,
+    leaf: &Leaf,
+    bound: &BoundShader,
+    variables: &Variables<'a>,
+) -> Result<Variables<'a>, NoMemory>
+    requires runs { Runs bound.now }
+    requires kind { (tree_of bound.now.compiled.now.tree).kind ≡ kinds.Volume }
+    requires sized { IsSized leaf.now variables.now }
+    requires coloured { IsColoured leaf.now variables.now }
+    ensures sized { IfOk result (λ e. IsSized leaf.now e) }
+    ensures coloured { IfOk result (λ e. IsColoured leaf.now e) }
+    ensures hold { IfOk result (λ e. (lights : List (Triple → Light)) (f : ℕ → Names) → Hold leaf.now variables.now f → Hold leaf.now e (ran (tree_of bound.now.compiled.now.tree) (around leaf.now (bound_value bound.now) lights) (λ i. bound.now.values.now) f)) }
+{
+    let rows = volume_given(arena, leaf, bound, variables)?;
+    let uniforms = volume_values(alloc, bound)?;
+    let out = run_on(arena, leaf, bound, &uniforms, &rows)?;
+    let colours = triples_left(arena, leaf, &out, 0)?;
+    let opacities = triples_left(arena, leaf, &out, 3)?;
+    Ok(Variables {
+        points: variables.points,
+        normals: variables.normals,
+        sights: variables.sights,
+        colours,
+        opacities,
+    })
+}

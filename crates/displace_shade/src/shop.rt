@@ -1,0 +1,109 @@
+ghost use Rattle.std.specs.Prelude.{◌≡◌, ◌≤◌, ◌<◌, ◌+◌, All, Some, length, slice_get, IfOk, MatchResult};
+ghost use Rattle.scene_state.specs.Scene.{FrameValue, PrimValue, HasUses};
+ghost use Rattle.displace_shade.specs.Sets.{Fits};
+ghost use Rattle.displace_shade.specs.Shaded.{shaded};
+ghost use Rattle.displace_shade.specs.Diced.{grid_value};
+ghost use Rattle.displace_shade.specs.Shop.{set_value, leaf_of, CanRunAll};
+
+use crate::leaf::Leaf;
+use crate::leaves::{Shaders, shaded_leaf};
+use crate::set::ShaderSet;
+use bumpalo::Bump;
+use dice::GridRef;
+use fixed_math::NoMemory;
+use patches::Piece;
+use scene_state::{Frame, Scene};
+use std::alloc::Global;
+
+/// The shaded grid of a piece of a primitive of a frame.
+fn shaded_piece<'a>(
+    shaders: &Shaders,
+    arena: &'a Bump,
+    frame: &Frame,
+    piece: &Piece,
+    p: u8,
+    q: u8,
+) -> Result<GridRef<'a>, NoMemory>
+    requires fits { Fits (set_value shaders.now.set.now) shaders.now.uses.now }
+    requires can { CanRunAll shaders.now.set.now }
+    requires prim { piece.now.prim < length frame.now.prims }
+    requires uses { All (HasUses shaders.now.uses.now) frame.now.prims }
+    requires columns { p ≤ 4 }
+    requires rows { q ≤ 4 }
+    ensures { IfOk result (λ grid. (prim : PrimValue) → slice_get frame.now.prims piece.now.prim ≡ Some prim → grid_value grid ≡ shaded (leaf_of frame.now prim piece.now p q) (set_value shaders.now.set.now) shaders.now.uses.now) }
+{
+    let prims = frame.prims.as_slice();
+    let leaf = Leaf {
+        camera: &frame.camera,
+        world: &frame.world,
+        prim: &prims[piece.prim as usize],
+        piece,
+        p,
+        q,
+    };
+    let grid = shaded_leaf(shaders, arena, &leaf)?;
+    Ok(grid)
+}
+
+/// The shaders of a scene, and how many grids they have shaded.
+#[derive(Drop)]
+pub struct Shop {
+    alloc: Global,
+    set: ShaderSet,
+    count: u64,
+}
+
+impl Shop {
+    /// A shop of these shaders that has shaded nothing.
+    pub fn new(alloc: Global, set: ShaderSet) -> Shop
+        ensures set { result.set ≡ set }
+        ensures count { result.count ≡ 0 }
+    {
+        Shop {
+            alloc,
+            set,
+            count: 0,
+        }
+    }
+
+    /// How many grids have been shaded.
+    pub fn count(&self) -> u64
+        ensures { result ≡ self.now.count }
+    {
+        self.count
+    }
+
+    /// The shaded grid of a piece in the arena, of 2^`p` + 1 columns and 2^`q` + 1 rows: displacement, surface and volume over its points, one
+    /// after another. The shop's shaders are those of the scene, the frame and the piece's primitive are there, and `p` and `q` are at most 4.
+    /// No shader of the shop has anything over lights yet. The count rises by one, unless memory is wanting.
+    pub fn shade<'a>(
+        &mut self,
+        arena: &'a Bump,
+        scene: &Scene,
+        frame: usize,
+        piece: &Piece,
+        p: u8,
+        q: u8,
+    ) -> Result<GridRef<'a>, NoMemory>
+        requires fits { Fits (set_value self.old.set) scene.now.uses }
+        requires can { CanRunAll self.old.set }
+        requires frame { frame < length scene.now.frames }
+        requires prim { (f : FrameValue) → slice_get scene.now.frames frame ≡ Some f → piece.now.prim < length f.prims }
+        requires columns { p ≤ 4 }
+        requires rows { q ≤ 4 }
+        requires count { self.old.count < 18446744073709551615 }
+        ensures grid { IfOk result (λ grid. (f : FrameValue) (prim : PrimValue) → slice_get scene.now.frames frame ≡ Some f → slice_get f.prims piece.now.prim ≡ Some prim → grid_value grid ≡ shaded (leaf_of f prim piece.now p q) (set_value self.old.set) scene.now.uses) }
+        ensures set { self.new.set ≡ self.old.set }
+        ensures count { MatchResult result (λ _. self.new.count ≡ self.old.count + 1) (λ _. self.new.count ≡ self.old.count) }
+    {
+        let frames = scene.frames.as_slice();
+        let shaders = Shaders {
+            alloc: self.alloc,
+            set: &self.set,
+            uses: scene.uses.as_slice(),
+        };
+        let grid = shaded_piece(&shaders, arena, &frames[frame], piece, p, q)?;
+        self.count += 1;
+        Ok(grid)
+    }
+}

@@ -1,0 +1,142 @@
+-- Nodes and blocks over states that are the same on the grid.
+use Rattle.std.proofs.Common.{◌≡◌, ℕ, suc, ◌+◌, ◌*◌, ◌<◌, ◌≤◌, Bool, true, List, [], ◌∷◌, length, get_or, drop, refl, sym, ap, ◌∙◌, arith, subst, add-one}
+use Rattle.std.proofs.Math.Seq.{drop-cons}
+use Rattle.std.specs.Borrow.{Bor}
+use Rattle.builtins.specs.Differences.{difference}
+use Rattle.sl_ast.specs.declared.kinds.LightStmt.{LightStmt}
+use Rattle.sl_ast.specs.declared.operations.Difference.{Difference}
+use Rattle.grid_code.specs.declared.code.Register.{Register}
+use Rattle.grid_code.specs.declared.code.Source.{Source}
+use Rattle.grid_code.specs.declared.code.Source.TheVariants.{Constant, Copy, Into, Apply}
+use Rattle.builtins.specs.Table.{applied}
+use Rattle.grid_code.specs.declared.register_set.RegisterSet.{RegisterSet}
+use Rattle.grid_code.specs.declared.code.Node.{Node, Put, Differ, Sum, If, If', Loop, Loop', Lights, Lights', Break, Continue, Row_of-Node, end_of-Node, more_of-Node, items-the_row-Node}
+use Rattle.grid_code.specs.declared.code.Node.TheBlock.{hidden-the_row-Node-0, items_hidden-the_row-Node-0}
+use Rattle.grid_code.specs.Code.{Block, end, put, differ, sum, branch, loops, lights, breaks, continues, ◌then◌}
+use Rattle.grid_code.specs.View.{with_node, row_block, block_of}
+use Rattle.grid_code.specs.Uses.{has}
+use Rattle.grid_code.specs.Masked.{State, Ground, read, reads, result_of, write, masked}
+use Rattle.grid_code.proofs.Then.{then_runs}
+use Rattle.grid_machine.specs.State.{Near, Steps, Ready, SourceReady}
+use Rattle.grid_machine.proofs.Near.{near_on, read_near, result_near, difference_near, write_near}
+
+row_block-items : (m : _) (k : Row_of-Node m) → row_block k ≡ block_of (items-the_row-Node m k)
+row_block-items m end_of-Node = refl
+row_block-items m (more_of-Node n rest) = ap (with_node n) (row_block-items _ rest)
+
+held_block : (xs : List Node) → row_block (hidden-the_row-Node-0 xs) ≡ block_of xs
+held_block xs = row_block-items _ (hidden-the_row-Node-0 xs) ∙ ap block_of (items_hidden-the_row-Node-0 xs)
+
+pub branch_is : (x : Node) (t : Register) (a b : List Node) (rest : Block) → x ≡ If t a b → with_node x rest ≡ branch t (block_of a) (block_of b) rest
+branch_is x t a b rest h =
+    ap (λ y. with_node y rest) h ∙ ap (λ y. branch t y (row_block (hidden-the_row-Node-0 b)) rest) (held_block a) ∙ ap (λ y. branch t (block_of a) y rest) (held_block b)
+
+pub loop_is : (x : Node) (u : Bool) (d : List Node) (t : Register) (s b : List Node) (rest : Block) → x ≡ Loop u d t s b → with_node x rest ≡ loops u (block_of d) t (block_of s) (block_of b) rest
+loop_is x u d t s b rest h =
+    ap (λ y. with_node y rest) h ∙ ap (λ y. loops u y t (row_block (hidden-the_row-Node-0 s)) (row_block (hidden-the_row-Node-0 b)) rest) (held_block d)
+    ∙ ap (λ y. loops u (block_of d) t y (row_block (hidden-the_row-Node-0 b)) rest) (held_block s) ∙ ap (λ y. loops u (block_of d) t (block_of s) y rest) (held_block b)
+
+pub lights_is : (x : Node) (w : LightStmt) (qs : List Register) (b : List Node) (rest : Block) → x ≡ Lights w qs b → with_node x rest ≡ lights w qs (block_of b) rest
+lights_is x w qs b rest h = ap (λ y. with_node y rest) h ∙ ap (λ y. lights w qs y rest) (held_block b)
+
+node_then : (x : Node) (y : Block) → with_node x end then y ≡ with_node x y
+node_then (Put to source) y = refl
+node_then (Differ to d q) y = refl
+node_then (Sum to s qs) y = refl
+node_then (If' t k a m b) y = refl
+node_then (Loop' u k a t m s p b) y = refl
+node_then (Lights' w qs k b) y = refl
+node_then Break y = refl
+node_then Continue y = refl
+
+node_runs : (x : Node) (rest : Block) (w : Ground) (c n : ℕ) (g : State) → masked (with_node x rest) w c n g ≡ masked rest w c n (masked (with_node x end) w c n g)
+node_runs x rest w c n g = ap (λ b. masked b w c n g) (sym (node_then x rest)) ∙ then_runs (with_node x end) rest w c n g
+
+-- how many nodes a block has, and the blocks in it
+abbrev pub block_size : Block → ℕ
+block_size end = 0
+block_size (put r o x) = 1 + block_size x
+block_size (differ r d q x) = 1 + block_size x
+block_size (sum r s qs x) = 1 + block_size x
+block_size (branch t a b x) = 1 + block_size a + block_size b + block_size x
+block_size (loops u d t e a x) = 1 + block_size d + block_size e + block_size a + block_size x
+block_size (lights w qs a x) = 1 + block_size a + block_size x
+block_size (breaks x) = 1 + block_size x
+block_size (continues x) = 1 + block_size x
+
+pub node_size : (x : Node) (rest : Block) → block_size (with_node x rest) ≡ block_size (with_node x end) + block_size rest
+node_size (Put to source) rest = omega arith
+node_size (Differ to d q) rest = omega arith
+node_size (Sum to s qs) rest = omega arith
+node_size (If' t k a m b) rest = omega arith
+node_size (Loop' u k a t m s p b) rest = omega arith
+node_size (Lights' w qs k b) rest = omega arith
+node_size Break rest = omega arith
+node_size Continue rest = omega arith
+
+module _ (v z : RegisterSet) (ts : List (Bor (List ℕ))) where
+  node_ready : (x : Node) (rest : Block) → Ready v z ts (with_node x rest) → Ready v z ts (with_node x end) × Ready v z ts rest
+  node_ready (Put to source) rest h = ((h.0, (h.1.0, (h.1.1.0, tt))), h.1.1.1)
+  node_ready (Differ to d q) rest h = ((h.0, (h.1.0, (h.1.1.0, tt))), h.1.1.1)
+  node_ready (Sum to s qs) rest h = ((h.0, (h.1.0, (h.1.1.0, (h.1.1.1.0, tt)))), h.1.1.1.1)
+  node_ready (If' t k a m b) rest h = ((h.0, (h.1.0, (h.1.1.0, tt))), h.1.1.1)
+  node_ready (Loop' u k a t m s p b) rest h = ((h.0, (h.1.0, (h.1.1.0, (h.1.1.1.0, tt)))), h.1.1.1.1)
+  node_ready (Lights' w qs k b) rest h = ((h.0, (h.1.0, (h.1.1.0, tt))), h.1.1.1)
+  node_ready Break rest h = (tt, h)
+  node_ready Continue rest h = (tt, h)
+
+pub next_node : (block : List Node) (i : ℕ) (x : Node) → i < length block → x ≡ get_or block i x → block_of (drop i block) ≡ with_node x (block_of (drop (i + 1) block))
+next_node block i x h is = ap block_of (drop-cons block i x h) ∙ ap (λ y. with_node y (block_of (drop (suc i) block))) (sym is) ∙ ap (λ k. with_node x (block_of (drop k block))) (sym (add-one i))
+
+pub none_left : (block : List Node) (i : ℕ) → i ≡ length block → drop i block ≡ []
+none_left [] i h = ap (λ n. drop n []) h
+none_left (x ∷ xs) i h = ap (λ n. drop n (x ∷ xs)) h ∙ none_left xs (length xs) refl
+
+module _ (w : Ground) (c : ℕ) (v z : RegisterSet) (ts : List (Bor (List ℕ))) (n : ℕ) (block : List Node) where
+  -- what a run of a block has still to run, from any state that is the same on the grid
+  pub record Running (i : ℕ) (m0 m : State) : Type 0 where
+    pub ahead : (g : State) → Near c v z g m0 → (h : State) × (Near c v z h m × (masked (block_of (drop i block)) w c n h ≡ masked (block_of block) w c n g))
+    pub ready : Ready v z ts (block_of (drop i block))
+    pub small : block_size (block_of (drop i block)) ≤ block_size (block_of block)
+
+  pub running_init : (m : State) → Ready v z ts (block_of block) → Running 0 m m
+  running_init m h = record { ahead = λ g near. (g, (near, refl)); ready = h; small = omega arith }
+
+  pub running_end : (i : ℕ) (m0 m : State) → Running i m0 m → i ≡ length block → Steps w c v z n (block_of block) m0 m
+  running_end i m0 m e h g near =
+      let a = e.ahead g near in
+      let q = ap block_of (none_left block i h) in
+      subst (λ s. Near c v z s m) (ap (λ b. masked b w c n a.0) (sym q) ∙ a.1.1) a.1.0
+
+  module _ (i : ℕ) (m0 m : State) (x : Node) (e : Running i m0 m) (h : i < length block) (is : x ≡ get_or block i x) where
+    pub running_ready : Ready v z ts (with_node x end)
+    running_ready = (node_ready v z ts x _ (subst (Ready v z ts) (next_node block i x h is) e.ready)).0
+
+    pub running_small : block_size (with_node x end) ≤ block_size (block_of block)
+    running_small = let q = ap block_size (next_node block i x h is) in let f = e.small in omega (arith, node_size x (block_of (drop (i + 1) block)))
+
+    pub running_next : (m' : State) → Steps w c v z n (with_node x end) m m' → Running (i + 1) m0 m'
+    running_next m' st =
+        let q = next_node block i x h is in
+        let rest = block_of (drop (i + 1) block) in
+        record {
+          ahead = λ g near. let a = e.ahead g near in
+              (masked (with_node x end) w c n a.0, (st a.0 a.1.0, sym (node_runs x rest w c n a.0) ∙ ap (λ b. masked b w c n a.0) (sym q) ∙ a.1.1));
+          ready = (node_ready v z ts x _ (subst (Ready v z ts) q e.ready)).1;
+          small = let s = ap block_size q in let f = e.small in omega (arith, node_size x rest);
+        }
+
+result_dark : (w w0 : Ground) (o : Source) (s : State) (i : ℕ) → w.spaces ≡ w0.spaces → result_of o w s i ≡ result_of o w0 s i
+result_dark w w0 (Constant x) s i e = refl
+result_dark w w0 (Copy q) s i e = refl
+result_dark w w0 (Into sh q) s i e = refl
+result_dark w w0 (Apply op qs) s i e = ap (λ sp. applied op sp (reads s qs i)) e
+
+-- an instruction doesn't hang on lights
+pub put_steps : (w w0 : Ground) (c : ℕ) (v z : RegisterSet) (n : ℕ) (ts : List (Bor (List ℕ))) (t : Register) (o : Source) (s s' : State) → w.spaces ≡ w0.spaces → 0 < c → SourceReady v z ts o → Near c v z (write c t (result_of o w0 s) s) s' → Steps w c v z n (put t o end) s s'
+put_steps w w0 c v z n ts t o s s' e pos x near g ng =
+    near_on c v z _ _ _ (write_near c v z t (result_of o w g) (result_of o w0 s) g s pos ng (λ i l. result_near c v z w g s o i ng x.within l ∙ result_dark w w0 o s i e)) near
+
+pub differ_steps : (w : Ground) (c : ℕ) (v z : RegisterSet) (n : ℕ) (t : Register) (d : Difference) (q : Register) (s s' : State) → 0 < c → c ≡ w.lines.columns * w.lines.rows → 2 ≤ w.lines.columns → 2 ≤ w.lines.rows → has v z q ≡ true → Near c v z (write c t (difference d w.lines w.spaces.flip (read s q)) s) s' → Steps w c v z n (differ t d q end) s s'
+differ_steps w c v z n t d q s s' pos shape wide tall x near g ng =
+    near_on c v z _ _ _ (write_near c v z t _ _ g s pos ng (λ i l. difference_near w.lines c (read g q) (read s q) shape wide tall (λ j b. read_near c v z g s q j ng x b) i l d w.spaces.flip)) near

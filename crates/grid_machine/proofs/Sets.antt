@@ -1,0 +1,36 @@
+-- Lists that are set place by place.
+use Rattle.std.proofs.Common.{◌≡◌, ℕ, zero, suc, ◌+◌, ◌<◌, ◌≤◌, List, [], ◌∷◌, ◌++◌, length, get_or, take, drop, set, replicate, refl, sym, ap, ◌∙◌, arith, ⊎_elim}
+use Rattle.std.proofs.lemmas.List.{get_or-set_same, get_or-set_other}
+use Rattle.std.proofs.lemmas.Bool.{cases_eq}
+
+pub all_default : {A : Type 0} (n i : ℕ) (d : A) → get_or (replicate n d) i d ≡ d
+all_default zero i d = refl
+all_default (suc n) zero d = refl
+all_default (suc n) (suc i) d = all_default n i d
+
+-- the values of f below a place, and then at it
+pub set_next : {A : Type 0} (xs : List A) (n : ℕ) (x d : A) (f : ℕ → A) → n < length xs → x ≡ f n → ((i : ℕ) → i < n → get_or xs i d ≡ f i) → (i : ℕ) → i < n + 1 → get_or (set xs n x) i d ≡ f i
+set_next xs n x d f l is h i b =
+    ⊎_elim
+    (λ e. ap (λ k. get_or (set xs n x) k d) e ∙ get_or-set_same xs n x d l ∙ is ∙ ap f (sym e))
+    (λ ne. get_or-set_other xs n i x d ne ∙ h i (omega arith))
+    (cases_eq i n)
+
+pub past_end : {A : Type 0} (xs : List A) (i : ℕ) (d : A) → length xs ≤ i → get_or xs i d ≡ d
+past_end [] i d l = refl
+past_end (x ∷ xs) zero d l = absurd (omega arith)
+past_end (x ∷ xs) (suc i) d l = past_end xs i d (omega arith)
+
+pub any_default : {A : Type 0} (xs : List A) (i : ℕ) (d e : A) → i < length xs → get_or xs i d ≡ get_or xs i e
+any_default [] i d e l = absurd (omega arith)
+any_default (x ∷ xs) zero d e l = refl
+any_default (x ∷ xs) (suc i) d e l = any_default xs i d e (omega arith)
+
+-- a whole list written over another one
+pub written_over : {A : Type 0} (xs ys : List A) (n : ℕ) → length xs ≡ length ys → n ≡ length ys → take n (xs ++ drop (length xs) ys) ≡ xs
+written_over [] [] zero e h = refl
+written_over [] [] (suc n) e h = refl
+written_over [] (y ∷ ys) n e h = absurd (omega arith)
+written_over (x ∷ xs) [] n e h = absurd (omega arith)
+written_over (x ∷ xs) (y ∷ ys) zero e h = absurd (omega arith)
+written_over (x ∷ xs) (y ∷ ys) (suc n) e h = ap (λ zs. x ∷ zs) (written_over xs ys n (omega arith) (omega arith))

@@ -1,0 +1,359 @@
+use Rattle.std.proofs.Common.{arith, ◌≡◌, ◌<◌, ◌+◌, ◌-◌, ℕ, suc, get_or, true, false, refl, sym, ap, ◌∙◌, subst}
+use Rattle.std.specs.List.{list_all}
+use Rattle.grid_code.specs.Code.{end, branch, sum, lights}
+use Rattle.std.specs.Prelude.{◌||◌, Option, is_some}
+use Rattle.fixed_math.specs.declared.vec3.Vec3.{Vec3}
+use Rattle.fixed_math.specs.Axes.{origin}
+use Rattle.sl_ast.specs.declared.kinds.LightStmt.TheVariants.{Illuminate, Solar}
+use Rattle.sl_ast.specs.declared.kinds.Predefined.TheVariants as names
+use Rattle.builtins.specs.Lights.{is_in_cone}
+use Rattle.builtins.specs.Values.{triple_of}
+use Rattle.grid_code.specs.Names.{name_at, lit_at}
+use Rattle.grid_code.proofs.Both.{left, right}
+use Rattle.grid_machine.specs.Asked.{unasked}
+use Rattle.grid_machine.specs.Seen.{shown_by, cone_at, Views}
+use Rattle.grid_machine.proofs.Near.{read_near, reads_near}
+use Rattle.grid_machine.proofs.Lit.{from_near, in_cone_near, shown_is, view_from, part_steps, showing_init, showing_next, showing_end}
+use Rattle.grid_code.specs.Masked.{State, read, reads, from_light, entered, kindled}
+use Rattle.grid_code.specs.Masked.{going as going_of}
+use Rattle.grid_code.specs.Uses.{has}
+use Rattle.grid_code.specs.View.{with_node, block_of}
+use Rattle.grid_machine.specs.State.{state_of, Near, ground_of, lit_ground, lights_registers, ReadyIn, Runs, RunsTurns}
+use Rattle.grid_machine.proofs.Kept.{NearBy, has_kept, places_kept, kept_on, kept_live, ready_kept, runs_kept, begin_kept, any_kept}
+use Rattle.grid_machine.proofs.Nodes.{running_ready, running_small, running_next, running_end, put_steps, differ_steps, branch_is, loop_is, lights_is, block_size}
+use Rattle.grid_machine.proofs.Masks.{Turning, turning_step, turning_stop, turning_end, looped_steps}
+use Rattle.grid_machine.proofs.blocks.+run.Goals as goal
+
+pub run_block-run_node-requires : goal.run_block-run_node-requires
+run_block-run_node-requires g t c =
+    let inv = c.loop-node.invariant in
+    let small = running_small _ _ _ _ _ _ _ _ _ _ c.node-item.result inv.1 (omega arith) c.node-item.is in
+    λ κs lives. (
+      omega (arith, c.decreases, small),
+      (
+        lives,
+        (
+          inv.0.0.whole,
+          (
+            ready_kept c.args.m.now c.loop-node.m (with_node c.node-item.result end) inv.0.0 (running_ready _ _ _ _ _ _ _ _ _ _ c.node-item.result inv.1 (omega arith) c.node-item.is),
+            places_kept c.args.m.now c.loop-node.m (g.L.Illumination.lighting c.args.lights.now) (g.L.Illumination.lighting c.loop-node.lights) inv.0.0 inv.0.1 c.requires.places,
+          ),
+        ),
+      ),
+    )
+
+pub run_block-loop-node-preserved : goal.run_block-loop-node-preserved
+run_block-loop-node-preserved g t c =
+    let ls = (g.L.Illumination.lighting c.args.lights.now).lights in
+    let ls1 = (g.L.Illumination.lighting c.loop-node.lights).lights in
+    let inv = c.loop-node.invariant in (
+      (kept_on _ _ _ inv.0.0 c.run_node.ensures.kept, c.run_node.ensures.same ∙ inv.0.1),
+      running_next _ _ _ _ _ _ _ _ _ _ c.node-item.result inv.1 (omega arith) c.node-item.is (state_of c.run_node.new.m) (runs_kept ls ls1 c.args.m.now c.loop-node.m c.run_node.new.m c.args.most (with_node c.node-item.result end) inv.0.0 (ap (λ s. s.lights) inv.0.1) c.run_node.ensures.masked),
+    )
+
+pub run_block-returns-clause-masked : goal.run_block-returns-clause-masked
+run_block-returns-clause-masked g t c = running_end _ _ _ _ _ _ _ _ _ _ c.loop-node.invariant.1 (omega arith)
+
+pub run_node-sum-requires : goal.run_node-sum-requires
+run_node-sum-requires g t c =
+    let m = c.args.m.now in
+    let r = m.registers.frame.now in
+    let f = subst (λ x. ReadyIn m (with_node x end)) c.in-Sum.is c.requires.ready in
+    record { whole = c.requires.whole; to = f.0; args = subst (λ qs. list_all (has r.varying.now r.uniform.now) qs ≡ true) (sym c.as_slice.ensures) f.1.0; points = f.1.1.0; shape = f.1.1.1.0; places = c.requires.places }
+
+pub run_node-returns-in-Sum-clause-masked : goal.run_node-returns-in-Sum-clause-masked
+run_node-returns-in-Sum-clause-masked g t c =
+    let m = c.args.m.now in
+    let ls = (g.L.Illumination.lighting c.args.lights.now).lights in
+    subst (λ x. Runs ls c.args.most (with_node x end) m c.sum.new.self) (sym c.in-Sum.is)
+    (subst (λ qs. Runs ls c.args.most (sum c.in-Sum.to c.in-Sum.sum qs end) m c.sum.new.self) c.as_slice.ensures c.sum.ensures.near)
+
+pub run_node-run_lights-requires : goal.run_node-run_lights-requires
+run_node-run_lights-requires g t c =
+    let m = c.args.m.now in
+    let r = m.registers.frame.now in
+    let q = lights_is c.args.node.now c.in-Lights.over c.in-Lights.args c.in-Lights.body end c.in-Lights.is in
+    let f = subst (ReadyIn m) q c.requires.ready in
+    let s = ap block_size q in
+    let d = c.as_slice-in-Lights.ensures in
+    let d2 = c.as_slice-in-Lights-2.ensures in
+    let ds2 = ap (λ l. block_size (block_of l)) d2 in
+    λ κs lives. (omega (arith, c.decreases), (lives, (c.requires.whole, (subst (λ qs. list_all (has r.varying.now r.uniform.now) qs ≡ true) (sym d) f.0, (f.1.0, (subst (λ l. ReadyIn m (block_of l)) (sym d2) f.1.1.0, c.requires.places))))))
+
+pub run_node-returns-in-Lights-clause-masked : goal.run_node-returns-in-Lights-clause-masked
+run_node-returns-in-Lights-clause-masked g t c =
+    let m = c.args.m.now in
+    let ls = (g.L.Illumination.lighting c.args.lights.now).lights in
+    let over = c.in-Lights.over in
+    let q = lights_is c.args.node.now over c.in-Lights.args c.in-Lights.body end c.in-Lights.is in
+    let e = q ∙ ap (λ l. lights over l (block_of c.in-Lights.body) end) (sym c.as_slice-in-Lights.ensures) ∙ ap (λ l. lights over c.as_slice-in-Lights.result.now (block_of l) end) (sym c.as_slice-in-Lights-2.ensures) in
+    subst (λ b. Runs ls c.args.most b m c.run_lights.new.m) (sym e) c.run_lights.ensures.masked
+
+pub run_node-run_branch-requires : goal.run_node-run_branch-requires
+run_node-run_branch-requires g t c =
+    let m = c.args.m.now in
+    let q = branch_is c.args.node.now c.in-If.test c.in-If.then c.in-If.otherwise end c.in-If.is in
+    let f = subst (ReadyIn m) q c.requires.ready in
+    let s = ap block_size q in
+    let d = c.as_slice-in-If.ensures in
+    let d2 = c.as_slice-in-If-2.ensures in
+    let ds = ap (λ l. block_size (block_of l)) d in
+    let ds2 = ap (λ l. block_size (block_of l)) d2 in
+    λ κs lives. (omega (arith, c.decreases), (lives, (c.requires.whole, (f.0, (subst (λ l. ReadyIn m (block_of l)) (sym d) f.1.0, (subst (λ l. ReadyIn m (block_of l)) (sym d2) f.1.1.0, c.requires.places))))))
+
+pub run_node-run_loop-requires : goal.run_node-run_loop-requires
+run_node-run_loop-requires g t c =
+    let m = c.args.m.now in
+    let q = loop_is c.args.node.now c.in-Loop.uniform c.in-Loop.ask c.in-Loop.test c.in-Loop.step c.in-Loop.body end c.in-Loop.is in
+    let f = subst (ReadyIn m) q c.requires.ready in
+    let s = ap block_size q in
+    let d = c.as_slice-in-Loop.ensures in
+    let d2 = c.as_slice-in-Loop-2.ensures in
+    let d3 = c.as_slice-in-Loop-3.ensures in
+    let ds = ap (λ l. block_size (block_of l)) d in
+    let ds2 = ap (λ l. block_size (block_of l)) d2 in
+    let ds3 = ap (λ l. block_size (block_of l)) d3 in
+    λ κs lives. (omega (arith, c.decreases), (lives, (c.requires.whole, (subst (λ l. ReadyIn m (block_of l)) (sym d) f.0, (f.1.0, (subst (λ l. ReadyIn m (block_of l)) (sym d2) f.1.1.0, (subst (λ l. ReadyIn m (block_of l)) (sym d3) f.1.1.1.0, c.requires.places)))))))
+
+pub run_node-returns-in-Put-clause-masked : goal.run_node-returns-in-Put-clause-masked
+run_node-returns-in-Put-clause-masked g t c =
+    let ls = (g.L.Illumination.lighting c.args.lights.now).lights in
+    let m = c.args.m.now in
+    let r = m.registers.frame.now in
+    let f = subst (λ x. ReadyIn m (with_node x end)) c.in-Put.is c.requires.ready in
+    let pos : 0 < r.places = let s = r.some in omega arith in
+    subst (λ x. Runs ls c.args.most (with_node x end) m c.put.new.self) (sym c.in-Put.is)
+    (put_steps (lit_ground ls r) (ground_of r) r.places r.varying.now r.uniform.now c.args.most r.setting.texts.now c.in-Put.to c.in-Put.source (state_of m) (state_of c.put.new.self) refl pos f.1.0 c.put.ensures.near)
+
+pub run_node-returns-in-Differ-clause-masked : goal.run_node-returns-in-Differ-clause-masked
+run_node-returns-in-Differ-clause-masked g t c =
+    let ls = (g.L.Illumination.lighting c.args.lights.now).lights in
+    let m = c.args.m.now in
+    let r = m.registers.frame.now in
+    let f = subst (λ x. ReadyIn m (with_node x end)) c.in-Differ.is c.requires.ready in
+    let pos : 0 < r.places = let s = r.some in omega arith in
+    subst (λ x. Runs ls c.args.most (with_node x end) m c.differ.new.self) (sym c.in-Differ.is)
+    (differ_steps (lit_ground ls r) r.places r.varying.now r.uniform.now c.args.most c.in-Differ.to c.in-Differ.difference c.in-Differ.of (state_of m) (state_of c.differ.new.self) pos r.shape r.wide r.tall f.1.0 c.differ.ensures.near)
+
+pub run_node-returns-in-If-clause-masked : goal.run_node-returns-in-If-clause-masked
+run_node-returns-in-If-clause-masked g t c =
+    let ls = (g.L.Illumination.lighting c.args.lights.now).lights in
+    let m = c.args.m.now in
+    let q = branch_is c.args.node.now c.in-If.test c.in-If.then c.in-If.otherwise end c.in-If.is in
+    let e = q ∙ ap (λ l. branch c.in-If.test (block_of l) (block_of c.in-If.otherwise) end) (sym c.as_slice-in-If.ensures) ∙ ap (λ l. branch c.in-If.test (block_of c.as_slice-in-If.result.now) (block_of l) end) (sym c.as_slice-in-If-2.ensures) in
+    subst (λ b. Runs ls c.args.most b m c.run_branch.new.m) (sym e) c.run_branch.ensures.masked
+
+pub run_node-returns-in-Loop-clause-masked : goal.run_node-returns-in-Loop-clause-masked
+run_node-returns-in-Loop-clause-masked g t c =
+    let ls = (g.L.Illumination.lighting c.args.lights.now).lights in
+    let m = c.args.m.now in
+    let k = c.run_loop.new.m in
+    let r = m.registers.frame.now in
+    let u = c.in-Loop.uniform in
+    let test = c.in-Loop.test in
+    let ask = c.in-Loop.ask in
+    let step = c.in-Loop.step in
+    let body = c.in-Loop.body in
+    let n = c.args.most in
+    let q = loop_is c.args.node.now u ask test step body end c.in-Loop.is in
+    let h : RunsTurns ls n u (block_of ask) test (block_of step) (block_of body) m k =
+    subst (λ l. RunsTurns ls n u (block_of l) test (block_of step) (block_of body) m k) c.as_slice-in-Loop.ensures
+    (subst (λ l. RunsTurns ls n u (block_of c.as_slice-in-Loop.result.now) test (block_of l) (block_of body) m k) c.as_slice-in-Loop-2.ensures
+    (subst (λ l. RunsTurns ls n u (block_of c.as_slice-in-Loop.result.now) test (block_of c.as_slice-in-Loop-2.result.now) (block_of l) m k) c.as_slice-in-Loop-3.ensures c.run_loop.ensures.turns)) in
+    subst (λ b. Runs ls n b m record k { live = m.live; staying = m.staying }) (sym q)
+    (looped_steps (lit_ground ls r) u (block_of ask) test (block_of step) (block_of body) r.places r.varying.now r.uniform.now n (state_of m) (state_of k) (state_of m).live (state_of m).staying h (λ i l. refl) (λ i l. refl))
+
+pub run_node-returns-in-Break-clause-masked : goal.run_node-returns-in-Break-clause-masked
+run_node-returns-in-Break-clause-masked g t c =
+    let ls = (g.L.Illumination.lighting c.args.lights.now).lights in
+    subst (λ x. Runs ls c.args.most (with_node x end) c.args.m.now c.leave.new.self) (sym c.in-Break.is) (c.leave.ensures.masked ls c.args.most)
+
+pub run_node-returns-in-Continue-clause-masked : goal.run_node-returns-in-Continue-clause-masked
+run_node-returns-in-Continue-clause-masked g t c =
+    let ls = (g.L.Illumination.lighting c.args.lights.now).lights in
+    subst (λ x. Runs ls c.args.most (with_node x end) c.args.m.now c.skip.new.self) (sym c.in-Continue.is) (c.skip.ensures.masked ls c.args.most)
+
+pub run_loop-returns-then-not-any-clause-turns : goal.run_loop-returns-then-not-any-clause-turns
+run_loop-returns-then-not-any-clause-turns g t c =
+    let ls = (g.L.Illumination.lighting c.args.lights.now).lights in
+    let m = c.args.m.now in
+    let r = m.registers.frame.now in
+    let inv = c.loop-turn.invariant in
+    let m1 = c.run_block.new.m in
+    let sh1 = kept_on _ _ _ inv.0.0 c.run_block.ensures.kept in
+    let k : ℕ = c.args.most - (c.loop-turn._turn + 1) in
+    let e : c.args.most - c.loop-turn._turn ≡ suc k = omega arith in
+    let none = any_kept m m1 (λ i. get_or c.going-going.result.places i false) (going_of c.args.uniform c.args.test (state_of m1)) false sh1 c.going-going.ensures (sym c.any.ensures ∙ c.if-not-any.true) in
+    turning_stop (lit_ground ls r) c.args.uniform (block_of c.args.ask.now) c.args.test (block_of c.args.step.now) (block_of c.args.body.now) r.places r.varying.now r.uniform.now c.args.most k (state_of m) (state_of c.loop-turn.m) (state_of m1) c.requires.has
+    (subst (λ q. Turning (lit_ground ls r) c.args.uniform (block_of c.args.ask.now) c.args.test (block_of c.args.step.now) (block_of c.args.body.now) r.places r.varying.now r.uniform.now c.args.most q (state_of m) (state_of c.loop-turn.m)) e inv.1)
+    (runs_kept ls (g.L.Illumination.lighting c.loop-turn.lights).lights m c.loop-turn.m m1 c.args.most (block_of c.args.ask.now) inv.0.0 (ap (λ s. s.lights) inv.0.1) c.run_block.ensures.masked) none
+
+pub run_loop-loop-turn-preserved : goal.run_loop-loop-turn-preserved
+run_loop-loop-turn-preserved g t c =
+    let ls = (g.L.Illumination.lighting c.args.lights.now).lights in
+    let m = c.args.m.now in
+    let r = m.registers.frame.now in
+    let n = c.args.most in
+    let inv = c.loop-turn.invariant in
+    let m1 = c.run_block.new.m in
+    let m2 = c.begin_turn.new.self in
+    let m3 = c.run_block-in-loop-turn.new.m in
+    let m4 = c.run_block-in-loop-turn-2.new.m in
+    let sh1 = kept_on m c.loop-turn.m m1 inv.0.0 c.run_block.ensures.kept in
+    let sh2 = kept_on m m1 m2 sh1 c.begin_turn.ensures.kept in
+    let sh3 = kept_on m m2 m3 sh2 c.run_block-in-loop-turn.ensures.kept in
+    let m3l = record m3 { live = m3.staying } in
+    let sh3l = kept_live m m3 m3.staying sh3 in
+    let e1 = c.run_block.ensures.same ∙ inv.0.1 in
+    let e2 = c.run_block-in-loop-turn.ensures.same ∙ e1 in
+    let k : ℕ = n - (c.loop-turn._turn + 1) in
+    let e : n - c.loop-turn._turn ≡ suc k = omega arith in
+    let some = any_kept m m1 (λ i. get_or c.going-going.result.places i false) (going_of c.args.uniform c.args.test (state_of m1)) true sh1 c.going-going.ensures (sym c.any.ensures ∙ c.if-not-any.false) in (
+      (kept_on m m3l m4 sh3l c.run_block-in-loop-turn-2.ensures.kept, c.run_block-in-loop-turn-2.ensures.same ∙ e2),
+      turning_step (lit_ground ls r) c.args.uniform (block_of c.args.ask.now) c.args.test (block_of c.args.step.now) (block_of c.args.body.now) r.places r.varying.now r.uniform.now n k (state_of m) (state_of c.loop-turn.m) (state_of m1) (state_of m2) (state_of m3) (state_of m4) c.requires.has
+          (subst (λ q. Turning (lit_ground ls r) c.args.uniform (block_of c.args.ask.now) c.args.test (block_of c.args.step.now) (block_of c.args.body.now) r.places r.varying.now r.uniform.now n q (state_of m) (state_of c.loop-turn.m)) e inv.1)
+          (runs_kept ls (g.L.Illumination.lighting c.loop-turn.lights).lights m c.loop-turn.m m1 n (block_of c.args.ask.now) inv.0.0 (ap (λ s. s.lights) inv.0.1) c.run_block.ensures.masked) some
+          (begin_kept m m1 c.args.uniform c.args.test (state_of m2) (λ i. get_or c.going-going.result.places i false) sh1 c.going-going.ensures c.begin_turn.ensures.near)
+          (runs_kept ls (g.L.Illumination.lighting c.run_block.new.lights).lights m m2 m3 n (block_of c.args.body.now) sh2 (ap (λ s. s.lights) e1) c.run_block-in-loop-turn.ensures.masked)
+          (state_of m3).staying (λ i l. refl)
+          (runs_kept ls (g.L.Illumination.lighting c.run_block-in-loop-turn.new.lights).lights m m3l m4 n (block_of c.args.step.now) sh3l (ap (λ s. s.lights) e2) c.run_block-in-loop-turn-2.ensures.masked),
+    )
+
+pub run_loop-returns-clause-turns : goal.run_loop-returns-clause-turns
+run_loop-returns-clause-turns g t c =
+    let ls = (g.L.Illumination.lighting c.args.lights.now).lights in
+    let m = c.args.m.now in
+    let r = m.registers.frame.now in
+    let inv = c.loop-turn.invariant in
+    let e : c.args.most - c.loop-turn._turn ≡ 0 = omega arith in
+    turning_end (lit_ground ls r) c.args.uniform (block_of c.args.ask.now) c.args.test (block_of c.args.step.now) (block_of c.args.body.now) r.places r.varying.now r.uniform.now c.args.most (state_of m) (state_of c.loop-turn.m) (state_of c.run_block-2.new.m)
+    (subst (λ q. Turning (lit_ground ls r) c.args.uniform (block_of c.args.ask.now) c.args.test (block_of c.args.step.now) (block_of c.args.body.now) r.places r.varying.now r.uniform.now c.args.most q (state_of m) (state_of c.loop-turn.m)) e inv.1)
+    (runs_kept ls (g.L.Illumination.lighting c.loop-turn.lights).lights m c.loop-turn.m c.run_block-2.new.m c.args.most (block_of c.args.ask.now) inv.0.0 (ap (λ s. s.lights) inv.0.1) c.run_block-2.ensures.masked)
+
+pub run_lit-returns-clause-near : goal.run_lit-returns-clause-near
+run_lit-returns-clause-near g t c k p f near ep ef =
+    let ls = (g.L.Illumination.lighting c.args.lights.now).lights in
+    let m = c.args.m.now in
+    let r = m.registers.frame.now in
+    let m2 = c.kindle.new.self in
+    let m3 = c.run_block.new.m in
+    part_steps (lit_ground ls r) r.places r.varying.now r.uniform.now c.args.most p (λ i. get_or c.args.seen.now.places i false) (λ x. kindled r.places f x) (block_of c.args.body.now) k (state_of m) (state_of m2) (state_of m3)
+    (λ i. get_or c.and-m.result.places i false) (λ i. get_or c.or-m.result.places i false) near ep c.and-m.ensures (λ x nx. c.kindle.ensures.near x f nx ef)
+    (runs_kept ls ls m m2 m3 c.args.most (block_of c.args.body.now) (kept_on m record m { live = c.and-m.result } m2 (kept_live m m c.and-m.result record { frame = refl; whole = c.requires.whole }) c.kindle.ensures.kept) refl c.run_block.ensures.masked)
+    (λ i l. c.or-m.ensures i l ∙ ap (λ b. get_or m3.live.places i false || b) (c.without-others.ensures i l))
+
+pub run_seen-loop-n-init : goal.run_seen-loop-n-init
+run_seen-loop-n-init g t c =
+    let m = c.args.m.now in
+    let r = m.registers.frame.now in
+    ((record { frame = refl; whole = c.requires.whole }, refl), showing_init (lit_ground (g.L.Illumination.lighting c.args.lights.now).lights r) r.places r.varying.now r.uniform.now c.args.most c.args.place c.args.args.now (block_of c.args.body.now) (state_of m))
+
+pub run_seen-enter-requires : goal.run_seen-enter-requires
+run_seen-enter-requires g t c =
+    let m = c.args.m.now in
+    let m1 = record c.loop-n.m { live = c.and-m.result } in
+    let k1 = kept_live m c.loop-n.m c.and-m.result c.loop-n.invariant.0.0 in
+    record { whole = k1.whole; direction = has_kept m m1 (name_at names.L) k1 c.requires.direction; colour = has_kept m m1 (name_at names.Cl) k1 c.requires.colour }
+
+pub run_seen-run_block-requires : goal.run_seen-run_block-requires
+run_seen-run_block-requires g t c =
+    let m = c.args.m.now in
+    let m1 = record c.loop-n.m { live = c.and-m.result } in
+    let inv = c.loop-n.invariant in
+    let k2 = kept_on m m1 c.enter.new.self (kept_live m c.loop-n.m c.and-m.result inv.0.0) c.enter.ensures.kept in
+    λ κs lives. (
+      omega (arith, c.decreases),
+      (
+        lives,
+        (
+          c.enter.ensures.kept.whole,
+          (
+            ready_kept m c.enter.new.self (block_of c.args.body.now) k2 c.requires.body,
+            places_kept m c.enter.new.self (g.L.Illumination.lighting c.args.lights.now) (g.L.Illumination.lighting c.ask-answers.new.self) k2 (c.ask-answers.ensures.same ∙ inv.0.1) c.requires.places,
+          ),
+        ),
+      ),
+    )
+
+pub run_seen-loop-n-preserved : goal.run_seen-loop-n-preserved
+run_seen-loop-n-preserved g t c =
+    let ls = g.L.Illumination.lighting c.args.lights.now in
+    let ls2 = g.L.Illumination.lighting c.ask-answers.new.self in
+    let m0 = c.args.m.now in
+    let r = m0.registers.frame.now in
+    let v = r.varying.now in
+    let u = r.uniform.now in
+    let n = c.loop-n.n in
+    let m = c.loop-n.m in
+    let m1 = record m { live = c.and-m.result } in
+    let m2 = c.enter.new.self in
+    let m3 = c.run_block.new.m in
+    let inv = c.loop-n.invariant in
+    let place = c.args.place in
+    let qs = c.args.args.now in
+    let body = block_of c.args.body.now in
+    let view = c.view-view.result in
+    let k2 = kept_on m0 m1 m2 (kept_live m0 m c.and-m.result inv.0.0) c.enter.ensures.kept in
+    let e2 = c.ask-answers.ensures.same ∙ inv.0.1 in
+    let same = ap (λ s. s.places) inv.0.1 ∙ c.requires.places in
+    let seen : (s : State) → Near r.places v u s (state_of m0) → (j : ℕ) → j < r.places → Views view j (view_from ls.lights n place qs s j) = λ s near j l.
+    let q : ℕ → Vec3 = λ i. triple_of (read s place i) in
+    let light = c.ask-answers.ensures.each q (λ i k. let b = subst (λ p. i < p) same k in ap triple_of (read_near r.places v u s (state_of m0) place i near c.requires.place b) ∙ sym (c.points-points.ensures i b)) j (subst (λ p. j < p) (sym same) l)
+    ∙ ap (λ x. get_or x.lights n unasked q j) inv.0.1 in
+    let cone = shown_is (reads s qs j) (cone_at c.cone-cone.result j) (get_or ls.lights n unasked q j) (λ d. c.cone-cone.ensures j d l ∙ ap (λ vs. is_in_cone vs d) (sym (reads_near r.places v u s (state_of m0) qs j near c.requires.args l))) in
+    subst (λ o. Views view j o) (ap (λ x. shown_by (cone_at c.cone-cone.result j) x) light ∙ cone) (c.view-view.ensures j l) in
+    let entering = subst (λ x. (s : State) (f : ℕ → Option (Vec3 × Vec3)) → NearBy x s (state_of m1) → ((i : ℕ) → i < x.now.places → Views view i (f i)) → NearBy x (entered x.now.places f s) (state_of m2)) inv.0.0.frame c.enter.ensures.near in (
+      (kept_live m0 m3 c.or-m.result (kept_on m0 m2 m3 k2 c.run_block.ensures.kept), c.run_block.ensures.same ∙ e2),
+      showing_next (lit_ground ls.lights r) r.places v u c.args.most place qs body n (state_of m0) (state_of m) (state_of record m3 { live = c.or-m.result }) (let z = c.count-n-end.ensures in omega arith) inv.1 (λ s h ns nh.
+          part_steps (lit_ground ls.lights r) r.places v u c.args.most (λ j. is_some (view_from ls.lights n place qs s j)) (λ j. get_or view.seen.places j false) (λ x. entered r.places (view_from ls.lights n place qs s) x) body h (state_of m) (state_of m2) (state_of m3)
+          (λ i. get_or c.and-m.result.places i false) (λ i. get_or c.or-m.result.places i false) nh (λ j l. sym (seen s ns j l).seen) c.and-m.ensures (λ k nk. entering k (view_from ls.lights n place qs s) nk (seen s ns))
+          (runs_kept ls.lights ls2.lights m0 m2 m3 c.args.most body k2 (ap (λ s. s.lights) e2) c.run_block.ensures.masked)
+          (λ i l. c.or-m.ensures i l ∙ ap (λ b. get_or m3.live.places i false || b) (c.without-others.ensures i l))),
+    )
+
+pub run_seen-returns-clause-masked : goal.run_seen-returns-clause-masked
+run_seen-returns-clause-masked g t c =
+    let ls = (g.L.Illumination.lighting c.args.lights.now).lights in
+    let m = c.args.m.now in
+    let r = m.registers.frame.now in
+    showing_end (lit_ground ls r) r.places r.varying.now r.uniform.now c.args.most c.args.place c.args.args.now (block_of c.args.body.now) c.loop-n.n (state_of m) (state_of c.loop-n.m) (let z = c.count-n-end.ensures in omega arith) c.loop-n.invariant.1
+
+pub run_lights-returns-in-Illuminate-clause-masked : goal.run_lights-returns-in-Illuminate-clause-masked
+run_lights-returns-in-Illuminate-clause-masked g t c =
+    let ls = (g.L.Illumination.lighting c.args.lights.now).lights in
+    let m = c.args.m.now in
+    let m1 = c.run_lit.new.m in
+    let r = m.registers.frame.now in
+    let v = r.varying.now in
+    let u = r.uniform.now in
+    let body = block_of c.args.body.now in
+    let place = c.in-Some.place.now in
+    let qs = c.in-Some.cone.now in
+    let e = c.in-Some.ensures.cases.0 in
+    let h = subst (λ x. list_all (has v u) x ≡ true) e c.requires.args in
+    let hp = left (has v u place) _ h in
+    let hc = right (has v u place) _ h in
+    let given = subst (λ w. list_all (has v u) (lights_registers w) ≡ true) c.in-Illuminate.is c.requires.has in
+    let points = left (has v u (name_at names.Ps)) _ (right (has v u lit_at) _ (right (has v u (name_at names.L)) _ given)) in
+    subst (λ w. Runs ls c.args.most (lights w c.args.args.now body end) m m1) (sym c.in-Illuminate.is) (subst (λ x. Runs ls c.args.most (lights Illuminate x body end) m m1) (sym e) (λ s near.
+    c.run_lit.ensures.near s (λ i. is_in_cone (reads s qs i) (from_light s place i)) (from_light s place) near
+    (λ i l. in_cone_near r.places v u s (state_of m) place qs near hp hc points i l ∙ sym (c.mask-seen.ensures i l ∙ c.cone.ensures i (get_or c.from_light-directions.result.at i origin) l ∙ ap (is_in_cone (reads (state_of m) qs i)) (c.from_light-directions.ensures i l)))
+    (λ i l. from_near r.places v u s (state_of m) place qs near hp hc points i l ∙ sym (c.from_light-directions.ensures i l))))
+
+pub run_lights-returns-in-Solar-clause-masked : goal.run_lights-returns-in-Solar-clause-masked
+run_lights-returns-in-Solar-clause-masked g t c =
+    let ls = (g.L.Illumination.lighting c.args.lights.now).lights in
+    let m = c.args.m.now in
+    let m1 = c.run_lit-in-Solar.new.m in
+    let r = m.registers.frame.now in
+    let v = r.varying.now in
+    let u = r.uniform.now in
+    let few = r.few in
+    let body = block_of c.args.body.now in
+    let axis = c.in-Some.place.now in
+    let qs = c.in-Some.cone.now in
+    let e = c.in-Some.ensures.cases.0 in
+    let hp = left (has v u axis) _ (subst (λ x. list_all (has v u) x ≡ true) e c.requires.args) in
+    subst (λ w. Runs ls c.args.most (lights w c.args.args.now body end) m m1) (sym c.in-Solar.is) (subst (λ x. Runs ls c.args.most (lights Solar x body end) m m1) (sym e) (λ s near.
+    c.run_lit-in-Solar.ensures.near s (λ i. true) (λ i. triple_of (read s axis i)) near (λ i l. sym (c.full.ensures i (omega arith)))
+    (λ i l. ap triple_of (read_near r.places v u s (state_of m) axis i near hp l) ∙ sym (c.points-directions.ensures i l))))

@@ -1,0 +1,15 @@
+use Rattle.std.proofs.Common.{◌<◌, sym, ap, ◌∙◌, subst}
+use Rattle.builtins.specs.Shapes.{shape}
+use Rattle.grid_machine.specs.Banks.{held}
+use Rattle.grid_machine.specs.Cells.{value_of}
+use Rattle.grid_machine.specs.State.{texts_of}
+use Rattle.grid_machine.proofs.machine.Machine.assign.Goals as goal
+
+pub returns-clause-near : goal.returns-clause-near
+returns-clause-near c =
+    let m = c.args.self.now in
+    let v = c.args.value.now in
+    c.commit.ensures.near (λ i. v) (λ j l.
+    let is = c.cell.ensures in
+    let at = ap shape is ∙ c.requires.shape in
+    ap (λ s. value_of (texts_of m.registers) (held c.fill.new.row s j)) (sym at) ∙ c.fill.ensures.each j (subst (λ n. j < n) (sym c.reach-count.ensures) l) ∙ is)

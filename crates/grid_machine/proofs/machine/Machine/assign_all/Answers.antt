@@ -1,0 +1,40 @@
+use Rattle.std.proofs.Common.{◌<◌, length, get_or, sym, ap, ◌∙◌, arith}
+use Rattle.std.proofs.lemmas.List.{get_or_default}
+use Rattle.builtins.specs.declared.shape.Shape.TheVariants as shapes
+use Rattle.builtins.specs.Shapes.{shape}
+use Rattle.grid_code.specs.declared.code.Register.{Register}
+use Rattle.grid_code.specs.declared.code.Register.TheVariants.{Uniform}
+use Rattle.grid_code.specs.Shapes.{register_shape}
+use Rattle.grid_machine.specs.State.{state_of}
+use Rattle.grid_machine.proofs.Kept.{kept_on, written_kept}
+use Rattle.grid_machine.proofs.Loads.{same_shapes, map_length, assigning_next, assigned_all}
+use Rattle.grid_machine.proofs.machine.Machine.assign_all.Goals as goal
+
+pub assign-requires-clause-shape : goal.assign-requires-clause-shape
+assign-requires-clause-shape c = ap shape c.index-values-k.is ∙ same_shapes c.args.values.now c.args.to.now c.loop-k.k _ _ c.loop-k-test.true c.requires.shapes
+
+pub loop-k-preserved : goal.loop-k-preserved
+loop-k-preserved c =
+    let m = c.args.self.now in
+    let f = m.registers.frame.now in
+    let now = c.loop-k.self in
+    let new = c.assign.new.self in
+    let k = c.loop-k.k in
+    let rs = c.args.to.now in
+    let vs = c.args.values.now in
+    let inv = c.loop-k.invariant in
+    let x = c.index-values-k.result in
+    let q : Register = get_or rs k (Uniform shapes.Number 0) in
+    let l = c.loop-k-test.true in
+    let lv : k < length vs = let e = sym (map_length shape vs) ∙ ap length c.requires.shapes ∙ map_length register_shape rs in omega arith in
+    let pos : 0 < f.places = let s = f.some in omega arith in (
+      kept_on m now new inv.0 c.assign.ensures.kept,
+      assigning_next f.places f.varying.now f.uniform.now rs vs k q x (state_of m) (state_of now) (state_of new) pos (get_or_default rs k _ q l) c.index-values-k.is l lv inv.1
+          (written_kept m now q (λ i. x) (state_of new) inv.0 c.assign.ensures.near),
+    )
+
+pub returns-clause-near : goal.returns-clause-near
+returns-clause-near c =
+    let m = c.args.self.now in
+    let f = m.registers.frame.now in
+    assigned_all f.places f.varying.now f.uniform.now c.args.to.now c.args.values.now c.loop-k.k (state_of m) (state_of c.loop-k.self) (omega arith) c.loop-k.invariant.1

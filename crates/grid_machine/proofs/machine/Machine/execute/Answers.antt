@@ -1,0 +1,41 @@
+use Rattle.std.proofs.Common.{refl, ℕ, List, pos, subst}
+use Rattle.sl_ast.specs.Variables.{variables}
+use Rattle.sl_ast.specs.declared.kinds.Predefined.TheVariants as names
+use Rattle.sl_ast.specs.declared.typed.Value.TheVariants as values
+use Rattle.grid_code.specs.declared.code.Register.{Register}
+use Rattle.grid_code.specs.Masked.{write, masked, State as Grid}
+use Rattle.grid_code.specs.Names.{name_at}
+use Rattle.grid_code.specs.View.{block_of}
+use Rattle.grid_machine.specs.Run.{uniform_inputs, varying_inputs, assigned, loaded, started, fresh}
+use Rattle.grid_machine.specs.State.{state_of, lit_ground, NearIn}
+use Rattle.grid_machine.proofs.Kept.{kept_on, runs_kept, NearBy, StepsBy}
+use Rattle.grid_machine.proofs.machine.Machine.execute.Goals as goal
+
+pub returns-clause-near : goal.returns-clause-near
+returns-clause-near t c =
+    let m0 = c.args.self.now in
+    let m1 = c.assign_all.new.self in
+    let m2 = c.load_all.new.self in
+    let m3 = c.start.new.self in
+    let m4 = c.run_block.new.m in
+    let fs = (t.L.Illumination.lighting c.args.lights.now).lights in
+    let f = m0.registers.frame.now in
+    let p = f.places in
+    let kind = c.args.code.now.kind in
+    let rows = c.args.rows.now in
+    let vs = c.args.values.now in
+    let w = c.args.width in
+    let k1 = c.assign_all.ensures.kept in
+    let k2 = kept_on m0 m1 m2 k1 c.load_all.ensures.kept in
+    let k3 = kept_on m0 m2 m3 k2 c.start.ensures.kept in
+    let g1 : Grid = assigned p c.args.uniforms.now vs fresh in
+    let g2 : Grid = loaded p w rows c.args.varyings.now 0 g1 in
+    let g3 : Grid = started p (variables kind) g2 in
+    let n1 = c.assign_all.ensures.near fresh c.requires.fresh in
+    let n2 = subst (λ x. (g : Grid) → NearBy x g (state_of m1) → NearBy x (loaded x.now.places w rows c.args.varyings.now 0 g) (state_of m2)) k1.frame c.load_all.ensures.near g1 n1 in
+    let n3 = subst (λ x. (g : Grid) → NearBy x g (state_of m2) → NearBy x (started x.now.places (variables kind) g) (state_of m3)) k2.frame c.start.ensures.near g2 n2 in
+    let st = subst (λ l. StepsBy fs m0.registers.frame 65536 (block_of l) (state_of m3) (state_of m4)) c.as_slice.ensures (runs_kept fs fs m0 m3 m4 65536 (block_of c.as_slice.result.now) k3 refl c.run_block.ensures.masked) in
+    let whole = λ (x : ℕ) (us ls : List Register). NearIn m0 (masked (block_of c.args.code.now.nodes) (lit_ground fs f) p 65536 (started p (variables kind) (loaded p x rows ls 0 (assigned p us vs fresh)))) (state_of m4) in
+    let ui = uniform_inputs kind c.args.code.now.params in
+    let vi = varying_inputs kind c.args.code.now.params in
+    subst (λ x. whole x ui vi) c.requires.width (subst (λ us. whole w us vi) c.requires.uniforms (subst (λ ls. whole w c.args.uniforms.now ls) c.requires.varyings (st g3 n3)))

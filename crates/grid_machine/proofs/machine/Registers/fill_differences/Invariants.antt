@@ -1,0 +1,11 @@
+use Rattle.std.proofs.Common.{◌≡◌}
+use Rattle.builtins.specs.declared.shape.Shape.{Shape}
+use Rattle.builtins.specs.Differences.{difference}
+use Rattle.grid_machine.specs.Banks.{size}
+use Rattle.grid_machine.specs.State.{texts_of, lines_of}
+use Rattle.grid_machine.specs.Operands.{operand_at}
+use Rattle.grid_machine.proofs.Filled.{Filled}
+use Rattle.grid_machine.proofs.machine.Registers.fill_differences.Given as goal
+
+abbrev pub invariant-loop-place : goal.invariant-loop-place
+invariant-loop-place l = ((s : Shape) → size l.row s ≡ size l.initial.row s) × Filled (texts_of l.self) l.row (difference l.difference (lines_of l.self.frame.now) l.self.frame.now.setting.spaces.now.flip (operand_at l.self l.of)) l.place

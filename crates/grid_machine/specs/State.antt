@@ -1,0 +1,147 @@
+-- The machine's state as that of the code, and when two states are the same on a grid.
+use Rattle.std.specs.Prelude.{◌≡◌, ℕ, ◌+◌, ◌*◌, ◌<◌, ◌==◌, suc, Bool, true, false, List, [], ◌∷◌, length, get_or, cond}
+use Rattle.std.specs.List.{list_all, list_any}
+use Rattle.std.specs.Str.{bytes_eq}
+use Rattle.std.specs.Borrow.{Bor}
+use Rattle.sl_ast.specs.declared.typed.Value.{Value}
+use Rattle.sl_ast.specs.declared.typed.Value.TheVariants as values
+use Rattle.sl_ast.specs.declared.kinds.LightStmt.{LightStmt}
+use Rattle.sl_ast.specs.declared.kinds.LightStmt.TheVariants.{Illuminance, Illuminate, Solar}
+use Rattle.sl_ast.specs.declared.kinds.Predefined.TheVariants as names
+use Rattle.builtins.specs.declared.shape.Shape.{Shape}
+use Rattle.builtins.specs.declared.shape.Shape.TheVariants as shapes
+use Rattle.builtins.specs.Differences.{Lines}
+use Rattle.grid_code.specs.declared.code.Register.{Register}
+use Rattle.grid_code.specs.declared.code.Register.TheVariants.{Uniform, Varying}
+use Rattle.grid_code.specs.declared.code.Source.{Source}
+use Rattle.grid_code.specs.declared.code.Source.TheVariants.{Constant}
+use Rattle.grid_code.specs.declared.register_set.RegisterSet.{RegisterSet}
+use Rattle.grid_code.specs.Code.{Block, end, put, differ, sum, branch, loops, lights, breaks, continues}
+use Rattle.grid_code.specs.Shapes.{register_shape, difference_shape, source_shape}
+use Rattle.grid_code.specs.Uses.{numbers_of, has, source_within}
+use Rattle.grid_code.specs.Valid.{has_operands}
+use Rattle.grid_code.specs.Masked.{Asked, State, Ground, turns_of, masked}
+use Rattle.grid_code.specs.Names.{name_at, lit_at}
+use Rattle.grid_machine.specs.Cells.{value_of}
+use Rattle.grid_machine.specs.Banks.{size, held}
+use Rattle.grid_machine.specs.declared.frame.Frame.{Frame}
+use Rattle.grid_machine.specs.declared.machine.Machine.{Machine}
+use Rattle.grid_machine.specs.declared.machine.Registers.{Registers}
+
+-- the place of a number in a list, and the list's length where it isn't there
+abbrev pub rank : List ℕ → ℕ → ℕ
+rank [] k = 0
+rank (x ∷ xs) k = cond (x == k) 0 (suc (rank xs k))
+
+abbrev pub texts_of : Registers → List (Bor (List ℕ))
+texts_of r = r.frame.now.setting.texts.now
+
+-- what registers hold, with no budget and no place that is live
+abbrev pub held_by : Registers → State
+held_by r =
+    record {
+      rows = λ s k i. value_of (texts_of r) (held r.rows s (rank (numbers_of r.frame.now.varying.now s) k * r.frame.now.places + i));
+      shared = λ s k. value_of (texts_of r) (held r.shared s (rank (numbers_of r.frame.now.uniform.now s) k));
+      turns = 0;
+      own = λ i. 0;
+      live = λ i. false;
+      staying = λ i. false;
+    }
+
+abbrev pub state_of : Machine → State
+state_of m =
+    record (held_by m.registers) {
+      turns = m.turns;
+      own = λ i. get_or m.own.items i 0;
+      live = λ i. get_or m.live.places i false;
+      staying = λ i. get_or m.staying.places i false;
+    }
+
+abbrev pub lines_of : Frame → Lines
+lines_of f = record { columns = f.columns; rows = f.rows; du = f.du; dv = f.dv }
+
+abbrev pub ground_of : Frame → Ground
+ground_of f = record { lines = lines_of f; spaces = f.setting.spaces.now; lights = [] }
+
+-- the same with lights
+abbrev pub lit_ground : List Asked → Frame → Ground
+lit_ground ls f = record { lines = lines_of f; spaces = f.setting.spaces.now; lights = ls }
+
+-- the same registers, at places below a number
+pub record Near (c : ℕ) (varying uniform : RegisterSet) (g h : State) : Type 0 where
+  pub rows : (s : Shape) (k i : ℕ) → has varying uniform (Varying s k) ≡ true → i < c → g.rows s k i ≡ h.rows s k i
+  pub shared : (s : Shape) (k : ℕ) → has varying uniform (Uniform s k) ≡ true → g.shared s k ≡ h.shared s k
+  pub turns : g.turns ≡ h.turns
+  pub own : (i : ℕ) → i < c → g.own i ≡ h.own i
+  pub live : (i : ℕ) → i < c → g.live i ≡ h.live i
+  pub staying : (i : ℕ) → i < c → g.staying i ≡ h.staying i
+
+-- there is a value for each register and each place
+pub record Full (r : Registers) : Type 0 where
+  pub rows : (s : Shape) → size r.rows s ≡ length (numbers_of r.frame.now.varying.now s) * r.frame.now.places
+  pub shared : (s : Shape) → size r.shared s ≡ length (numbers_of r.frame.now.uniform.now s)
+
+pub record Whole (m : Machine) : Type 0 where
+  pub full : Full m.registers
+  pub scratch : (s : Shape) → size m.scratch s ≡ m.registers.frame.now.places
+  pub own : length m.own.items ≡ m.registers.frame.now.places
+
+-- what a step keeps
+pub record Kept (m k : Machine) : Type 0 where
+  pub frame : k.registers.frame ≡ m.registers.frame
+  pub whole : Whole k
+
+-- a text is in a list; other values are in any
+abbrev pub is_known : List (Bor (List ℕ)) → Value → Bool
+is_known ts (values.Word w) = list_any (λ t. bytes_eq t.now w) ts
+is_known ts _ = true
+
+abbrev pub source_known : List (Bor (List ℕ)) → Source → Bool
+source_known ts (Constant v) = is_known ts v
+source_known ts _ = true
+
+-- the registers that a statement over lights reads or writes by itself
+abbrev pub lights_registers : LightStmt → List Register
+lights_registers Illuminance = name_at names.L ∷ name_at names.Cl ∷ []
+lights_registers Illuminate = name_at names.L ∷ lit_at ∷ name_at names.Ps ∷ []
+lights_registers Solar = name_at names.L ∷ lit_at ∷ []
+
+-- what a machine needs of an instruction, and of a block: its registers, their shapes, and the texts of its constants
+pub record SourceReady (varying uniform : RegisterSet) (ts : List (Bor (List ℕ))) (o : Source) : Type 0 where
+  pub within : source_within (has varying uniform) o ≡ true
+  pub operands : has_operands o ≡ true
+  pub known : source_known ts o ≡ true
+
+abbrev pub Ready : RegisterSet → RegisterSet → List (Bor (List ℕ)) → Block → Type 0
+Ready v u ts end = Unit {0}
+Ready v u ts (put r o x) = (has v u r ≡ true) × (SourceReady v u ts o × ((source_shape o ≡ register_shape r) × Ready v u ts x))
+Ready v u ts (differ r d q x) = (has v u r ≡ true) × ((has v u q ≡ true) × ((difference_shape d (register_shape q) ≡ register_shape r) × Ready v u ts x))
+Ready v u ts (sum r which qs x) = (has v u r ≡ true) × ((list_all (has v u) qs ≡ true) × ((has v u (name_at names.P) ≡ true) × ((shapes.Triple ≡ register_shape r) × Ready v u ts x)))
+Ready v u ts (branch t a b x) = (has v u t ≡ true) × (Ready v u ts a × (Ready v u ts b × Ready v u ts x))
+Ready v u ts (loops w d t e a x) = Ready v u ts d × ((has v u t ≡ true) × (Ready v u ts e × (Ready v u ts a × Ready v u ts x)))
+Ready v u ts (lights w qs a x) = (list_all (has v u) qs ≡ true) × ((list_all (has v u) (lights_registers w) ≡ true) × (Ready v u ts a × Ready v u ts x))
+Ready v u ts (breaks x) = Ready v u ts x
+Ready v u ts (continues x) = Ready v u ts x
+
+-- a step of the machine is a step of the code's meaning
+abbrev pub Steps : Ground → ℕ → RegisterSet → RegisterSet → ℕ → Block → State → State → Type 0
+Steps w c v u n x m m' = (g : State) → Near c v u g m → Near c v u (masked x w c n g) m'
+
+-- the same of the turns of a loop
+abbrev pub Turns : Ground → ℕ → RegisterSet → RegisterSet → ℕ → Bool → Block → Register → Block → Block → State → State → Type 0
+Turns w c v u n uniform ask test step body m m' = (g : State) → Near c v u g m → Near c v u (turns_of n c uniform (masked ask w c n) test (masked step w c n) (masked body w c n) g) m'
+
+abbrev pub ReadyIn : Machine → Block → Type 0
+ReadyIn m x = Ready m.registers.frame.now.varying.now m.registers.frame.now.uniform.now (texts_of m.registers) x
+
+abbrev pub HasRegister : Machine → Register → Type 0
+HasRegister m r = has m.registers.frame.now.varying.now m.registers.frame.now.uniform.now r ≡ true
+
+abbrev pub NearIn : Machine → State → State → Type 0
+NearIn m g h = Near m.registers.frame.now.places m.registers.frame.now.varying.now m.registers.frame.now.uniform.now g h
+
+abbrev pub Runs : List Asked → ℕ → Block → Machine → Machine → Type 0
+Runs ls n x m k = Steps (lit_ground ls m.registers.frame.now) m.registers.frame.now.places m.registers.frame.now.varying.now m.registers.frame.now.uniform.now n x (state_of m) (state_of k)
+
+abbrev pub RunsTurns : List Asked → ℕ → Bool → Block → Register → Block → Block → Machine → Machine → Type 0
+RunsTurns ls n uniform ask test step body m k = Turns (lit_ground ls m.registers.frame.now) m.registers.frame.now.places m.registers.frame.now.varying.now m.registers.frame.now.uniform.now n uniform ask test step body (state_of m) (state_of k)

@@ -1,0 +1,16 @@
+// What a light answers at the places of a grid.
+use fixed_math::Vec3;
+
+/// A light's answer at a point: the colour of an ambient one; nothing; or the direction from it to the point, and its colour.
+#[derive(Clone, Copy)]
+pub enum Answer {
+    Ambient(Vec3),
+    Unlit,
+    Lit(Vec3, Vec3),
+}
+
+/// An answer for each place of a grid.
+#[derive(Clone, Copy)]
+pub struct Answers {
+    pub at: [Answer; 289],
+}

@@ -1,0 +1,264 @@
+// Runs blocks of grid code.
+ghost use Rattle.std.specs.Prelude.{◌≡◌, ℕ, ◌<◌, Bool, true, false, ◌∷◌, get_or};
+ghost use Rattle.std.specs.List.{list_all};
+ghost use Rattle.fixed_math.specs.Axes.{origin};
+ghost use Rattle.fixed_math.specs.declared.vec3.Vec3.{Vec3 as AnyVec3};
+ghost use Rattle.sl_ast.specs.declared.kinds.LightStmt.TheVariants.{Illuminance};
+ghost use Rattle.sl_ast.specs.declared.kinds.Predefined.TheVariants as names;
+ghost use Rattle.grid_code.specs.Code as code;
+ghost use Rattle.grid_code.specs.Code.{end, branch};
+ghost use Rattle.grid_code.specs.Masked.{illuminated, masked, State as Grid};
+ghost use Rattle.grid_code.specs.Names.{name_at, lit_at};
+ghost use Rattle.grid_code.specs.Uses.{has};
+ghost use Rattle.grid_code.specs.View.{with_node, block_of};
+ghost use Rattle.grid_machine.specs.State.{state_of, lit_ground, lights_registers, NearIn, HasRegister, ReadyIn, Runs, RunsTurns, Whole, Kept};
+
+use crate::illumination::Illumination;
+use crate::machine::Machine;
+use crate::mask::Mask;
+use crate::points::Points;
+use grid_code::{Node, Register};
+use sl_ast::LightStmt;
+
+/// Runs a block: what each node does, one after another. A loop has at most that many turns.
+#[cycle(run)]
+pub fn run_block<L: Illumination>(block: &[Node], m: &mut Machine, lights: &mut L, most: u32)
+    requires whole { Whole m.old }
+    requires ready { ReadyIn m.old (block_of block.now) }
+    requires places { (L.lighting lights.old).places ≡ m.old.registers.frame.now.places }
+    ensures kept { Kept m.old m.new }
+    ensures same { L.lighting lights.new ≡ L.lighting lights.old }
+    ensures masked { Runs (L.lighting lights.old).lights most (block_of block.now) m.old m.new }
+{
+    for node in block {
+        run_node(node, m, lights, most);
+    }
+}
+
+#[cycle(run)]
+fn run_node<L: Illumination>(node: &Node, m: &mut Machine, lights: &mut L, most: u32)
+    requires whole { Whole m.old }
+    requires ready { ReadyIn m.old (with_node node.now end) }
+    requires places { (L.lighting lights.old).places ≡ m.old.registers.frame.now.places }
+    ensures kept { Kept m.old m.new }
+    ensures same { L.lighting lights.new ≡ L.lighting lights.old }
+    ensures masked { Runs (L.lighting lights.old).lights most (with_node node.now end) m.old m.new }
+{
+    match node {
+        Node::Put { to, source } => m.put(*to, source),
+        Node::Differ { to, difference, of } => m.differ(*to, *difference, *of),
+        Node::Sum { to, sum, args } => m.sum(*to, *sum, args.as_slice(), lights),
+        Node::If {
+            test,
+            then,
+            otherwise,
+        } => run_branch(
+            *test,
+            then.as_slice(),
+            otherwise.as_slice(),
+            m,
+            lights,
+            most,
+        ),
+        Node::Loop {
+            uniform,
+            ask,
+            test,
+            step,
+            body,
+        } => {
+            let (live, staying) = (m.live, m.staying);
+            run_loop(
+                *uniform,
+                ask.as_slice(),
+                *test,
+                step.as_slice(),
+                body.as_slice(),
+                m,
+                lights,
+                most,
+            );
+            m.live = live;
+            m.staying = staying;
+        }
+        Node::Lights { over, args, body } => {
+            run_lights(*over, args.as_slice(), body.as_slice(), m, lights, most)
+        }
+        Node::Break => m.leave(),
+        Node::Continue => m.skip(),
+    }
+}
+
+#[cycle(run)]
+fn run_branch<L: Illumination>(
+    test: Register,
+    then: &[Node],
+    otherwise: &[Node],
+    m: &mut Machine,
+    lights: &mut L,
+    most: u32,
+)
+    requires whole { Whole m.old }
+    requires has { HasRegister m.old test }
+    requires then { ReadyIn m.old (block_of then.now) }
+    requires otherwise { ReadyIn m.old (block_of otherwise.now) }
+    requires places { (L.lighting lights.old).places ≡ m.old.registers.frame.now.places }
+    ensures kept { Kept m.old m.new }
+    ensures same { L.lighting lights.new ≡ L.lighting lights.old }
+    ensures masked { Runs (L.lighting lights.old).lights most (branch test (block_of then.now) (block_of otherwise.now) end) m.old m.new }
+{
+    match test {
+        Register::Uniform(_, _) => {
+            if m.holds(test) {
+                run_block(then, m, lights, most);
+            } else {
+                run_block(otherwise, m, lights, most);
+            }
+        }
+        Register::Varying(_, _) => {
+            let count = m.registers.frame.places;
+            let set = m.tests(test);
+            let live = m.live;
+            m.live = live.and(&set, count);
+            run_block(then, m, lights, most);
+            let after = m.live;
+            m.live = live.without(&set, count);
+            run_block(otherwise, m, lights, most);
+            m.live = after.or(&m.live, count);
+        }
+    }
+}
+
+#[cycle(run)]
+fn run_loop<L: Illumination>(
+    uniform: bool,
+    ask: &[Node],
+    test: Register,
+    step: &[Node],
+    body: &[Node],
+    m: &mut Machine,
+    lights: &mut L,
+    most: u32,
+)
+    requires whole { Whole m.old }
+    requires ask { ReadyIn m.old (block_of ask.now) }
+    requires has { HasRegister m.old test }
+    requires step { ReadyIn m.old (block_of step.now) }
+    requires body { ReadyIn m.old (block_of body.now) }
+    requires places { (L.lighting lights.old).places ≡ m.old.registers.frame.now.places }
+    ensures kept { Kept m.old m.new }
+    ensures same { L.lighting lights.new ≡ L.lighting lights.old }
+    ensures turns { RunsTurns (L.lighting lights.old).lights most uniform (block_of ask.now) test (block_of step.now) (block_of body.now) m.old m.new }
+{
+    for _turn in 0..most {
+        run_block(ask, m, lights, most);
+        let going = m.going(uniform, test);
+        if !going.any(m.registers.frame.places) {
+            return;
+        }
+        m.begin_turn(uniform, &going);
+        run_block(body, m, lights, most);
+        m.live = m.staying;
+        run_block(step, m, lights, most);
+    }
+    run_block(ask, m, lights, most);
+}
+
+// The body of a statement over lights: of `illuminance` once for each light, of `illuminate` and `solar` where the light is lit.
+#[cycle(run)]
+fn run_lights<L: Illumination>(
+    over: LightStmt,
+    args: &[Register],
+    body: &[Node],
+    m: &mut Machine,
+    lights: &mut L,
+    most: u32,
+)
+    requires whole { Whole m.old }
+    requires args { list_all (has m.old.registers.frame.now.varying.now m.old.registers.frame.now.uniform.now) args.now ≡ true }
+    requires has { list_all (has m.old.registers.frame.now.varying.now m.old.registers.frame.now.uniform.now) (lights_registers over) ≡ true }
+    requires body { ReadyIn m.old (block_of body.now) }
+    requires places { (L.lighting lights.old).places ≡ m.old.registers.frame.now.places }
+    ensures kept { Kept m.old m.new }
+    ensures same { L.lighting lights.new ≡ L.lighting lights.old }
+    ensures masked { Runs (L.lighting lights.old).lights most (code.lights over args.now (block_of body.now) end) m.old m.new }
+{
+    if let Some((place, cone)) = args.split_first() {
+        match over {
+            LightStmt::Illuminance => run_seen(*place, cone, body, m, lights, most),
+            LightStmt::Illuminate => {
+                let directions = m.from_light(*place);
+                let seen = m.cone(cone).mask(&directions, m.registers.frame.places);
+                run_lit(&seen, &directions, body, m, lights, most);
+            }
+            LightStmt::Solar => {
+                let directions = m.points(*place);
+                run_lit(&Mask::full(), &directions, body, m, lights, most);
+            }
+        }
+    }
+}
+
+// The body once for each light, at the places that see it.
+#[cycle(run)]
+fn run_seen<L: Illumination>(
+    place: Register,
+    args: &[Register],
+    body: &[Node],
+    m: &mut Machine,
+    lights: &mut L,
+    most: u32,
+)
+    requires whole { Whole m.old }
+    requires place { HasRegister m.old place }
+    requires args { list_all (has m.old.registers.frame.now.varying.now m.old.registers.frame.now.uniform.now) args.now ≡ true }
+    requires direction { HasRegister m.old (name_at names.L) }
+    requires colour { HasRegister m.old (name_at names.Cl) }
+    requires body { ReadyIn m.old (block_of body.now) }
+    requires places { (L.lighting lights.old).places ≡ m.old.registers.frame.now.places }
+    ensures kept { Kept m.old m.new }
+    ensures same { L.lighting lights.new ≡ L.lighting lights.old }
+    ensures masked { Runs (L.lighting lights.old).lights most (code.lights Illuminance (place ∷ args.now) (block_of body.now) end) m.old m.new }
+{
+    let points = m.points(place);
+    let cone = m.cone(args);
+    let count = m.registers.frame.places;
+    for n in 0..lights.count() {
+        let answers = lights.ask(n, &points);
+        let view = answers.view(&cone, count);
+        let live = m.live;
+        m.live = live.and(&view.seen, count);
+        m.enter(&view);
+        run_block(body, m, lights, most);
+        let others = live.without(&view.seen, count);
+        m.live = m.live.or(&others, count);
+    }
+}
+
+// The body under the light's own directions, where they are seen.
+#[cycle(run)]
+fn run_lit<L: Illumination>(
+    seen: &Mask,
+    directions: &Points,
+    body: &[Node],
+    m: &mut Machine,
+    lights: &mut L,
+    most: u32,
+)
+    requires whole { Whole m.old }
+    requires direction { HasRegister m.old (name_at names.L) }
+    requires lit { HasRegister m.old lit_at }
+    requires body { ReadyIn m.old (block_of body.now) }
+    requires places { (L.lighting lights.old).places ≡ m.old.registers.frame.now.places }
+    ensures kept { Kept m.old m.new }
+    ensures same { L.lighting lights.new ≡ L.lighting lights.old }
+    ensures near { (g : Grid) (p : ℕ → Bool) (f : ℕ → AnyVec3) → NearIn m.old g (state_of m.old) → ((i : ℕ) → i < m.old.registers.frame.now.places → p i ≡ get_or seen.now.places i false) → ((i : ℕ) → i < m.old.registers.frame.now.places → f i ≡ get_or directions.now.at i origin) → NearIn m.old (illuminated m.old.registers.frame.now.places p f (masked (block_of body.now) (lit_ground (L.lighting lights.old).lights m.old.registers.frame.now) m.old.registers.frame.now.places most) g) (state_of m.new) }
+{
+    let count = m.registers.frame.places;
+    let live = m.live;
+    m.live = live.and(seen, count);
+    m.kindle(directions);
+    run_block(body, m, lights, most);
+    let others = live.without(seen, count);
+    m.live = m.live.or(&others, count);
+}

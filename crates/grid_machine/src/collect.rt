@@ -1,0 +1,78 @@
+// The texts of a run.
+ghost use Rattle.std.specs.Prelude.{◌≡◌, ◌++◌, OnOk, map};
+ghost use Rattle.grid_code.specs.Code.{end};
+ghost use Rattle.grid_code.specs.View.{with_node, block_of};
+ghost use Rattle.grid_machine.specs.Texts as spec;
+
+use bumpalo::Bump;
+use fixed_math::{NoMemory, Text};
+use grid_code::{Node, Source};
+use sl_ast::Value;
+
+fn collect_value<'a>(value: &'a Value, texts: &mut Vec<&'a Text, &'a Bump>) -> Result<(), NoMemory>
+    ensures { OnOk result (map (λ t. t.now) texts.new.items ≡ map (λ t. t.now) texts.old.items ++ spec.texts_of value.now) }
+{
+    match value {
+        Value::Word(w) => texts.push(w)?,
+        Value::Number(_) | Value::Triple(_) => (),
+    }
+    Ok(())
+}
+
+/// Adds the texts of values.
+pub fn collect_values<'a>(
+    values: &'a [Value],
+    texts: &mut Vec<&'a Text, &'a Bump>,
+) -> Result<(), NoMemory>
+    ensures { OnOk result (map (λ t. t.now) texts.new.items ≡ map (λ t. t.now) texts.old.items ++ spec.texts_of_all values.now) }
+{
+    for value in values {
+        collect_value(value, texts)?;
+    }
+    Ok(())
+}
+
+/// Adds the texts of the constants of a block.
+#[cycle(collect)]
+pub fn collect<'a>(nodes: &'a [Node], texts: &mut Vec<&'a Text, &'a Bump>) -> Result<(), NoMemory>
+    ensures { OnOk result (map (λ t. t.now) texts.new.items ≡ map (λ t. t.now) texts.old.items ++ spec.texts_in (block_of nodes.now)) }
+{
+    for node in nodes {
+        collect_node(node, texts)?;
+    }
+    Ok(())
+}
+
+#[cycle(collect)]
+fn collect_node<'a>(node: &'a Node, texts: &mut Vec<&'a Text, &'a Bump>) -> Result<(), NoMemory>
+    ensures { OnOk result (map (λ t. t.now) texts.new.items ≡ map (λ t. t.now) texts.old.items ++ spec.texts_in (with_node node.now end)) }
+{
+    match node {
+        Node::Put { source, .. } => {
+            if let Source::Constant(value) = source {
+                collect_value(value, texts)?;
+            }
+        }
+        Node::If {
+            then,
+            otherwise,
+            ..
+        } => {
+            collect(then.as_slice(), texts)?;
+            collect(otherwise.as_slice(), texts)?;
+        }
+        Node::Loop {
+            ask,
+            step,
+            body,
+            ..
+        } => {
+            collect(ask.as_slice(), texts)?;
+            collect(step.as_slice(), texts)?;
+            collect(body.as_slice(), texts)?;
+        }
+        Node::Lights { body, .. } => collect(body.as_slice(), texts)?,
+        Node::Differ { .. } | Node::Sum { .. } | Node::Break | Node::Continue => (),
+    }
+    Ok(())
+}

@@ -1,0 +1,138 @@
+// Differences between the neighbours of a grid.
+ghost use Rattle.std.specs.Prelude.{◌≡◌, ℕ, ◌<◌, ◌≤◌};
+ghost use Rattle.fixed_math.specs.Fixed.{div};
+ghost use Rattle.builtins.specs.Differences as spec;
+ghost use Rattle.builtins.specs.Values.{by_part};
+ghost use Rattle.builtins.specs.Triples.{negated as negated_of};
+ghost use Rattle.builtins.specs.Shapes.{shape as shape_of_value};
+ghost use Rattle.builtins.specs.declared.shape.Shape.{Shape as AnyShape};
+ghost use Rattle.grid_machine.specs.Banks.{size, held};
+ghost use Rattle.grid_machine.specs.Cells.{value_of};
+ghost use Rattle.grid_machine.specs.State.{texts_of, lines_of};
+ghost use Rattle.grid_machine.specs.Operands.{operand_at, OperandIn};
+
+use crate::bank::Bank;
+use crate::cell::{Cell, Setting};
+use crate::machine::Registers;
+use crate::operand::Operand;
+use builtins::{cross, normalize};
+use fixed_math::{Num, Vec3};
+use sl_ast::{Difference, ValueOperation};
+
+/// The opposite of a direction.
+pub fn negated(v: Vec3) -> Vec3
+    ensures { result ≡ negated_of v }
+{
+    Vec3 {
+        x: v.x.neg(),
+        y: v.y.neg(),
+        z: v.z.neg(),
+    }
+}
+
+impl Setting<'_> {
+    fn divided(&self, v: &Cell, step: Num) -> Cell
+        ensures { value_of self.now.texts.now result ≡ by_part (λ d. div d step) (value_of self.now.texts.now v.now) }
+    {
+        match v {
+            Cell::Number(x) => Cell::Number(x.div(step)),
+            Cell::Triple(_) | Cell::Word(_) => {
+                let t = self.triple(v);
+                Cell::Triple(Vec3 {
+                    x: t.x.div(step),
+                    y: t.y.div(step),
+                    z: t.z.div(step),
+                })
+            }
+        }
+    }
+
+    // The quotient of a difference of values by a step.
+    fn slope(&self, step: Num, v: &Cell, w: &Cell) -> Cell
+        ensures { value_of self.now.texts.now result ≡ spec.slope step (value_of self.now.texts.now v.now) (value_of self.now.texts.now w.now) }
+    {
+        self.divided(&self.by_parts(ValueOperation::Subtract, v, w), step)
+    }
+}
+
+impl Registers<'_> {
+    // The difference to the next column over the step of u; in the last column, that of the column before.
+    #[tactic(auto, using(crate::proofs::Rows::next_in), unfolding(builtins::specs::Differences::along_u))]
+    fn along_u(&self, of: Operand, place: usize) -> Cell
+        requires fits { OperandIn self.now of }
+        requires place { place < self.now.frame.now.places }
+        ensures { value_of (texts_of self.now) result ≡ spec.along_u (lines_of self.now.frame.now) (operand_at self.now of) place }
+    {
+        let (setting, step) = (&self.frame.setting, self.frame.du);
+        if place % self.frame.columns + 1 < self.frame.columns {
+            setting.slope(step, &self.get(of, place + 1), &self.get(of, place))
+        } else {
+            setting.slope(step, &self.get(of, place), &self.get(of, place - 1))
+        }
+    }
+
+    // The same of rows.
+    #[tactic(auto, using(crate::proofs::Rows::under_in, crate::proofs::Rows::over_in), unfolding(builtins::specs::Differences::along_v))]
+    fn along_v(&self, of: Operand, place: usize) -> Cell
+        requires fits { OperandIn self.now of }
+        requires place { place < self.now.frame.now.places }
+        ensures { value_of (texts_of self.now) result ≡ spec.along_v (lines_of self.now.frame.now) (operand_at self.now of) place }
+    {
+        let columns = self.frame.columns;
+        let (setting, step) = (&self.frame.setting, self.frame.dv);
+        if place / columns + 1 < self.frame.rows {
+            setting.slope(step, &self.get(of, place + columns), &self.get(of, place))
+        } else {
+            setting.slope(step, &self.get(of, place), &self.get(of, place - columns))
+        }
+    }
+
+    // The unit of the cross product of both, turned over where the primitive is.
+    #[tactic(auto, unfolding(builtins::specs::Differences::normal_at))]
+    fn normal_at(&self, of: Operand, place: usize) -> Cell
+        requires fits { OperandIn self.now of }
+        requires place { place < self.now.frame.now.places }
+        ensures { value_of (texts_of self.now) result ≡ spec.normal_at (lines_of self.now.frame.now) self.now.frame.now.setting.spaces.now.flip (operand_at self.now of) place }
+    {
+        let setting = &self.frame.setting;
+        let u = setting.triple(&self.along_u(of, place));
+        let v = setting.triple(&self.along_v(of, place));
+        let n = normalize(cross(u, v));
+        if setting.spaces.flip {
+            Cell::Triple(negated(n))
+        } else {
+            Cell::Triple(n)
+        }
+    }
+
+    fn difference(&self, difference: Difference, of: Operand, place: usize) -> Cell
+        requires fits { OperandIn self.now of }
+        requires place { place < self.now.frame.now.places }
+        ensures { value_of (texts_of self.now) result ≡ spec.difference difference (lines_of self.now.frame.now) self.now.frame.now.setting.spaces.now.flip (operand_at self.now of) place }
+    {
+        match difference {
+            Difference::Du => self.along_u(of, place),
+            Difference::Dv => self.along_v(of, place),
+            Difference::CalculateNormal => self.normal_at(of, place),
+        }
+    }
+
+    /// Computes differences at the first places of a row.
+    pub fn fill_differences(
+        &self,
+        difference: Difference,
+        of: Operand,
+        count: usize,
+        row: &mut Bank,
+    )
+        requires fits { OperandIn self.now of }
+        requires count { count ≤ self.now.frame.now.places }
+        requires room { (s : AnyShape) → count ≤ size row.old s }
+        ensures size { (s : AnyShape) → size row.new s ≡ size row.old s }
+        ensures each { (j : ℕ) → j < count → value_of (texts_of self.now) (held row.new (shape_of_value (spec.difference difference (lines_of self.now.frame.now) self.now.frame.now.setting.spaces.now.flip (operand_at self.now of) j)) j) ≡ spec.difference difference (lines_of self.now.frame.now) self.now.frame.now.setting.spaces.now.flip (operand_at self.now of) j }
+    {
+        for place in 0..count {
+            row.set(place, &self.difference(difference, of, place));
+        }
+    }
+}

@@ -1,0 +1,41 @@
+//! The interpreter of grid code: instructions over rows of values in an arena.
+//!
+//! A machine holds the values of a code's registers, the numbers, the triples and the texts each in rows of their own. An instruction
+//! computes a row and stores it at the places that are live. Everything is laid out before the first instruction.
+#![tactic(auto)]
+
+mod answers;
+mod bank;
+mod blocks;
+mod call;
+mod cell;
+mod collect;
+mod control;
+mod differences;
+mod execute;
+mod formulas;
+mod frame;
+mod fresh;
+mod given;
+mod illumination;
+mod inputs;
+mod instruction;
+mod known;
+mod leaving;
+mod lighting;
+mod loading;
+mod machine;
+mod mask;
+mod operand;
+mod placed;
+mod points;
+mod reading;
+mod reset;
+mod step;
+mod sums;
+mod table;
+mod unloading;
+mod viewing;
+
+pub use call::run;
+pub use inputs::{Inputs, Lights};

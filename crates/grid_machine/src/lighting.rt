@@ -1,0 +1,172 @@
+// What code over lights reads of registers, and writes into them.
+ghost use Rattle.std.specs.Prelude.{◌≡◌, ℕ, ◌<◌, ◌≤◌, Option, true, false, pos, get_or};
+ghost use Rattle.std.specs.List.{list_all};
+ghost use Rattle.fixed_math.specs.Axes.{origin};
+ghost use Rattle.fixed_math.specs.Fixed.{sub};
+ghost use Rattle.fixed_math.specs.declared.vec3.Vec3.{Vec3 as AnyVec3};
+ghost use Rattle.sl_ast.specs.declared.kinds.Predefined.TheVariants as names;
+ghost use Rattle.sl_ast.specs.declared.typed.Value.{Value as AnyValue};
+ghost use Rattle.sl_ast.specs.declared.typed.Value.TheVariants as values;
+ghost use Rattle.builtins.specs.Lights.{is_in_cone};
+ghost use Rattle.builtins.specs.Triples.{each_two};
+ghost use Rattle.builtins.specs.Values.{number_of, triple_of};
+ghost use Rattle.builtins.specs.declared.shape.Shape.{Shape as AnyShape};
+ghost use Rattle.builtins.specs.declared.shape.Shape.TheVariants as shapes;
+ghost use Rattle.grid_code.specs.Masked.{read, reads, write, entered, kindled, from_light as direction_of, State as Grid};
+ghost use Rattle.grid_code.specs.Names.{reg, name_at, lit_at};
+ghost use Rattle.grid_code.specs.Uses.{has};
+ghost use Rattle.grid_machine.specs.Banks.{size, held};
+ghost use Rattle.grid_machine.specs.Seen.{cone_at, Views};
+ghost use Rattle.grid_machine.specs.State.{state_of, NearIn, HasRegister, Whole, Kept};
+ghost use Rattle.grid_machine.specs.declared.cell.Cell.TheVariants as cells;
+
+use crate::bank::Bank;
+use crate::cell::Cell;
+use crate::machine::Machine;
+use crate::points::{Cone, Numbers, Points, View};
+use builtins::Shape;
+use fixed_math::{Num, Vec3};
+use grid_code::Register;
+use sl_ast::Value;
+
+fn difference(a: &Vec3, b: &Vec3) -> Vec3
+    ensures { result ≡ each_two sub a.now b.now }
+{
+    Vec3 {
+        x: a.x.sub(b.x),
+        y: a.y.sub(b.y),
+        z: a.z.sub(b.z),
+    }
+}
+
+impl Points {
+    // The differences to other triples at the first places.
+    fn minus(&self, other: &Points, count: usize) -> Points
+        requires { count ≤ 289 }
+        ensures { (i : ℕ) → i < count → get_or result.at i origin ≡ each_two sub (get_or self.now.at i origin) (get_or other.now.at i origin) }
+    {
+        let mut points = Points::zero();
+        for place in 0..count {
+            let (a, b) = (self.get(place), other.get(place));
+            points.at[place] = difference(&a, &b);
+        }
+        points
+    }
+
+    /// Writes the triples of the first places into a row.
+    pub fn fill(&self, count: usize, row: &mut Bank)
+        requires count { count ≤ 289 }
+        requires room { count ≤ size row.old shapes.Triple }
+        ensures size { (s : AnyShape) → size row.new s ≡ size row.old s }
+        ensures each { (j : ℕ) → j < count → held row.new shapes.Triple j ≡ cells.Triple (get_or self.now.at j origin) }
+    {
+        for place in 0..count {
+            let triple = self.get(place);
+            row.set(place, &Cell::Triple(triple));
+        }
+    }
+}
+
+impl Machine<'_> {
+    /// The triples that a register holds.
+    #[tactic(auto, using(crate::proofs::Shapes::read_held))]
+    pub fn points(&self, register: Register) -> Points
+        requires whole { Whole self.now }
+        requires has { HasRegister self.now register }
+        ensures { (i : ℕ) → i < self.now.registers.frame.now.places → get_or result.at i origin ≡ triple_of (read (state_of self.now) register i) }
+    {
+        let operand = self.registers.operand(register);
+        let mut points = Points::zero();
+        for place in 0..self.registers.frame.places {
+            let cell = self.registers.get(operand, place);
+            points.at[place] = self.registers.frame.setting.triple(&cell);
+        }
+        points
+    }
+
+    /// The numbers that a register holds.
+    #[tactic(auto, using(crate::proofs::Shapes::read_held))]
+    pub fn numbers(&self, register: Register) -> Numbers
+        requires whole { Whole self.now }
+        requires has { HasRegister self.now register }
+        ensures { (i : ℕ) → i < self.now.registers.frame.now.places → get_or result.at i (pos 0) ≡ number_of (read (state_of self.now) register i) }
+    {
+        let operand = self.registers.operand(register);
+        let mut numbers = Numbers::zero();
+        for place in 0..self.registers.frame.places {
+            let cell = self.registers.get(operand, place);
+            numbers.at[place] = self.registers.frame.setting.number(&cell);
+        }
+        numbers
+    }
+
+    /// The cone of a statement over lights, by the registers of its axis and its angle, where there are two.
+    #[tactic(auto, using(crate::proofs::Totals::no_cone))]
+    pub fn cone(&self, args: &[Register]) -> Cone
+        requires whole { Whole self.now }
+        requires has { list_all (has self.now.registers.frame.now.varying.now self.now.registers.frame.now.uniform.now) args.now ≡ true }
+        ensures { (i : ℕ) (l : AnyVec3) → i < self.now.registers.frame.now.places → cone_at result i l ≡ is_in_cone (reads (state_of self.now) args.now i) l }
+    {
+        match args {
+            [axis, angle] => Cone {
+                given: true,
+                axis: self.points(*axis),
+                angle: self.numbers(*angle),
+            },
+            _ => Cone {
+                given: false,
+                axis: Points::zero(),
+                angle: Numbers::zero(),
+            },
+        }
+    }
+
+    /// The directions from the place of a light to the points.
+    pub fn from_light(&self, place: Register) -> Points
+        requires whole { Whole self.now }
+        requires has { HasRegister self.now place }
+        requires points { HasRegister self.now (name_at names.Ps) }
+        ensures { (i : ℕ) → i < self.now.registers.frame.now.places → get_or result.at i origin ≡ direction_of (state_of self.now) place i }
+    {
+        let points = self.points(Register::Varying(Shape::Triple, 19));
+        points.minus(&self.points(place), self.registers.frame.places)
+    }
+
+    // A varying register takes triples.
+    fn set_triples(&mut self, number: u32, row: &Points)
+        requires whole { Whole self.old }
+        requires has { HasRegister self.old (reg false shapes.Triple number) }
+        ensures kept { Kept self.old self.new }
+        ensures near { (g : Grid) (f : ℕ → AnyValue) → NearIn self.old g (state_of self.old) → ((i : ℕ) → i < self.old.registers.frame.now.places → f i ≡ values.Triple (get_or row.now.at i origin)) → NearIn self.old (write self.old.registers.frame.now.places (reg false shapes.Triple number) f g) (state_of self.new) }
+    {
+        row.fill(self.registers.frame.places, &mut self.scratch);
+        self.commit(Register::Varying(Shape::Triple, number));
+    }
+
+    /// L and Cl take the direction to a light and its colour, where it is seen.
+    pub fn enter(&mut self, view: &View)
+        requires whole { Whole self.old }
+        requires direction { HasRegister self.old (name_at names.L) }
+        requires colour { HasRegister self.old (name_at names.Cl) }
+        ensures kept { Kept self.old self.new }
+        ensures near { (g : Grid) (f : ℕ → Option (AnyVec3 × AnyVec3)) → NearIn self.old g (state_of self.old) → ((i : ℕ) → i < self.old.registers.frame.now.places → Views view.now i (f i)) → NearIn self.old (entered self.old.registers.frame.now.places f g) (state_of self.new) }
+    {
+        self.set_triples(15, &view.towards);
+        self.set_triples(16, &view.colours);
+    }
+
+    /// L takes directions, and the light is lit.
+    pub fn kindle(&mut self, directions: &Points)
+        requires whole { Whole self.old }
+        requires direction { HasRegister self.old (name_at names.L) }
+        requires lit { HasRegister self.old lit_at }
+        ensures kept { Kept self.old self.new }
+        ensures near { (g : Grid) (f : ℕ → AnyVec3) → NearIn self.old g (state_of self.old) → ((i : ℕ) → i < self.old.registers.frame.now.places → f i ≡ get_or directions.now.at i origin) → NearIn self.old (kindled self.old.registers.frame.now.places f g) (state_of self.new) }
+    {
+        self.set_triples(15, directions);
+        self.assign(
+            Register::Varying(Shape::Number, 21),
+            &Value::Number(Num::sat(65536)),
+        );
+    }
+}

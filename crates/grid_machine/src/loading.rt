@@ -1,0 +1,158 @@
+// Registers that take given values.
+ghost use Rattle.std.specs.Prelude.{◌≡◌, ℕ, ℤ, ◌+◌, ◌-◌, ◌*◌, ◌<◌, ◌≤◌, pos, true, length, get_or, map};
+ghost use Rattle.std.specs.List.{list_all};
+ghost use Rattle.fixed_math.specs.Fixed.{IsRaw};
+ghost use Rattle.builtins.specs.Shapes.{shape as shape_of_value};
+ghost use Rattle.builtins.specs.declared.shape.Shape.{Shape as AnyShape};
+ghost use Rattle.grid_code.specs.Masked.{write, State as Grid};
+ghost use Rattle.grid_code.specs.Shapes.{register_shape};
+ghost use Rattle.grid_machine.specs.Banks.{size, held};
+ghost use Rattle.grid_machine.specs.Cells.{value_of};
+ghost use Rattle.grid_code.specs.Uses.{has};
+ghost use Rattle.grid_machine.specs.Run.{height, rows_of, value_in, assigned, loaded};
+ghost use Rattle.grid_machine.specs.State.{state_of, texts_of, is_known, NearIn, HasRegister, Whole, Kept};
+
+use crate::bank::Bank;
+use crate::cell::{Cell, Setting};
+use crate::machine::Machine;
+use crate::operand::Work;
+use builtins::Shape;
+use fixed_math::{Num, Vec3};
+use grid_code::Register;
+use sl_ast::Value;
+
+// A raw in range as a number.
+#[tactic(auto, using(fixed_math::proofs::Sat::sat_of_raw))]
+fn number(raw: i64) -> Num
+    requires { IsRaw raw }
+    ensures { result ≡ raw }
+{
+    Num::sat(raw as i128)
+}
+
+/// The shape of a register's values.
+pub fn shape_of(register: Register) -> Shape
+    ensures { result ≡ register_shape register }
+{
+    match register {
+        Register::Uniform(shape, _) => shape,
+        Register::Varying(shape, _) => shape,
+    }
+}
+
+/// How many rows the values of a shape take.
+pub fn height_of(shape: Shape) -> usize
+    ensures { result ≡ height shape }
+{
+    match shape {
+        Shape::Triple => 3,
+        Shape::Number | Shape::Word => 1,
+    }
+}
+
+impl Setting<'_> {
+    // The value of a shape at an element of rows.
+    fn loaded(&self, shape: Shape, rows: &[i64], width: usize, at: usize) -> Cell
+        requires raws { (k : ℕ) → IsRaw (get_or rows.now k (pos 0)) }
+        requires room { at + (height shape - 1) * width < length rows.now }
+        ensures { value_of self.now.texts.now result ≡ value_in shape rows.now width at }
+    {
+        match shape {
+            Shape::Number => Cell::Number(number(rows[at])),
+            Shape::Triple => Cell::Triple(Vec3 {
+                x: number(rows[at]),
+                y: number(rows[at + width]),
+                z: number(rows[at + 2 * width]),
+            }),
+            Shape::Word => Cell::Word(0),
+        }
+    }
+
+    // The values of a shape at the first elements of rows from one on.
+    fn fill(
+        &self,
+        shape: Shape,
+        rows: &[i64],
+        width: usize,
+        start: usize,
+        count: usize,
+        row: &mut Bank,
+    )
+        requires raws { (k : ℕ) → IsRaw (get_or rows.now k (pos 0)) }
+        requires room { start + height shape * width ≤ length rows.now }
+        requires count { count ≤ width }
+        requires places { (s : AnyShape) → count ≤ size row.old s }
+        ensures size { (s : AnyShape) → size row.new s ≡ size row.old s }
+        ensures each { (j : ℕ) → j < count → value_of self.now.texts.now (held row.new (shape_of_value (value_in shape rows.now width (start + j))) j) ≡ value_in shape rows.now width (start + j) }
+    {
+        for place in 0..count {
+            row.set(place, &self.loaded(shape, rows, width, start + place));
+        }
+    }
+}
+
+impl Machine<'_> {
+    /// A register takes one value.
+    pub fn assign(&mut self, to: Register, value: &Value)
+        requires whole { Whole self.old }
+        requires has { HasRegister self.old to }
+        requires known { is_known (texts_of self.old.registers) value.now ≡ true }
+        requires shape { shape_of_value value.now ≡ register_shape to }
+        ensures kept { Kept self.old self.new }
+        ensures near { NearIn self.old (write self.old.registers.frame.now.places to (λ i. value.now) (state_of self.old)) (state_of self.new) }
+    {
+        let work = Work::Constant(self.registers.frame.setting.cell(value));
+        let count = self.reach(to);
+        self.registers.fill(&work, count, &mut self.scratch);
+        self.commit(to);
+    }
+
+    /// A register takes the values of rows from an element on.
+    pub fn load(&mut self, to: Register, rows: &[i64], width: usize, start: usize)
+        requires whole { Whole self.old }
+        requires has { HasRegister self.old to }
+        requires raws { (k : ℕ) → IsRaw (get_or rows.now k (pos 0)) }
+        requires room { start + height (register_shape to) * width ≤ length rows.now }
+        requires wide { self.old.registers.frame.now.places ≤ width }
+        ensures kept { Kept self.old self.new }
+        ensures near { NearIn self.old (write self.old.registers.frame.now.places to (λ i. value_in (register_shape to) rows.now width (start + i)) (state_of self.old)) (state_of self.new) }
+    {
+        let count = self.reach(to);
+        self.registers
+            .frame
+            .setting
+            .fill(shape_of(to), rows, width, start, count, &mut self.scratch);
+        self.commit(to);
+    }
+
+    /// Registers take values, one each.
+    pub fn assign_all(&mut self, to: &[Register], values: &[Value])
+        requires whole { Whole self.old }
+        requires has { list_all (has self.old.registers.frame.now.varying.now self.old.registers.frame.now.uniform.now) to.now ≡ true }
+        requires known { list_all (is_known (texts_of self.old.registers)) values.now ≡ true }
+        requires shapes { map shape_of_value values.now ≡ map register_shape to.now }
+        ensures kept { Kept self.old self.new }
+        ensures near { (g : Grid) → NearIn self.old g (state_of self.old) → NearIn self.old (assigned self.old.registers.frame.now.places to.now values.now g) (state_of self.new) }
+    {
+        for k in 0..to.len() {
+            self.assign(to[k], &values[k]);
+        }
+    }
+
+    /// Registers take the values of rows, one behind another.
+    pub fn load_all(&mut self, to: &[Register], rows: &[i64], width: usize)
+        requires whole { Whole self.old }
+        requires has { list_all (has self.old.registers.frame.now.varying.now self.old.registers.frame.now.uniform.now) to.now ≡ true }
+        requires raws { (k : ℕ) → IsRaw (get_or rows.now k (pos 0)) }
+        requires long { length rows.now ≡ rows_of to.now * width }
+        requires wide { self.old.registers.frame.now.places ≤ width }
+        ensures kept { Kept self.old self.new }
+        ensures near { (g : Grid) → NearIn self.old g (state_of self.old) → NearIn self.old (loaded self.old.registers.frame.now.places width rows.now to.now 0 g) (state_of self.new) }
+    {
+        let mut start = 0;
+        for k in 0..to.len() {
+            self.load(to[k], rows, width, start);
+            start += height_of(shape_of(to[k])) * width;
+        }
+    }
+}

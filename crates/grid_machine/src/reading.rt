@@ -1,0 +1,100 @@
+// Operands found, and values computed of them.
+ghost use Rattle.std.specs.Prelude.{◌≡◌, ℕ, ◌<◌, ◌≤◌, true, length};
+ghost use Rattle.builtins.specs.Shapes.{shape as shape_of_value};
+ghost use Rattle.builtins.specs.declared.shape.Shape.{Shape as AnyShape};
+ghost use Rattle.grid_code.specs.Masked.{read, result_of};
+ghost use Rattle.grid_code.specs.Uses.{is_in, has, numbers_of};
+ghost use Rattle.grid_machine.specs.Banks.{size, held};
+ghost use Rattle.grid_machine.specs.Cells.{value_of};
+ghost use Rattle.grid_machine.specs.State.{rank, held_by, ground_of, texts_of, is_known, Full, SourceReady};
+ghost use Rattle.grid_machine.specs.Operands.{cell_at, operand_at, work_at, OperandIn, WorkIn};
+
+use crate::bank::Bank;
+use crate::cell::{Cell, Setting};
+use crate::machine::Registers;
+use crate::operand::{Operand, Work};
+use builtins::Shape;
+use fixed_math::Num;
+use grid_code::{Register, RegisterSet, Source};
+use sl_ast::Value;
+
+// The place of a register among those of its shape.
+#[tactic(auto, using(crate::proofs::Ranks::rank_found))]
+pub(crate) fn row_of(set: &RegisterSet, shape: Shape, number: u32) -> usize
+    requires { is_in set.now shape number ≡ true }
+    ensures below { result < length (numbers_of set.now shape) }
+    ensures value { result ≡ rank (numbers_of set.now shape) number }
+{
+    match set.index(shape, number) {
+        Some(row) => row,
+        None => unreachable!(),
+    }
+}
+
+impl Setting<'_> {
+    /// The cell of a value; its text is one of the run's.
+    pub fn cell(&self, value: &Value) -> Cell
+        requires { is_known self.now.texts.now value.now ≡ true }
+        ensures { value_of self.now.texts.now result ≡ value.now }
+    {
+        match value {
+            Value::Number(x) => Cell::Number(*x),
+            Value::Triple(t) => Cell::Triple(*t),
+            Value::Word(w) => Cell::Word(self.place_of(w)),
+        }
+    }
+}
+
+impl Registers<'_> {
+    /// Where a register's values stand.
+    pub fn operand(&self, register: Register) -> Operand
+        requires full { Full self.now }
+        requires has { has self.now.frame.now.varying.now self.now.frame.now.uniform.now register ≡ true }
+        ensures fits { OperandIn self.now result }
+        ensures same { (i : ℕ) → operand_at self.now result i ≡ read (held_by self.now) register i }
+    {
+        match register {
+            Register::Uniform(shape, number) => {
+                Operand::Shared(shape, row_of(self.frame.uniform, shape, number))
+            }
+            Register::Varying(shape, number) => Operand::Row(
+                shape,
+                row_of(self.frame.varying, shape, number) * self.frame.places,
+            ),
+        }
+    }
+
+    /// What is held at a place.
+    pub fn get(&self, operand: Operand, place: usize) -> Cell
+        requires fits { OperandIn self.now operand }
+        requires place { place < self.now.frame.now.places }
+        ensures { result ≡ cell_at self.now operand place }
+    {
+        match operand {
+            Operand::Row(shape, start) => self.rows.get(shape, start + place),
+            Operand::Shared(shape, at) => self.shared.get(shape, at),
+        }
+    }
+
+    /// What is computed at a place.
+    pub fn value(&self, work: &Work, place: usize) -> Cell
+        requires fits { WorkIn self.now work.now }
+        requires place { place < self.now.frame.now.places }
+        ensures { value_of (texts_of self.now) result ≡ work_at self.now work.now place }
+    {
+        let setting = &self.frame.setting;
+        match work {
+            Work::Constant(cell) => *cell,
+            Work::Copy(q) => self.get(*q, place),
+            Work::Into(shape, q) => setting.as_shape(*shape, &self.get(*q, place)),
+            Work::One(op, p) => setting.of_one(*op, &self.get(*p, place)),
+            Work::Two(op, p, q) => setting.of_two(*op, &self.get(*p, place), &self.get(*q, place)),
+            Work::Three(op, p, q, t) => setting.of_three(
+                *op,
+                &self.get(*p, place),
+                &self.get(*q, place),
+                &self.get(*t, place),
+            ),
+        }
+    }
+}

@@ -1,0 +1,69 @@
+// Rows that take the values of registers.
+ghost use Rattle.std.specs.Prelude.{◌≡◌, ℕ, ℤ, ◌+◌, ◌*◌, ◌<◌, ◌≤◌, pos, false, length, get_or, slice_set};
+ghost use Rattle.fixed_math.specs.Fixed.{IsRaw};
+ghost use Rattle.builtins.specs.declared.shape.Shape.TheVariants as shapes;
+ghost use Rattle.grid_code.specs.Masked.{read};
+ghost use Rattle.grid_code.specs.Names.{reg};
+ghost use Rattle.grid_machine.specs.Run.{value_in};
+ghost use Rattle.grid_machine.specs.State.{state_of, HasRegister, Whole};
+
+use crate::machine::Machine;
+use builtins::Shape;
+use fixed_math::{Num, Vec3};
+use grid_code::Register;
+
+/// Makes all elements 0.
+pub fn clear(rows: &mut [i64])
+    ensures long { length rows.new ≡ length rows.old }
+    ensures raws { (k : ℕ) → IsRaw (get_or rows.new k (pos 0)) }
+{
+    for k in 0..rows.len() {
+        rows[k] = 0;
+    }
+}
+
+fn set_raw(rows: &mut [i64], at: usize, x: Num)
+    requires { at < length rows.old }
+    ensures value { rows.new ≡ slice_set rows.old at x }
+    ensures raw { IsRaw x }
+{
+    rows[at] = x.raw();
+}
+
+// Writes a triple into an element of each of three rows.
+fn set_triple(rows: &mut [i64], width: usize, at: usize, t: Vec3)
+    requires room { at + 2 * width < length rows.old }
+    ensures value { rows.new ≡ slice_set (slice_set (slice_set rows.old at t.x) (at + width) t.y) (at + 2 * width) t.z }
+    ensures raws { IsRaw t.x × (IsRaw t.y × IsRaw t.z) }
+{
+    set_raw(rows, at, t.x);
+    set_raw(rows, at + width, t.y);
+    set_raw(rows, at + 2 * width, t.z);
+}
+
+impl Machine<'_> {
+    /// Writes the values of a register of triples into three rows from an element on.
+    pub fn unload(&self, from: u32, rows: &mut [i64], width: usize, start: usize)
+        requires whole { Whole self.now }
+        requires has { HasRegister self.now (reg false shapes.Triple from) }
+        requires room { start + 3 * width ≤ length rows.old }
+        requires wide { self.now.registers.frame.now.places ≤ width }
+        ensures long { length rows.new ≡ length rows.old }
+        ensures values { (i : ℕ) → i < self.now.registers.frame.now.places → value_in shapes.Triple rows.new width (start + i) ≡ read (state_of self.now) (reg false shapes.Triple from) i }
+        ensures before { (k : ℕ) → k < start → get_or rows.new k (pos 0) ≡ get_or rows.old k (pos 0) }
+        ensures raws { ((k : ℕ) → IsRaw (get_or rows.old k (pos 0))) → (k : ℕ) → IsRaw (get_or rows.new k (pos 0)) }
+    {
+        let operand = self
+            .registers
+            .operand(Register::Varying(Shape::Triple, from));
+        for place in 0..self.registers.frame.places {
+            let cell = self.registers.get(operand, place);
+            set_triple(
+                rows,
+                width,
+                start + place,
+                self.registers.frame.setting.triple(&cell),
+            );
+        }
+    }
+}

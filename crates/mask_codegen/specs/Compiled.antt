@@ -1,0 +1,32 @@
+-- A tree with a code that means it.
+use Rattle.std.specs.Prelude.{◌≡◌, ◌*◌, ◌<◌, ◌≤◌, Result, Ok, Err}
+use Rattle.sl_ast.specs.Registers.{rows_of}
+use Rattle.sl_ast.specs.Typed as T
+use Rattle.sl_ast.specs.TreeView.{tree_of}
+use Rattle.sl_ast.specs.declared.tree.Tree.{Tree}
+use Rattle.grid_code.specs.declared.shader_code.Code.{Code}
+use Rattle.grid_code.specs.Uses.{rows_in}
+use Rattle.grid_code.specs.View.{block_of}
+use Rattle.sl_meaning.specs.Lowered.{slots, body_of}
+use Rattle.mask_codegen.specs.declared.fault.CodeFault.{CodeFault}
+use Rattle.mask_codegen.specs.declared.fault.CodeFault.TheVariants.{M9, NoMemory}
+use Rattle.mask_codegen.specs.Correct.{Means}
+use Rattle.mask_codegen.specs.Slots.{slots_of}
+
+-- a code of a tree: of its kind, with its parameters, meaning its body, in at most sixteen rows for each one counted
+pub record IsCodeOf (t : T.Tree) (c : Code) : Type 0 where
+  pub kind : c.kind ≡ t.kind
+  pub params : slots_of c.params ≡ slots t.params
+  pub means : Means (body_of t) (slots t.params) (block_of c.nodes)
+  pub rows : rows_in c.varying ≤ 16 * rows_of t
+
+-- what is seen of a compiled tree
+pub record Seen : Type 0 where
+  pub tree : Tree
+  pub code : Code
+
+-- the tree with a code, or a fault exactly where the rows counted pass 4,096; nothing is said of want of memory
+abbrev pub Compiles : Tree → Result Seen CodeFault → Type 0
+Compiles t (Ok p) = (p.tree ≡ t) × (rows_of (tree_of t) ≤ 4096)
+Compiles t (Err M9) = 4096 < rows_of (tree_of t)
+Compiles t (Err NoMemory) = Unit {0}

@@ -1,0 +1,217 @@
+// How many rows of registers a tree counts.
+ghost use Rattle.std.specs.Prelude.{◌≡◌, ◌+◌, map, IfOk, OnOk};
+ghost use Rattle.sl_ast.specs.Typed.{exprs, stmts};
+ghost use Rattle.sl_ast.specs.TypedView.{tree_expr, tree_stmt, default_of};
+ghost use Rattle.sl_ast.specs.TreeView.{tree_of};
+ghost use Rattle.sl_ast.specs.Registers as spec;
+
+use fixed_math::NoMemory;
+use sl_ast::{ParamDefault, SlKind, Tree, TreeExpr, TreeStmt};
+use std::alloc::Global;
+use uniform_varying::{enter, enter_all, formal_classes, is_uniform, param_classes};
+
+fn row_unless(uniform: bool) -> u64
+    ensures { result ≡ spec.row_unless uniform }
+{
+    if uniform { 0 } else { 1 }
+}
+
+// A sum. No memory holds a tree whose rows pass 64 bits.
+fn plus(a: u64, b: u64) -> Result<u64, NoMemory>
+    ensures { IfOk result (λ n. n ≡ a + b) }
+{
+    match a.checked_add(b) {
+        Some(sum) => Ok(sum),
+        None => Err(NoMemory),
+    }
+}
+
+fn rows_of_classes(us: &[bool]) -> Result<u64, NoMemory>
+    ensures { IfOk result (λ n. n ≡ spec.rows_of_classes us.now) }
+{
+    let mut rows = 0;
+    for uniform in us {
+        rows = plus(rows, row_unless(*uniform))?;
+    }
+    Ok(rows)
+}
+
+// The varying predefined variables of a kind of shader.
+fn predefined_rows(kind: SlKind) -> u64
+    ensures { result ≡ spec.predefined_rows kind }
+{
+    match kind {
+        SlKind::Surface => 16,
+        SlKind::Displacement => 12,
+        SlKind::Light => 3,
+        SlKind::Volume => 4,
+    }
+}
+
+#[cycle(counted)]
+#[tactic(auto, using(sl_ast::proofs::TypedShown::apply_shown, sl_ast::proofs::TypedShown::call_shown))]
+fn rows_expr(e: &TreeExpr, alloc: Global, us: &[bool]) -> Result<u64, NoMemory>
+    ensures { IfOk result (λ n. n ≡ spec.rows (tree_expr e.now) us.now) }
+{
+    let own = row_unless(is_uniform(e, alloc, us)?);
+    match e {
+        TreeExpr::Number { .. } | TreeExpr::Word { .. } | TreeExpr::Variable { .. } => Ok(own),
+        TreeExpr::Apply { args, .. } => {
+            let operands = rows_args(args.as_slice(), alloc, us)?;
+            let rows = plus(own, operands)?;
+            Ok(rows)
+        }
+        TreeExpr::Call {
+            args,
+            formals,
+            body,
+            value,
+            ..
+        } => {
+            let passed = rows_args(args.as_slice(), alloc, us)?;
+            let mut inside = formal_classes(alloc, formals.as_slice())?;
+            let variables = rows_of_classes(&inside)?;
+            let ran = rows_stmts(body.as_slice(), alloc, &mut inside)?;
+            enter_all(body.as_slice(), &mut inside)?;
+            let returned = rows_expr(value, alloc, &inside)?;
+            let inner = plus(ran, returned)?;
+            let called = plus(variables, inner)?;
+            let rows = plus(passed, called)?;
+            let rows = plus(own, rows)?;
+            Ok(rows)
+        }
+    }
+}
+
+#[cycle(counted)]
+fn rows_args(args: &[TreeExpr], alloc: Global, us: &[bool]) -> Result<u64, NoMemory>
+    ensures { IfOk result (λ n. n ≡ spec.rows_args (exprs (map tree_expr args.now)) us.now) }
+{
+    let mut rows = 0;
+    for e in args {
+        let more = rows_expr(e, alloc, us)?;
+        rows = plus(rows, more)?;
+    }
+    Ok(rows)
+}
+
+#[cycle(counted)]
+#[tactic(auto, using(sl_ast::proofs::TypedShown::block_shown, sl_ast::proofs::TypedShown::group_shown, sl_ast::proofs::TypedShown::for_shown, sl_ast::proofs::TypedShown::lights_shown))]
+fn rows_stmt(s: &TreeStmt, alloc: Global, us: &mut Vec<bool>) -> Result<u64, NoMemory>
+    ensures rows { IfOk result (λ n. n ≡ spec.rows_stmt (tree_stmt s.now) us.old.items) }
+    ensures same { OnOk result (us.new.items ≡ us.old.items) }
+{
+    match s {
+        TreeStmt::Empty { .. } | TreeStmt::Break { .. } | TreeStmt::Continue { .. } => Ok(0),
+        TreeStmt::Block { body, .. } => {
+            let rows = rows_stmts(body.as_slice(), alloc, us)?;
+            Ok(rows)
+        }
+        TreeStmt::Group { body } => {
+            let rows = rows_stmts(body.as_slice(), alloc, us)?;
+            Ok(rows)
+        }
+        TreeStmt::Declare { uniform, value, .. } => {
+            let rows = rows_expr(value, alloc, us)?;
+            let rows = plus(row_unless(*uniform), rows)?;
+            Ok(rows)
+        }
+        TreeStmt::Start { uniform, .. } => Ok(row_unless(*uniform)),
+        TreeStmt::Set { value, .. } => {
+            let rows = rows_expr(value, alloc, us)?;
+            Ok(rows)
+        }
+        TreeStmt::If { test, then, .. } => {
+            let asked = rows_expr(test, alloc, us)?;
+            let a = rows_stmt(then, alloc, us)?;
+            let rows = plus(asked, a)?;
+            Ok(rows)
+        }
+        TreeStmt::IfElse {
+            test,
+            then,
+            otherwise,
+            ..
+        } => {
+            let asked = rows_expr(test, alloc, us)?;
+            let a = rows_stmt(then, alloc, us)?;
+            let b = rows_stmt(otherwise, alloc, us)?;
+            let branches = plus(a, b)?;
+            let rows = plus(asked, branches)?;
+            Ok(rows)
+        }
+        TreeStmt::While { test, body, .. } => {
+            let asked = rows_expr(test, alloc, us)?;
+            let turned = rows_stmt(body, alloc, us)?;
+            let rows = plus(asked, turned)?;
+            Ok(rows)
+        }
+        TreeStmt::For {
+            first,
+            test,
+            step,
+            body,
+            ..
+        } => {
+            let begun = rows_stmts(first.as_slice(), alloc, us)?;
+            let asked = rows_expr(test, alloc, us)?;
+            let stepped = rows_stmts(step.as_slice(), alloc, us)?;
+            let turned = rows_stmt(body, alloc, us)?;
+            let turn = plus(stepped, turned)?;
+            let turns = plus(asked, turn)?;
+            let rows = plus(begun, turns)?;
+            Ok(rows)
+        }
+        TreeStmt::Lights { args, body, .. } => {
+            let operands = rows_args(args.as_slice(), alloc, us)?;
+            let lit = rows_stmt(body, alloc, us)?;
+            let rows = plus(operands, lit)?;
+            Ok(rows)
+        }
+    }
+}
+
+// The rows of statements, where the variables in scope have these classes.
+#[cycle(counted)]
+#[tactic(auto, using(uniform_varying::proofs::Scopes::after_kept, uniform_varying::proofs::Scopes::all_kept))]
+fn rows_stmts(body: &[TreeStmt], alloc: Global, us: &mut Vec<bool>) -> Result<u64, NoMemory>
+    ensures rows { IfOk result (λ n. n ≡ spec.rows_stmts (stmts (map tree_stmt body.now)) us.old.items) }
+    ensures same { OnOk result (us.new.items ≡ us.old.items) }
+{
+    let start = us.len();
+    let mut rows = 0;
+    for s in body {
+        let more = rows_stmt(s, alloc, us)?;
+        rows = plus(rows, more)?;
+        enter(s, us)?;
+    }
+    us.truncate(start);
+    Ok(rows)
+}
+
+// The rows of the defaults, which see no variable.
+fn rows_defaults(alloc: Global, defaults: &[ParamDefault]) -> Result<u64, NoMemory>
+    ensures { IfOk result (λ n. n ≡ spec.rows_defaults (map default_of defaults.now)) }
+{
+    let mut rows = 0;
+    for default in defaults {
+        let more = rows_expr(&default.value, alloc, &[])?;
+        rows = plus(rows, more)?;
+    }
+    Ok(rows)
+}
+
+/// How many rows of registers a tree counts: one for each varying parameter, local variable and formal of a call, each
+/// varying predefined variable of its kind, and each varying expression. The one refusal is want of memory.
+pub fn rows(alloc: Global, tree: &Tree) -> Result<u64, NoMemory>
+    ensures { IfOk result (λ n. n ≡ spec.rows_of (tree_of tree.now)) }
+{
+    let mut us = param_classes(alloc, tree.params.as_slice())?;
+    let params = rows_of_classes(&us)?;
+    let defaults = rows_defaults(alloc, tree.defaults.as_slice())?;
+    let body = rows_stmts(tree.body.as_slice(), alloc, &mut us)?;
+    let written = plus(defaults, body)?;
+    let declared = plus(params, written)?;
+    let rows = plus(predefined_rows(tree.kind), declared)?;
+    Ok(rows)
+}
