@@ -23,3 +23,6 @@ mod Ends
 mod Views
 mod Totals
 mod Lit
+mod Answering
+mod Fitting
+mod Level

@@ -76,14 +76,17 @@ module _ (p : Register → Bool) where
     pub kind_pass : list_all p (kind_registers kind) ≡ true
     kind_pass = first_passes (kind_registers kind) (registers_from first_free params) h
 
+    pub params_all_pass : list_all p (registers_from first_free params) ≡ true
+    params_all_pass = second_passes (kind_registers kind) (registers_from first_free params) h
+
     pub names_pass : list_all p (names_at kind) ≡ true
-    names_pass = kind_names kind (first_passes (kind_registers kind) (registers_from first_free params) h)
+    names_pass = kind_names kind kind_pass
 
     pub uniforms_pass : list_all p (uniform_inputs kind params) ≡ true
-    uniforms_pass = joined_passes _ _ (params_pass true first_free params (second_passes (kind_registers kind) (registers_from first_free params) h)) (steps_pass kind names_pass)
+    uniforms_pass = joined_passes _ _ (params_pass true first_free params params_all_pass) (steps_pass kind names_pass)
 
     pub varyings_pass : list_all p (varying_inputs kind params) ≡ true
-    varyings_pass = joined_passes _ _ (params_pass false first_free params (second_passes (kind_registers kind) (registers_from first_free params) h)) (given_pass kind names_pass)
+    varyings_pass = joined_passes _ _ (params_pass false first_free params params_all_pass) (given_pass kind names_pass)
 
     pub written_pass : list_all p (written_names kind) ≡ true
     written_pass = filtered_pass (λ row. row.written) (variables kind) (right (p (name_at names.Pi)) _ names_pass)

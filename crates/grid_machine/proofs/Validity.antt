@@ -14,7 +14,7 @@ use Rattle.grid_code.specs.declared.code.Register.{Register}
 use Rattle.grid_code.specs.Names.{name_at, lit_at}
 use Rattle.sl_ast.specs.declared.typed.Value.{Value}
 use Rattle.sl_ast.specs.declared.typed.Value.TheVariants as values
-use Rattle.sl_ast.specs.Names.{has_surface, is_surface, has_lights}
+use Rattle.sl_ast.specs.Names.{has_surface, is_surface, is_light, has_lights}
 use Rattle.grid_code.specs.declared.code.Source.{Source}
 use Rattle.grid_code.specs.declared.code.Source.TheVariants.{Constant, Copy, Into, Apply}
 use Rattle.grid_code.specs.declared.register_set.RegisterSet.{RegisterSet}
@@ -24,22 +24,15 @@ use Rattle.grid_code.specs.Shapes.{register_class, register_shape, difference_sh
 use Rattle.grid_code.specs.Uses.{has, within, source_within, names_at, kind_registers}
 use Rattle.grid_code.specs.Valid.{is_placed, has_operands, at_most_three}
 use Rattle.grid_code.proofs.Both.{both, left, right}
-use Rattle.grid_machine.specs.Texts.{texts_of, texts_of_all, texts_of_source, texts_in}
+use Rattle.grid_machine.specs.Texts.{texts_of, texts_of_all, texts_of_source, texts_in, is_in_texts, Holds}
 use Rattle.grid_machine.specs.State.{Ready, is_known, source_known, lights_registers}
 use Rattle.grid_machine.proofs.Writes.{shape_eq}
 use Rattle.grid_machine.proofs.Texts.{same_bytes}
 use Rattle.grid_machine.proofs.Loads.{item_passes}
 
-abbrev pub is_in_texts : List (List ℕ) → List ℕ → Bool
-is_in_texts ts w = list_any (λ t. bytes_eq t w) ts
-
 in_now : (ts : List (Bor (List ℕ))) (w : List ℕ) → is_in_texts (map (λ t. t.now) ts) w ≡ list_any (λ t. bytes_eq t.now w) ts
 in_now [] w = refl
 in_now (t ∷ ts) w = ap (λ b. bytes_eq t.now w || b) (in_now ts w)
-
--- a list of texts holds those of another one
-abbrev pub Holds : List (Bor (List ℕ)) → List (List ℕ) → Type 0
-Holds ts xs = (w : List ℕ) → is_in_texts xs w ≡ true → list_any (λ t. bytes_eq t.now w) ts ≡ true
 
 or_left : (a b : Bool) → a ≡ true → (a || b) ≡ true
 or_left true b h = refl
@@ -117,6 +110,16 @@ lights_pass p kinds.Displacement Solar e h = absurd (true≢false (sym e))
 lights_pass p kinds.Volume Illuminance e h = absurd (true≢false (sym e))
 lights_pass p kinds.Volume Illuminate e h = absurd (true≢false (sym e))
 lights_pass p kinds.Volume Solar e h = absurd (true≢false (sym e))
+
+pub light_registers_pass : (p : Register → Bool) (k : SlKind) → is_light k ≡ true → list_all p (kind_registers k) ≡ true → (p (name_at names.L) ≡ true) × ((p (name_at names.Cl) ≡ true) × ((p lit_at ≡ true) × (p (name_at names.Ps) ≡ true)))
+light_registers_pass p kinds.Light e h =
+    let all = kind_registers kinds.Light in (
+      item_passes p all 4 (name_at names.Pi) (omega arith) h,
+      (item_passes p all 5 (name_at names.Pi) (omega arith) h, (item_passes p all 0 (name_at names.Pi) (omega arith) h, item_passes p all 2 (name_at names.Pi) (omega arith) h)),
+    )
+light_registers_pass p kinds.Surface e h = absurd (true≢false (sym e))
+light_registers_pass p kinds.Displacement e h = absurd (true≢false (sym e))
+light_registers_pass p kinds.Volume e h = absurd (true≢false (sym e))
 
 module _ (v u : RegisterSet) (ts : List (Bor (List ℕ))) (k : SlKind) (all : list_all (has v u) (kind_registers k) ≡ true) where
   pub ready_of : (l c : Bool) (x : Block) → within (has v u) x ≡ true → is_placed k l c x ≡ true → Holds ts (texts_in x) → Ready v u ts x

@@ -1,11 +1,11 @@
 -- What lights answer: the code of each runs at all places at once, with the points in Ps, budgets of its own, all places live, and no lights.
-use Rattle.std.specs.Prelude.{ℕ, pos, Bool, true, false, cond, List, [], map, ◌≡◌}
+use Rattle.std.specs.Prelude.{ℕ, Bool, true, false, cond, List, [], map, ◌≡◌}
 use Rattle.std.specs.List.{range_with_len}
 use Rattle.fixed_math.specs.declared.vec3.Vec3.{Vec3}
 use Rattle.transforms.specs.declared.spaces.Spaces.{Spaces}
 use Rattle.sl_ast.specs.declared.kinds.Predefined.TheVariants as names
 use Rattle.sl_ast.specs.declared.typed.Value.{Value}
-use Rattle.sl_ast.specs.declared.typed.Value.TheVariants.{Number, Triple}
+use Rattle.sl_ast.specs.declared.typed.Value.TheVariants.{Triple}
 use Rattle.sl_ast.specs.Names.{is_light}
 use Rattle.builtins.specs.Differences.{Lines}
 use Rattle.builtins.specs.Lights.{Light, ambient, unlit, lit}

@@ -6,3 +6,5 @@ pub mod Run
 pub mod Asked
 pub mod Seen
 pub mod Texts
+pub mod Fits
+pub mod Lamps

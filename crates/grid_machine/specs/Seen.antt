@@ -25,6 +25,11 @@ light_of (answers.Ambient cl) = lights.ambient cl
 light_of answers.Unlit = lights.unlit
 light_of (answers.Lit l cl) = lights.lit l cl
 
+-- what a light answers by its class, by whether it is lit, its direction and its colour
+abbrev pub answered_by : Bool → Bool → Vec3 → Vec3 → Light
+answered_by true lit l cl = lights.ambient cl
+answered_by false lit l cl = cond lit (lights.lit l cl) lights.unlit
+
 -- a direction lies in a cone at a place
 abbrev pub cone_at : Cone → ℕ → Vec3 → Bool
 cone_at cone i l = cond cone.given (int_le (cos (get_or cone.angle.at i (pos 0))) (facing l (get_or cone.axis.at i origin))) true

@@ -58,7 +58,7 @@ state_of m =
     }
 
 abbrev pub lines_of : Frame → Lines
-lines_of f = record { columns = f.columns; rows = f.rows; du = f.du; dv = f.dv }
+lines_of f = record { columns = f.columns; rows = f.rows; du = f.steps.now.du; dv = f.steps.now.dv }
 
 abbrev pub ground_of : Frame → Ground
 ground_of f = record { lines = lines_of f; spaces = f.setting.spaces.now; lights = [] }

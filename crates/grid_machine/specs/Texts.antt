@@ -1,5 +1,8 @@
 -- The texts of values and of the constants of code.
-use Rattle.std.specs.Prelude.{ℕ, List, [], ◌∷◌, ◌++◌}
+use Rattle.std.specs.Prelude.{ℕ, Bool, true, List, [], ◌∷◌, ◌++◌, ◌≡◌}
+use Rattle.std.specs.Borrow.{Bor}
+use Rattle.std.specs.List.{list_any}
+use Rattle.std.specs.Str.{bytes_eq}
 use Rattle.sl_ast.specs.declared.typed.Value.{Value}
 use Rattle.sl_ast.specs.declared.typed.Value.TheVariants.{Word}
 use Rattle.grid_code.specs.declared.code.Source.{Source}
@@ -28,3 +31,10 @@ texts_in (loops u d t e a x) = texts_in d ++ (texts_in e ++ (texts_in a ++ texts
 texts_in (lights w qs a x) = texts_in a ++ texts_in x
 texts_in (breaks x) = texts_in x
 texts_in (continues x) = texts_in x
+
+abbrev pub is_in_texts : List (List ℕ) → List ℕ → Bool
+is_in_texts ts w = list_any (λ t. bytes_eq t w) ts
+
+-- a list of texts holds those of another one
+abbrev pub Holds : List (Bor (List ℕ)) → List (List ℕ) → Type 0
+Holds ts xs = (w : List ℕ) → is_in_texts xs w ≡ true → list_any (λ t. bytes_eq t.now w) ts ≡ true

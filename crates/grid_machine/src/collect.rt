@@ -1,12 +1,12 @@
 // The texts of a run.
-ghost use Rattle.std.specs.Prelude.{◌≡◌, ◌++◌, OnOk, map};
+ghost use Rattle.std.specs.Prelude.{◌≡◌, ◌++◌, IfOk, OnOk, map};
 ghost use Rattle.grid_code.specs.Code.{end};
 ghost use Rattle.grid_code.specs.View.{with_node, block_of};
 ghost use Rattle.grid_machine.specs.Texts as spec;
 
 use bumpalo::Bump;
 use fixed_math::{NoMemory, Text};
-use grid_code::{Node, Source};
+use grid_code::{Code, Node, Source};
 use sl_ast::Value;
 
 fn collect_value<'a>(value: &'a Value, texts: &mut Vec<&'a Text, &'a Bump>) -> Result<(), NoMemory>
@@ -19,8 +19,8 @@ fn collect_value<'a>(value: &'a Value, texts: &mut Vec<&'a Text, &'a Bump>) -> R
     Ok(())
 }
 
-/// Adds the texts of values.
-pub fn collect_values<'a>(
+// Adds the texts of values.
+fn collect_values<'a>(
     values: &'a [Value],
     texts: &mut Vec<&'a Text, &'a Bump>,
 ) -> Result<(), NoMemory>
@@ -32,9 +32,9 @@ pub fn collect_values<'a>(
     Ok(())
 }
 
-/// Adds the texts of the constants of a block.
+// Adds the texts of the constants of a block.
 #[cycle(collect)]
-pub fn collect<'a>(nodes: &'a [Node], texts: &mut Vec<&'a Text, &'a Bump>) -> Result<(), NoMemory>
+fn collect<'a>(nodes: &'a [Node], texts: &mut Vec<&'a Text, &'a Bump>) -> Result<(), NoMemory>
     ensures { OnOk result (map (λ t. t.now) texts.new.items ≡ map (λ t. t.now) texts.old.items ++ spec.texts_in (block_of nodes.now)) }
 {
     for node in nodes {
@@ -75,4 +75,18 @@ fn collect_node<'a>(node: &'a Node, texts: &mut Vec<&'a Text, &'a Bump>) -> Resu
         Node::Differ { .. } | Node::Sum { .. } | Node::Break | Node::Continue => (),
     }
     Ok(())
+}
+
+/// The texts of values and of the constants of code.
+pub fn gather<'a>(
+    arena: &'a Bump,
+    values: &'a [Value],
+    code: &'a Code,
+) -> Result<Vec<&'a Text, &'a Bump>, NoMemory>
+    ensures { IfOk result (λ ts. map (λ t. t.now) ts.items ≡ spec.texts_of_all values.now ++ spec.texts_in (block_of code.now.nodes)) }
+{
+    let mut texts = Vec::new(arena);
+    collect_values(values, &mut texts)?;
+    collect(code.nodes.as_slice(), &mut texts)?;
+    Ok(texts)
 }

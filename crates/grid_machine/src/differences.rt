@@ -63,7 +63,7 @@ impl Registers<'_> {
         requires place { place < self.now.frame.now.places }
         ensures { value_of (texts_of self.now) result ≡ spec.along_u (lines_of self.now.frame.now) (operand_at self.now of) place }
     {
-        let (setting, step) = (&self.frame.setting, self.frame.du);
+        let (setting, step) = (&self.frame.setting, self.frame.steps.du);
         if place % self.frame.columns + 1 < self.frame.columns {
             setting.slope(step, &self.get(of, place + 1), &self.get(of, place))
         } else {
@@ -79,7 +79,7 @@ impl Registers<'_> {
         ensures { value_of (texts_of self.now) result ≡ spec.along_v (lines_of self.now.frame.now) (operand_at self.now of) place }
     {
         let columns = self.frame.columns;
-        let (setting, step) = (&self.frame.setting, self.frame.dv);
+        let (setting, step) = (&self.frame.setting, self.frame.steps.dv);
         if place / columns + 1 < self.frame.rows {
             setting.slope(step, &self.get(of, place + columns), &self.get(of, place))
         } else {

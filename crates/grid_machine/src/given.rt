@@ -1,6 +1,7 @@
 // The registers that a run gives values.
 ghost use Rattle.std.specs.Prelude.{◌≡◌, ◌++◌, IfOk};
 ghost use Rattle.grid_code.specs.Names.{reg, first_free};
+ghost use Rattle.grid_code.specs.Uses.{registers_from};
 ghost use Rattle.grid_machine.specs.Run as spec;
 
 use builtins::{Shape, shape_of};
@@ -100,5 +101,20 @@ pub fn inputs<'a>(
         }
     }
     registers.extend_from_slice(others)?;
+    Ok(registers)
+}
+
+/// The registers of all parameters in order. More parameters than registers can be numbered are want of memory.
+pub fn parameters<'a>(arena: &'a Bump, params: &[Slot]) -> Result<Vec<Register, &'a Bump>, NoMemory>
+    ensures { IfOk result (λ v. v.items ≡ registers_from first_free params.now) }
+{
+    let mut registers = Vec::new(arena);
+    for n in 0..params.len() {
+        let Ok(number) = u32::try_from(n + 22) else {
+            return Err(NoMemory);
+        };
+        let slot = &params[n];
+        registers.push(register(slot.uniform, shape_of(slot.kind), number))?;
+    }
     Ok(registers)
 }

@@ -5,6 +5,7 @@
 #![tactic(auto)]
 
 mod answers;
+mod asking;
 mod bank;
 mod blocks;
 mod call;
@@ -21,6 +22,8 @@ mod illumination;
 mod inputs;
 mod instruction;
 mod known;
+mod lamp;
+mod lamps;
 mod leaving;
 mod lighting;
 mod loading;

@@ -132,8 +132,8 @@ impl Machine<'_> {
         points.minus(&self.points(place), self.registers.frame.places)
     }
 
-    // A varying register takes triples.
-    fn set_triples(&mut self, number: u32, row: &Points)
+    /// A varying register takes triples.
+    pub(crate) fn set_triples(&mut self, number: u32, row: &Points)
         requires whole { Whole self.old }
         requires has { HasRegister self.old (reg false shapes.Triple number) }
         ensures kept { Kept self.old self.new }

@@ -1,10 +1,7 @@
-use Rattle.std.proofs.Common.{refl, ℕ, List, pos, subst}
+use Rattle.std.proofs.Common.{refl, ℕ, List, subst}
 use Rattle.sl_ast.specs.Variables.{variables}
-use Rattle.sl_ast.specs.declared.kinds.Predefined.TheVariants as names
-use Rattle.sl_ast.specs.declared.typed.Value.TheVariants as values
 use Rattle.grid_code.specs.declared.code.Register.{Register}
-use Rattle.grid_code.specs.Masked.{write, masked, State as Grid}
-use Rattle.grid_code.specs.Names.{name_at}
+use Rattle.grid_code.specs.Masked.{masked, State as Grid}
 use Rattle.grid_code.specs.View.{block_of}
 use Rattle.grid_machine.specs.Run.{uniform_inputs, varying_inputs, assigned, loaded, started, fresh}
 use Rattle.grid_machine.specs.State.{state_of, lit_ground, NearIn}

@@ -1,18 +1,17 @@
-use Rattle.std.proofs.Common.{◌≡◌, ◌<◌, pos, true, sym, subst, arith, ⊎_elim}
+use Rattle.std.proofs.Common.{◌≡◌, ◌<◌, true, sym, subst, arith, ⊎_elim}
 use Rattle.std.specs.List.{list_all}
 use Rattle.sl_ast.specs.Variables.{variables}
 use Rattle.sl_ast.specs.declared.kinds.SlKind.{SlKind}
 use Rattle.sl_ast.specs.declared.kinds.SlKind.TheVariants.{Surface, Displacement, Light, Volume}
 use Rattle.sl_ast.specs.declared.kinds.Predefined.TheVariants as names
-use Rattle.sl_ast.specs.declared.typed.Value.TheVariants as values
 use Rattle.grid_code.specs.Masked.{read, write, State as Grid}
 use Rattle.grid_code.specs.Names.{name_at}
 use Rattle.grid_code.specs.Uses.{has, names_at}
 use Rattle.grid_machine.specs.Run.{started}
 use Rattle.grid_machine.specs.State.{state_of, NearIn}
-use Rattle.grid_machine.proofs.Kept.{kept_on, written_kept}
+use Rattle.grid_machine.proofs.Kept.{written_kept}
 use Rattle.grid_machine.proofs.Loads.{item_passes}
-use Rattle.grid_machine.proofs.Starts.{value_written, copy_written}
+use Rattle.grid_machine.proofs.Starts.{copy_written}
 use Rattle.grid_machine.proofs.machine.Machine.start.Goals as goal
 
 pub returns-in-Surface-clause-near : goal.returns-in-Surface-clause-near

@@ -1,0 +1,34 @@
+-- What a light's code asks of a machine that fits it.
+use Rattle.std.proofs.Common.{◌≡◌, true, false, List, ◌++◌, map, sym, subst}
+use Rattle.std.specs.List.{list_all}
+use Rattle.sl_ast.specs.declared.typed.Value.{Value}
+use Rattle.grid_code.specs.declared.code.Register.{Register}
+use Rattle.grid_code.specs.declared.shader_code.Code.{Code}
+use Rattle.grid_code.specs.Names.{first_free}
+use Rattle.grid_code.specs.Uses.{has, kind_registers, registers_from, given_registers, within}
+use Rattle.grid_code.specs.View.{block_of}
+use Rattle.grid_machine.specs.declared.frame.Frame.{Frame}
+use Rattle.grid_machine.specs.Asked.{IsLight}
+use Rattle.grid_machine.specs.Fits.{Fits}
+use Rattle.grid_machine.specs.State.{Ready}
+use Rattle.grid_machine.specs.Texts.{texts_of_all, texts_in}
+use Rattle.grid_machine.proofs.Names.{kind_pass, params_all_pass}
+use Rattle.grid_machine.proofs.Validity.{holds_own, values_known, ready_of}
+
+-- a frame of the code's registers, and of the texts of its values and constants
+pub fits_of : (f g : Frame) (code : Code) (rs : List Register) (vs : List Value) → f ≡ g → IsLight code vs → rs ≡ registers_from first_free code.params → list_all (has g.varying.now g.uniform.now) (given_registers code.kind code.params) ≡ true → within (has g.varying.now g.uniform.now) (block_of code.nodes) ≡ true → map (λ t. t.now) g.setting.texts.now ≡ texts_of_all vs ++ texts_in (block_of code.nodes) → Fits f code rs vs
+fits_of f g code rs vs e light registers given named is =
+    let ts = g.setting.texts.now in
+    let held = holds_own ts (texts_of_all vs) (texts_in (block_of code.nodes)) is in
+    subst (λ x. Fits x code rs vs) (sym e)
+    record { light = light; registers = registers; given = given; named = named; known = values_known ts vs held.0; texts = held.1 }
+
+module _ (f : Frame) (code : Code) (rs : List Register) (vs : List Value) (fits : Fits f code rs vs) where
+  pub fitting_has : list_all (has f.varying.now f.uniform.now) rs ≡ true
+  fitting_has = subst (λ xs. list_all (has f.varying.now f.uniform.now) xs ≡ true) (sym fits.registers) (params_all_pass (has f.varying.now f.uniform.now) code.kind code.params fits.given)
+
+  pub fitting_names : list_all (has f.varying.now f.uniform.now) (kind_registers code.kind) ≡ true
+  fitting_names = kind_pass (has f.varying.now f.uniform.now) code.kind code.params fits.given
+
+  pub fitting_ready : Ready f.varying.now f.uniform.now f.setting.texts.now (block_of code.nodes)
+  fitting_ready = ready_of f.varying.now f.uniform.now f.setting.texts.now code.kind fitting_names false true (block_of code.nodes) fits.named code.placed fits.texts

@@ -1,0 +1,46 @@
+use Rattle.std.proofs.Common.{◌≡◌, ℕ, ◌<◌, [], get_or, refl, sym, ap, ◌∙◌, subst}
+use Rattle.std.specs.Prelude.{not}
+use Rattle.fixed_math.specs.Axes.{origin}
+use Rattle.sl_ast.specs.declared.kinds.Predefined.TheVariants as names
+use Rattle.sl_ast.specs.declared.typed.Value.{Value}
+use Rattle.sl_ast.specs.declared.typed.Value.TheVariants.{Triple}
+use Rattle.grid_code.specs.Masked.{State, write, masked}
+use Rattle.grid_code.specs.Names.{name_at, first_free}
+use Rattle.grid_code.specs.Uses.{registers_from}
+use Rattle.grid_code.specs.View.{block_of}
+use Rattle.grid_machine.specs.Asked.{begun_at, answer_at}
+use Rattle.grid_machine.specs.Run.{assigned, fresh}
+use Rattle.grid_machine.specs.State.{state_of, lit_ground}
+use Rattle.grid_machine.proofs.Answering.{answer_near, class_is}
+use Rattle.grid_machine.proofs.Kept.{kept_on, runs_kept, NearBy, StepsBy}
+use Rattle.grid_machine.proofs.Validity.{light_registers_pass}
+use Rattle.grid_machine.proofs.machine.Machine.asked.Goals as goal
+
+pub returns-clause-each : goal.returns-clause-each
+returns-clause-each c q e i l =
+    let code = c.args.code.now in
+    let values = c.args.values.now in
+    let m0 = c.args.self.now in
+    let m1 = c.reset.new.self in
+    let m2 = c.assign_all.new.self in
+    let m4 = c.set_triples.new.self in
+    let m5 = c.run_block.new.m in
+    let f = m0.registers.frame in
+    let p = f.now.places in
+    let v = f.now.varying.now in
+    let u = f.now.uniform.now in
+    let k1 = c.reset.ensures.kept in
+    let k2 = kept_on m0 m1 m2 k1 c.assign_all.ensures.kept in
+    let k4 = kept_on m0 m2 m4 k2 c.set_triples.ensures.kept in
+    let k5 = kept_on m0 m4 m5 k4 c.run_block.ensures.kept in
+    let regs = registers_from first_free code.params in
+    let g2 : State = assigned p regs values fresh in
+    let n2 = subst (λ rs. NearBy f (assigned p rs values fresh) (state_of m2)) c.requires.registers (subst (λ x. (g : State) → NearBy x g (state_of m1) → NearBy x (assigned x.now.places c.args.registers.now values g) (state_of m2)) k1.frame c.assign_all.ensures.near fresh c.reset.ensures.near) in
+    let n4 = subst (λ x. (g : State) (h : ℕ → Value) → NearBy x g (state_of m2) → ((j : ℕ) → j < x.now.places → h j ≡ Triple (get_or c.args.points.now.at j origin)) → NearBy x (write x.now.places (name_at names.Ps) h g) (state_of m4)) k2.frame c.set_triples.ensures.near g2 (λ j. Triple (q j)) n2 (λ j b. ap (λ t. Triple t) (e j b)) in
+    let run = subst (λ ns. StepsBy [] f 65536 (block_of ns) (state_of m4) (state_of m5)) c.as_slice.ensures (runs_kept [] [] m0 m4 m5 65536 (block_of c.as_slice.result.now) k4 refl c.run_block.ensures.masked) in
+    let g5 : State = masked (block_of code.nodes) (lit_ground [] f.now) p 65536 (begun_at code.params p values q) in
+    let n5 = run (begun_at code.params p values q) n4 in
+    let has_all = light_registers_pass _ code.kind c.requires.light.kind c.requires.names in
+    c.left.ensures i (subst (λ x. i < x.now.places) (sym k5.frame) l)
+    ∙ answer_near p v u g5 (state_of m5) i (not code.ambient) n5 l has_all.0 has_all.1.0 has_all.1.1.0
+    ∙ ap (λ b. answer_at b g5 i) (class_is code.kind (block_of code.nodes) code.ambient c.requires.light.kind code.lit)

@@ -1,0 +1,94 @@
+// Lights asked at points.
+ghost use Rattle.std.specs.Prelude.{◌≡◌, ℕ, ◌<◌, true, false, not, length, get_or};
+ghost use Rattle.std.specs.List.{list_all};
+ghost use Rattle.fixed_math.specs.Axes.{origin};
+ghost use Rattle.fixed_math.specs.declared.vec3.Vec3.{Vec3 as AnyVec3};
+ghost use Rattle.sl_ast.specs.declared.kinds.Predefined.TheVariants as names;
+ghost use Rattle.grid_code.specs.Names.{name_at, lit_at, first_free};
+ghost use Rattle.grid_code.specs.Uses.{has, registers_from, kind_registers};
+ghost use Rattle.grid_code.specs.View.{block_of};
+ghost use Rattle.grid_machine.specs.declared.answers.Answer.TheVariants as answered;
+ghost use Rattle.grid_machine.specs.Asked.{IsLight, answer_at, asked};
+ghost use Rattle.grid_machine.specs.Seen.{light_of, answered_by};
+ghost use Rattle.grid_machine.specs.State.{state_of, lines_of, texts_of, is_known, HasRegister, ReadyIn, Whole, Kept};
+
+use crate::answers::{Answer, Answers};
+use crate::blocks::run_block;
+use crate::illumination::Dark;
+use crate::machine::Machine;
+use crate::points::Points;
+use builtins::Shape;
+use fixed_math::Vec3;
+use grid_code::{Code, Register};
+use sl_ast::Value;
+
+// The answer of a light by what its code left: its colour where it is ambient, else its direction and colour where it is lit.
+fn answer(ambient: bool, lit: bool, direction: &Vec3, colour: &Vec3) -> Answer
+    ensures { light_of result ≡ answered_by ambient lit direction.now colour.now }
+{
+    if ambient {
+        Answer::Ambient(*colour)
+    } else if lit {
+        Answer::Lit(*direction, *colour)
+    } else {
+        Answer::Unlit
+    }
+}
+
+impl Answers {
+    // No light.
+    fn none() -> Answers
+        ensures { length result.at ≡ 289 }
+    {
+        Answers {
+            at: [Answer::Unlit; 289],
+        }
+    }
+}
+
+impl Machine<'_> {
+    // What a light's code has left at each place.
+    fn left(&self, ambient: bool) -> Answers
+        requires whole { Whole self.now }
+        requires direction { HasRegister self.now (name_at names.L) }
+        requires colour { HasRegister self.now (name_at names.Cl) }
+        requires lit { HasRegister self.now lit_at }
+        ensures { (i : ℕ) → i < self.now.registers.frame.now.places → light_of (get_or result.at i answered.Unlit) ≡ answer_at (not ambient) (state_of self.now) i }
+    {
+        let directions = self.points(Register::Varying(Shape::Triple, 15));
+        let colours = self.points(Register::Varying(Shape::Triple, 16));
+        let lit = self.tests(Register::Varying(Shape::Number, 21));
+        let mut answers = Answers::none();
+        for place in 0..self.registers.frame.places {
+            let (direction, colour) = (directions.get(place), colours.get(place));
+            answers.at[place] = answer(ambient, lit.places[place], &direction, &colour);
+        }
+        answers
+    }
+
+    /// Runs a light's code at points, and says what it answers there.
+    pub fn asked(
+        &mut self,
+        code: &Code,
+        registers: &[Register],
+        values: &[Value],
+        points: &Points,
+    ) -> Answers
+        requires whole { Whole self.old }
+        requires light { IsLight code.now values.now }
+        requires registers { registers.now ≡ registers_from first_free code.now.params }
+        requires has { list_all (has self.old.registers.frame.now.varying.now self.old.registers.frame.now.uniform.now) registers.now ≡ true }
+        requires names { list_all (has self.old.registers.frame.now.varying.now self.old.registers.frame.now.uniform.now) (kind_registers code.now.kind) ≡ true }
+        requires known { list_all (is_known (texts_of self.old.registers)) values.now ≡ true }
+        requires ready { ReadyIn self.old (block_of code.now.nodes) }
+        ensures kept { Kept self.old self.new }
+        ensures each { (q : ℕ → AnyVec3) → ((i : ℕ) → i < self.old.registers.frame.now.places → q i ≡ get_or points.now.at i origin) → (i : ℕ) → i < self.old.registers.frame.now.places → light_of (get_or result.at i answered.Unlit) ≡ asked (lines_of self.old.registers.frame.now) self.old.registers.frame.now.places self.old.registers.frame.now.setting.spaces.now code.now values.now q i }
+    {
+        self.reset();
+        self.assign_all(registers, values);
+        self.set_triples(19, points);
+        let places = self.registers.frame.places;
+        run_block(code.nodes.as_slice(), self, &mut Dark { places }, 65536);
+        self.left(code.ambient)
+    }
+}
