@@ -59,3 +59,4 @@ pub mod TreeCode
 pub mod Lighting
 pub mod ParamSlots
 pub mod Assembled
+pub mod ParamTexts

@@ -1,23 +1,29 @@
 -- A tree with a code that means it.
 use Rattle.std.specs.Prelude.{◌≡◌, ◌*◌, ◌<◌, ◌≤◌, Result, Ok, Err}
 use Rattle.sl_ast.specs.Registers.{rows_of}
+use Rattle.sl_ast.specs.Settled.{IsSettled}
 use Rattle.sl_ast.specs.Typed as T
 use Rattle.sl_ast.specs.TreeView.{tree_of}
 use Rattle.sl_ast.specs.declared.tree.Tree.{Tree}
 use Rattle.grid_code.specs.declared.shader_code.Code.{Code}
 use Rattle.grid_code.specs.Uses.{rows_in}
+use Rattle.grid_code.specs.Valid.{has_light_statement}
 use Rattle.grid_code.specs.View.{block_of}
 use Rattle.sl_meaning.specs.Lowered.{slots, body_of}
+use Rattle.sl_meaning.specs.Runs.{lights_in_all}
 use Rattle.mask_codegen.specs.declared.fault.CodeFault.{CodeFault}
 use Rattle.mask_codegen.specs.declared.fault.CodeFault.TheVariants.{M9, NoMemory}
 use Rattle.mask_codegen.specs.Correct.{Means}
 use Rattle.mask_codegen.specs.Slots.{slots_of}
 
--- a code of a tree: of its kind, with its parameters, meaning its body, in at most sixteen rows for each one counted
+-- a code of a settled tree: of its kind, with its parameters, meaning its body, with a statement over lights where the tree has one, in at most
+-- sixteen rows for each one counted
 pub record IsCodeOf (t : T.Tree) (c : Code) : Type 0 where
   pub kind : c.kind ≡ t.kind
   pub params : slots_of c.params ≡ slots t.params
   pub means : Means (body_of t) (slots t.params) (block_of c.nodes)
+  pub settled : IsSettled t
+  pub lights : has_light_statement (block_of c.nodes) ≡ lights_in_all (body_of t)
   pub rows : rows_in c.varying ≤ 16 * rows_of t
 
 -- what is seen of a compiled tree

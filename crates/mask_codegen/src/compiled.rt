@@ -84,8 +84,8 @@ impl Compiled {
         self.tree.params.as_slice()
     }
 
-    /// The code, which is one of the tree: of its kind, with its parameters, meaning its body, in at most sixteen rows
-    /// for each that the tree counts.
+    /// The code, which is one of the tree, a settled one: of its kind, with its parameters, meaning its body, with a
+    /// statement over lights where the tree has one, in at most sixteen rows for each that the tree counts.
     pub fn code(&self) -> &Code
         ensures code { result.now ≡ self.now.code }
         ensures means { IsCodeOf (tree_of self.now.tree) self.now.code }

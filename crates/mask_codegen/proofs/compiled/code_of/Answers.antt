@@ -2,11 +2,13 @@ use Rattle.std.proofs.Common.{arith, refl, ◌≡◌, ◌++◌, ◌∙◌, ap, s
 use Rattle.sl_ast.specs.TypedView.{local_of}
 use Rattle.sl_ast.specs.TreeView.{tree_of}
 use Rattle.grid_code.specs.Uses.{given_registers}
-use Rattle.grid_code.specs.Valid.{is_ambient}
+use Rattle.grid_code.specs.Valid.{has_light_statement, is_ambient}
 use Rattle.grid_code.specs.View.{block_of}
 use Rattle.sl_meaning.specs.CoreView.{stmts_of}
-use Rattle.sl_meaning.specs.Lowered.{slots}
+use Rattle.sl_meaning.specs.Lowered.{slots, body_of}
 use Rattle.mask_codegen.specs.Collected.{registers_of, IsSetOf}
+use Rattle.mask_codegen.specs.Slots.{slots_of}
+use Rattle.mask_codegen.proofs.CoreLights.{shader_code_lights}
 use Rattle.mask_codegen.proofs.Assembled.{emits_settled, emits_stays, emits_fits, params_fit, code_is, means_tree, nodes_placed, nodes_shallow, sets_given, sets_named, sets_few}
 use Rattle.mask_codegen.proofs.compiled.code_of.Goals as goal
 
@@ -83,5 +85,7 @@ returns c =
       kind = refl;
       params = same;
       means = means_tree t typed settled ps same (stmts_of c.deref.result.now) c.deref-2.result.now (ap stmts_of c.deref.ensures.value ∙ c.in_ok-body.ensures) c.deref-2.ensures.value nodes c.in_ok-nodes.ensures.means;
+      settled = settled;
+      lights = ap has_light_statement code ∙ shader_code_lights (body_of t) (slots_of ps);
       rows = omega arith;
     }
