@@ -1,9 +1,9 @@
 -- The laws of runs, for a shader that is bound; and the shader of a use in its set.
 use Rattle.std.proofs.Common.{◌≡◌, ℕ, zero, suc, ◌*◌, ◌<◌, Bool, true, false, ℤ, List, [], ◌∷◌, ◌++◌, length, map, get_or, take, drop, refl, sym, ap, ◌∙◌, subst, arith}
-use Rattle.std.specs.Prelude.{Result, Ok, Err, IfOk, not, ◌||◌, Some, slice_get, option_map}
+use Rattle.std.specs.Prelude.{Result, Ok, Err, IfOk, not, ◌&&◌, Some, slice_get, option_map}
 use Rattle.std.specs.List.{list_all}
 use Rattle.std.proofs.lemmas.Bool.{and_parts, false≢true}
-use Rattle.std.proofs.lemmas.List.{length-map, take_at}
+use Rattle.std.proofs.lemmas.List.{length-map, get_or-map, take_at}
 use Rattle.std.proofs.lemmas.Option.{slice_get-map, slice_get_read}
 use Rattle.transforms.specs.declared.spaces.Spaces.{Spaces}
 use Rattle.scene_state.specs.declared.uses.ShaderUse.{ShaderUse}
@@ -20,6 +20,7 @@ use Rattle.sl_ast.specs.TreeView.{tree_of}
 use Rattle.sl_ast.specs.Typed.{Tree}
 use Rattle.builtins.specs.declared.shape.Shape.{Shape}
 use Rattle.builtins.specs.declared.shape.Shape.TheVariants as shapes
+use Rattle.builtins.specs.Differences.{Lines}
 use Rattle.builtins.specs.Shapes.{shape}
 use Rattle.builtins.specs.Values.{shape_of}
 use Rattle.grid_code.specs.declared.shader_code.Code.{Code}
@@ -30,16 +31,19 @@ use Rattle.sl_meaning.specs.Core as core
 use Rattle.sl_meaning.specs.Environment.{zero_value}
 use Rattle.displace_shade.specs.Sets.{FitsUse, FitUses, is_of_kind}
 use Rattle.mask_codegen.specs.Compiled.{Seen}
+use Rattle.mask_codegen.proofs.ParamTexts.{is_rowable, params_rowable}
 use Rattle.displace_shade.specs.Shaded.{bound_with}
 use Rattle.displace_shade.specs.Points.{Leaf, normal_of, u_at, v_at, dpdu, dpdv}
 use Rattle.grid_machine.specs.Run.{begun, lines_given, Leaves}
 use Rattle.displace_shade.specs.Rows.{AreRowable, slot_of}
-use Rattle.displace_shade.specs.Diced.{point_count, ArePlaces}
-use Rattle.displace_shade.specs.Shop.{is_rowable, Runs}
+use Rattle.displace_shade.specs.Diced.{point_count, over, ArePlaces}
+use Rattle.displace_shade.specs.Lamps.{lamp_asked}
+use Rattle.displace_shade.specs.Shop.{Runs}
 use Rattle.displace_shade.specs.declared.bound.BoundShader.{BoundShader}
+use Rattle.displace_shade.specs.declared.lamps.Lamp.{Lamp}
 use Rattle.displace_shade.specs.declared.places.Places.{Places}
 use Rattle.displace_shade.proofs.Begun.{values_counted, values_shaped}
-use Rattle.displace_shade.proofs.Over.{over_long}
+use Rattle.displace_shade.proofs.Over.{over_long, over_all}
 
 word_is_string : (k : SlType) → shape_of k ≡ shapes.Word → is_string k ≡ true
 word_is_string types.Str h = refl
@@ -54,17 +58,17 @@ word_is_string _ h = absurd (false≢true (ap is_word h))
     is_word shapes.Word = true
     is_word _ = false
 
-no_text : (u s : Bool) → (u || not s) ≡ true → u ≡ false → s ≡ true → ⊥
+no_text : (u s : Bool) → not (not u && s) ≡ true → u ≡ false → s ≡ true → ⊥
 no_text true s h e f = false≢true (sym e)
 no_text false true h e f = false≢true h
 no_text false false h e f = false≢true f
 
-rowable_from : (ps : List Slot) (vs : List Value) → length vs ≡ length ps → ((k : ℕ) → k < length ps → shape (get_or vs k zero_value) ≡ shape_of (get_or (map slot_of ps) k core.no_slot).kind) → list_all is_rowable ps ≡ true → AreRowable ps vs
+rowable_from : (ps : List Slot) (vs : List Value) → length vs ≡ length ps → ((k : ℕ) → k < length ps → shape (get_or vs k zero_value) ≡ shape_of (get_or (map slot_of ps) k core.no_slot).kind) → list_all is_rowable (map slot_of ps) ≡ true → AreRowable ps vs
 rowable_from [] [] e g h = tt
 rowable_from [] (v ∷ vs) e g h = tt
 rowable_from (p ∷ ps) [] e g h = tt
 rowable_from (p ∷ ps) (v ∷ vs) e g h =
-    let both = and_parts (is_rowable p) (list_all is_rowable ps) h in
+    let both = and_parts (is_rowable (slot_of p)) (list_all is_rowable (map slot_of ps)) h in
     (λ u w. no_text p.uniform (is_string p.kind) both.0 u (word_is_string p.kind (sym (g 0 (omega arith)) ∙ w)), rowable_from ps vs (omega arith) (λ k l. g (suc k) (omega arith)) both.1)
 
 module _ (b : BoundShader) (r : Runs b) where
@@ -75,7 +79,8 @@ module _ (b : BoundShader) (r : Runs b) where
   bound_rowable =
       rowable_from b.compiled.now.code.params b.values.now bound_count
       (λ k l. subst (λ q. k < length q → shape (get_or b.values.now k zero_value) ≡ shape_of (get_or q k core.no_slot).kind) (sym r.code.params)
-      (λ m. values_shaped (tree_of b.compiled.now.tree).params b.values.now r.values k m) (subst (λ n. k < n) (sym (length-map b.compiled.now.code.params slot_of)) l)) r.can.rowable
+      (λ m. values_shaped (tree_of b.compiled.now.tree).params b.values.now r.values k m) (subst (λ n. k < n) (sym (length-map b.compiled.now.code.params slot_of)) l))
+      (ap (list_all is_rowable) r.code.params ∙ params_rowable (tree_of b.compiled.now.tree) b.compiled.now.tree.typed r.code.settled)
 
 -- the lengths of what doesn't change
 pub places_long : (l : Leaf) (f : Places) → ArePlaces l f → (length f.normals.now ≡ point_count l) × ((length f.u.now ≡ point_count l) × ((length f.v.now ≡ point_count l) × ((length f.dpdu.now ≡ point_count l) × (length f.dpdv.now ≡ point_count l))))
@@ -94,19 +99,28 @@ places_long l f h = (
 pub written_back : (n : ℕ) (new items : List ℤ) → length new ≡ n → take n (new ++ drop (length new) items) ≡ new
 written_back n new items e = take_at new (drop (length new) items) n e
 
-abbrev Left : Code → List Value → ℕ → ℕ → List ℤ → List ℤ → Spaces → Type 0
-Left k us m w vr out sp = Leaves k.kind (m * w) out (masked (block_of k.nodes) record { lines = lines_given m w k.params us; spaces = sp; lights = [] } (m * w) 65536 (begun k.kind k.params (m * w) us vr))
+abbrev Left : Code → List Value → ℕ → ℕ → List ℤ → List ℤ → Spaces → List Lamp → Type 0
+Left k us m w vr out sp lamps =
+    let ls = lines_given m w k.params us in
+    Leaves k.kind (m * w) out (masked (block_of k.nodes) record { lines = ls; spaces = sp; lights = map (lamp_asked ls (m * w)) lamps } (m * w) 65536 (begun k.kind k.params (m * w) us vr))
 
-pub leaves_as : (k k' : Code) (us : List Value) (m m' w w' : ℕ) (vr vr' out out' : List ℤ) (sp sp' : Spaces) → k ≡ k' → m ≡ m' → w ≡ w' → vr ≡ vr' → out ≡ out' → sp ≡ sp' →
-    Leaves k.kind (m * w) out (masked (block_of k.nodes) record { lines = lines_given m w k.params us; spaces = sp; lights = [] } (m * w) 65536 (begun k.kind k.params (m * w) us vr)) →
-    Leaves k'.kind (m' * w') out' (masked (block_of k'.nodes) record { lines = lines_given m' w' k'.params us; spaces = sp'; lights = [] } (m' * w') 65536 (begun k'.kind k'.params (m' * w') us vr'))
-leaves_as k k' us m m' w w' vr vr' out out' sp sp' ek em ew ev eo es h =
-    let a = subst (λ z. Left z us m w vr out sp) ek h in
-    let b = subst (λ z. Left k' us z w vr out sp) em a in
-    let c = subst (λ z. Left k' us m' z vr out sp) ew b in
-    let d = subst (λ z. Left k' us m' w' z out sp) ev c in
-    let e = subst (λ z. Left k' us m' w' vr' z sp) eo d in
-    subst (λ z. Left k' us m' w' vr' out' z) es e
+-- lights asked by their places in a list are those of the list
+asked_lamps : (ls : Lines) (c : ℕ) (lamps : List Lamp) (spare : Lamp) → over (length lamps) (λ n. lamp_asked ls c (get_or lamps n spare)) ≡ map (lamp_asked ls c) lamps
+asked_lamps ls c lamps spare =
+    sym (over_all (λ n. lamp_asked ls c (get_or lamps n spare)) (map (lamp_asked ls c) lamps) (length lamps) (lamp_asked ls c spare) (length-map lamps (lamp_asked ls c)) (λ i l. get_or-map (lamp_asked ls c) lamps i spare (lamp_asked ls c spare) l))
+
+pub leaves_as : (k k' : Code) (us : List Value) (m m' w w' : ℕ) (vr vr' out out' : List ℤ) (sp sp' : Spaces) (lamps : List Lamp) (spare : Lamp) → k ≡ k' → m ≡ m' → w ≡ w' → vr ≡ vr' → out ≡ out' → sp ≡ sp' →
+    Leaves k.kind (m * w) out (masked (block_of k.nodes) record { lines = lines_given m w k.params us; spaces = sp; lights = over (length lamps) (λ n. lamp_asked (lines_given m w k.params us) (m * w) (get_or lamps n spare)) } (m * w) 65536 (begun k.kind k.params (m * w) us vr)) →
+    Left k' us m' w' vr' out' sp' lamps
+leaves_as k k' us m m' w w' vr vr' out out' sp sp' lamps spare ek em ew ev eo es h =
+    let ls = lines_given m w k.params us in
+    let o : Left k us m w vr out sp lamps = subst (λ ls'. Leaves k.kind (m * w) out (masked (block_of k.nodes) record { lines = ls; spaces = sp; lights = ls' } (m * w) 65536 (begun k.kind k.params (m * w) us vr))) (asked_lamps ls (m * w) lamps spare) h in
+    let a = subst (λ z. Left z us m w vr out sp lamps) ek o in
+    let b = subst (λ z. Left k' us z w vr out sp lamps) em a in
+    let c = subst (λ z. Left k' us m' z vr out sp lamps) ew b in
+    let d = subst (λ z. Left k' us m' w' z out sp lamps) ev c in
+    let e = subst (λ z. Left k' us m' w' vr' z sp lamps) eo d in
+    subst (λ z. Left k' us m' w' vr' out' z lamps) es e
 
 -- ---- the shader of a use
 -- a tree is there
@@ -171,6 +185,12 @@ of_volume written.Volume h = refl
 of_volume written.Surface h = absurd (false≢true h)
 of_volume written.Displacement h = absurd (false≢true h)
 of_volume written.Light h = absurd (false≢true h)
+
+pub of_light : (k : SlKind) → is_of_kind k requested.Light ≡ true → k ≡ written.Light
+of_light written.Light h = refl
+of_light written.Surface h = absurd (false≢true h)
+of_light written.Displacement h = absurd (false≢true h)
+of_light written.Volume h = absurd (false≢true h)
 
 pub if_ok : {A E : Type 0} (r : Result A E) (P Q : A → Type 0) → ((x : A) → P x → Q x) → IfOk r P → IfOk r Q
 if_ok (Ok x) P Q f h = f x h

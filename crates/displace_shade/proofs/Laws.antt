@@ -29,11 +29,11 @@ use Rattle.sl_meaning.specs.Core as core
 use Rattle.sl_meaning.specs.Environment.{zero_value}
 use Rattle.sl_meaning.specs.Runs.{Names, ran}
 use Rattle.mask_codegen.specs.Compiled.{IsCodeOf}
-use Rattle.mask_codegen.specs.Correct.{Answers, IsGround}
+use Rattle.mask_codegen.specs.Correct.{Answers}
 use Rattle.displace_shade.specs.Sets.{AreValuesOf}
 use Rattle.displace_shade.specs.Points.{Leaf, columns, rows, lines}
 use Rattle.displace_shade.specs.Shaded.{Bound, spaces_of, around}
-use Rattle.grid_machine.specs.Run.{row_length, height, rows_of, same_class, params_of, step_names, uniform_inputs, varying_inputs, begun, lines_given, Leaves, without_lights}
+use Rattle.grid_machine.specs.Run.{row_length, height, rows_of, same_class, params_of, step_names, uniform_inputs, varying_inputs, begun, lines_given, Leaves}
 use Rattle.displace_shade.specs.Rows.{heights, AreRows, AreRowable, HoldNames, values_of, written_order, uniform_values, varying_values, slot_of}
 use Rattle.displace_shade.specs.Diced.{point_count, over, triple_in, names_of, Hold, IsSized, ArePlaces}
 use Rattle.displace_shade.specs.Given.{surface_rows, displacement_rows}
@@ -45,15 +45,7 @@ use Rattle.displace_shade.proofs.Starts.{AreParams, inputs_fit, params_paired}
 use Rattle.displace_shade.proofs.Ran.{run_leaves}
 use Rattle.displace_shade.proofs.Stages.{hold_names, hold_steps, displaced_hold, surface_hold, volume_hold}
 use Rattle.displace_shade.proofs.GivenRows.{surface_given, displacement_given}
-use Rattle.displace_shade.proofs.Plain.{lights_unread, lines_unread, placed_plain}
-
--- lights that answer at each place by itself
-abbrev each_asked : List (Vec3 → Light) → List Asked
-each_asked ls = map (λ f q i. f (q i)) ls
-
-each_answers : (c : ℕ) (ls : List (Vec3 → Light)) → Answers c (each_asked ls) ls
-each_answers c [] = tt
-each_answers c (f ∷ fs) = (λ q i l. refl, each_answers c fs)
+use Rattle.displace_shade.proofs.Plain.{lines_unread, placed_plain}
 
 paired_long : (rs : List Register) (vs : List Value) → Paired rs vs → length rs ≡ length vs
 paired_long [] [] h = refl
@@ -78,7 +70,7 @@ params_shapes u n (p ∷ ps) [] h g = absurd (omega arith)
 params_shapes u n (p ∷ ps) (v ∷ vs) h g =
     head_shapes (same_class p.uniform u) u (shape_of p.kind) n v (params_of u (n + 1) ps) (values_of u ps vs) (g 0 (omega arith)) (params_shapes u (n + 1) ps vs (omega arith) (λ k l. g (suc k) (omega arith)))
 
-module _ (l : Leaf) (t : Tree) (code : Code) (vs : List Value) (space : Map) (is : IsCodeOf t code) (values : AreValuesOf t.params vs) (rowable : AreRowable code.params vs) (plain : without_lights (block_of code.nodes) ≡ true) where
+module _ (l : Leaf) (t : Tree) (code : Code) (vs : List Value) (space : Map) (is : IsCodeOf t code) (values : AreValuesOf t.params vs) (rowable : AreRowable code.params vs) where
   abbrev c : ℕ
   c = point_count l
 
@@ -108,14 +100,8 @@ module _ (l : Leaf) (t : Tree) (code : Code) (vs : List Value) (space : Map) (is
   pub some : 0 < c
   some = mul-pos (omega (arith, wide)) (omega (arith, tall))
 
-  abbrev ground : List (Vec3 → Light) → Ground
-  ground lights = record { lines = lines l; spaces = spaces_of l bound; lights = each_asked lights }
-
-  abbrev bare : Lines → Ground
-  bare ls = record { lines = ls; spaces = spaces_of l bound; lights = [] }
-
-  is_ground : (lights : List (Vec3 → Light)) → IsGround c (ground lights) (around l bound lights)
-  is_ground lights = record { lines = refl; spaces = refl; lights = each_answers c lights }
+  abbrev ground : Lines → List Asked → Ground
+  ground ls asked = record { lines = ls; spaces = spaces_of l bound; lights = asked }
 
   -- the lines that the steps give
   abbrev with_steps : List Value
@@ -136,16 +122,15 @@ module _ (l : Leaf) (t : Tree) (code : Code) (vs : List Value) (space : Map) (is
       made x y = record { columns = columns l; rows = rows l; du = x; dv = y }
 
   -- ---- what the rows that a run leaves hold
-  left : (f : ℕ → Names) (d : Variables) (lights : List (Vec3 → Light)) (uniforms : List Value) (varyings out : List ℤ) (ls : Lines) → Hold l d f → uniforms ≡ uniform_values t.kind code.params vs (f 0) → AreRows c (λ i. varying_values t.kind code.params vs (f i)) varyings →
-      masked (block_of code.nodes) (bare ls) c 65536 ≡ masked (block_of code.nodes) (bare (lines l)) c 65536 → Leaves code.kind c out (masked (block_of code.nodes) (bare ls) c 65536 (begun code.kind code.params c uniforms varyings)) →
+  left : (f : ℕ → Names) (d : Variables) (asked : List Asked) (lights : List (Vec3 → Light)) (uniforms : List Value) (varyings out : List ℤ) (ls : Lines) → Answers c asked lights → Hold l d f → uniforms ≡ uniform_values t.kind code.params vs (f 0) → AreRows c (λ i. varying_values t.kind code.params vs (f i)) varyings →
+      masked (block_of code.nodes) (ground ls asked) c 65536 ≡ masked (block_of code.nodes) (ground (lines l) asked) c 65536 → Leaves code.kind c out (masked (block_of code.nodes) (ground ls asked) c 65536 (begun code.kind code.params c uniforms varyings)) →
       (i : ℕ) → i < c → HoldNames (ran t (around l bound lights) (λ j. vs) f i) (written_order t.kind) out (row_length c) 0 i
-  left f d lights uniforms varyings out ls h eu er em lv =
+  left f d asked lights uniforms varyings out ls answers h eu er em lv =
       let block = block_of code.nodes in
-      let same : masked block (bare ls) c 65536 ≡ masked block (ground lights) c 65536 = em ∙ lights_unread (lines l) (spaces_of l bound) [] (each_asked lights) c 65536 block plain in
-      let lv1 = subst (λ m. Leaves code.kind c out (m (begun code.kind code.params c uniforms varyings))) same lv in
-      let lv2 = subst (λ us. Leaves code.kind c out (masked block (ground lights) c 65536 (begun code.kind code.params c us varyings))) eu lv1 in
-      let lv3 = subst (λ k. Leaves k c out (masked block (ground lights) c 65536 (begun k code.params c (uniform_values t.kind code.params vs (f 0)) varyings))) is.kind lv2 in
-      run_leaves t block (around l bound lights) (ground lights) vs f code.params varyings out is.means wide tall params (hold_names l d f h) (is_ground lights) er lv3
+      let lv1 = subst (λ m. Leaves code.kind c out (m (begun code.kind code.params c uniforms varyings))) em lv in
+      let lv2 = subst (λ us. Leaves code.kind c out (masked block (ground (lines l) asked) c 65536 (begun code.kind code.params c us varyings))) eu lv1 in
+      let lv3 = subst (λ k. Leaves k c out (masked block (ground (lines l) asked) c 65536 (begun k code.params c (uniform_values t.kind code.params vs (f 0)) varyings))) is.kind lv2 in
+      run_leaves t block (around l bound lights) (ground (lines l) asked) vs f code.params varyings out is.means wide tall params (hold_names l d f h) record { lines = refl; spaces = refl; lights = answers } er lv3
 
   stepped : (kind : SlKind) → t.kind ≡ kind → has_surface kind ≡ true → (f : ℕ → Names) (d : Variables) → Hold l d f → with_steps ≡ uniform_values t.kind code.params vs (f 0)
   stepped kind k s f d h =
@@ -153,37 +138,38 @@ module _ (l : Leaf) (t : Tree) (code : Code) (vs : List Value) (space : Map) (is
       ap (λ v. values_of true code.params vs ++ v ∷ Number (lines l).dv ∷ []) (sym steps.0) ∙ ap (λ v. values_of true code.params vs ++ f 0 names.Du ∷ v ∷ []) (sym steps.1)
       ∙ ap (λ b. values_of true code.params vs ++ cond b (f 0 names.Du ∷ f 0 names.Dv ∷ []) []) (sym (ap has_surface k ∙ s))
 
-  surface_masked : (uniforms : List Value) → uniforms ≡ with_steps → masked (block_of code.nodes) (bare (lines_given (columns l) (rows l) code.params uniforms)) c 65536 ≡ masked (block_of code.nodes) (bare (lines l)) c 65536
-  surface_masked uniforms e = ap (λ ls. masked (block_of code.nodes) (bare ls) c 65536) (ap (lines_given (columns l) (rows l) code.params) e ∙ lines_are)
+  surface_masked : (asked : List Asked) (uniforms : List Value) → uniforms ≡ with_steps →
+      masked (block_of code.nodes) (ground (lines_given (columns l) (rows l) code.params uniforms) asked) c 65536 ≡ masked (block_of code.nodes) (ground (lines l) asked) c 65536
+  surface_masked asked uniforms e = ap (λ ls. masked (block_of code.nodes) (ground ls asked) c 65536) (ap (lines_given (columns l) (rows l) code.params) e ∙ lines_are)
 
-  abbrev Left : List Value → List ℤ → List ℤ → Type 0
-  Left uniforms varyings out = Leaves code.kind c out (masked (block_of code.nodes) (bare (lines_given (columns l) (rows l) code.params uniforms)) c 65536 (begun code.kind code.params c uniforms varyings))
+  abbrev Left : List Asked → List Value → List ℤ → List ℤ → Type 0
+  Left asked uniforms varyings out = Leaves code.kind c out (masked (block_of code.nodes) (ground (lines_given (columns l) (rows l) code.params uniforms) asked) c 65536 (begun code.kind code.params c uniforms varyings))
 
-  pub displace_law : t.kind ≡ Displacement → (fx : Places) (d e : Variables) (uniforms : List Value) (varyings out : List ℤ) → ArePlaces l fx → IsSized l d → uniforms ≡ with_steps → varyings ≡ displacement_rows c code.params vs l.prim.cs l.prim.os fx d → Left uniforms varyings out →
+  pub displace_law : t.kind ≡ Displacement → (fx : Places) (d e : Variables) (uniforms : List Value) (varyings out : List ℤ) → ArePlaces l fx → IsSized l d → uniforms ≡ with_steps → varyings ≡ displacement_rows c code.params vs l.prim.cs l.prim.os fx d → Left [] uniforms varyings out →
       e.points.now ≡ over c (triple_in out (row_length c) 0) → e.normals.now ≡ over c (triple_in out (row_length c) 3) → e.sights.now ≡ d.sights.now → e.colours.now ≡ d.colours.now → e.opacities.now ≡ d.opacities.now →
-      (lights : List (Vec3 → Light)) (f : ℕ → Names) → Hold l d f → Hold l e (ran t (around l bound lights) (λ j. vs) f)
-  displace_law k fx d e uniforms varyings out places sized eu er lv ep en es ec eo lights f h =
+      (f : ℕ → Names) → Hold l d f → Hold l e (ran t (around l bound []) (λ j. vs) f)
+  displace_law k fx d e uniforms varyings out places sized eu er lv ep en es ec eo f h =
       let given = subst (λ rs. AreRows c (λ i. varying_values Displacement code.params vs (f i)) rs) (sym er) (displacement_given l fx d f code.params vs h places rowable sized.points sized.normals sized.sights) in
       let rows' = subst (λ q. AreRows c (λ i. varying_values q code.params vs (f i)) varyings) (sym k) given in
-      displaced_hold l t (around l bound lights) vs f d e h out (left f d lights uniforms varyings out _ h (eu ∙ stepped Displacement k refl f d h) rows' (surface_masked uniforms eu) lv) k ep en es ec eo
+      displaced_hold l t (around l bound []) vs f d e h out (left f d [] [] uniforms varyings out _ tt h (eu ∙ stepped Displacement k refl f d h) rows' (surface_masked [] uniforms eu) lv) k ep en es ec eo
 
-  pub surface_law : t.kind ≡ Surface → (fx : Places) (d e : Variables) (uniforms : List Value) (varyings out : List ℤ) → ArePlaces l fx → IsSized l d → uniforms ≡ with_steps → varyings ≡ surface_rows c code.params vs l.prim.cs l.prim.os fx d → Left uniforms varyings out →
+  pub surface_law : t.kind ≡ Surface → (fx : Places) (d e : Variables) (asked : List Asked) (lights : List (Vec3 → Light)) (uniforms : List Value) (varyings out : List ℤ) → Answers c asked lights → ArePlaces l fx → IsSized l d → uniforms ≡ with_steps → varyings ≡ surface_rows c code.params vs l.prim.cs l.prim.os fx d → Left asked uniforms varyings out →
       e.colours.now ≡ over c (triple_in out (row_length c) 0) → e.opacities.now ≡ over c (triple_in out (row_length c) 3) → e.points.now ≡ d.points.now → e.normals.now ≡ d.normals.now → e.sights.now ≡ d.sights.now →
-      (lights : List (Vec3 → Light)) (f : ℕ → Names) → Hold l d f → Hold l e (ran t (around l bound lights) (λ j. vs) f)
-  surface_law k fx d e uniforms varyings out places sized eu er lv ec eo ep en es lights f h =
+      (f : ℕ → Names) → Hold l d f → Hold l e (ran t (around l bound lights) (λ j. vs) f)
+  surface_law k fx d e asked lights uniforms varyings out answers places sized eu er lv ec eo ep en es f h =
       let given = subst (λ rs. AreRows c (λ i. varying_values Surface code.params vs (f i)) rs) (sym er) (surface_given l fx d f code.params vs h places rowable sized.points sized.normals sized.sights) in
       let rows' = subst (λ q. AreRows c (λ i. varying_values q code.params vs (f i)) varyings) (sym k) given in
-      surface_hold l t (around l bound lights) vs f d e h out (left f d lights uniforms varyings out _ h (eu ∙ stepped Surface k refl f d h) rows' (surface_masked uniforms eu) lv) k ec eo ep en es
+      surface_hold l t (around l bound lights) vs f d e h out (left f d asked lights uniforms varyings out _ answers h (eu ∙ stepped Surface k refl f d h) rows' (surface_masked asked uniforms eu) lv) k ec eo ep en es
 
-  pub volume_law : t.kind ≡ Volume → is_placed code.kind false true (block_of code.nodes) ≡ true → (d e : Variables) (uniforms : List Value) (varyings out : List ℤ) → ((f : ℕ → Names) → Hold l d f → AreRows c (λ i. varying_values Volume code.params vs (f i)) varyings) → uniforms ≡ values_of true code.params vs → Left uniforms varyings out →
+  pub volume_law : t.kind ≡ Volume → is_placed code.kind false true (block_of code.nodes) ≡ true → (d e : Variables) (uniforms : List Value) (varyings out : List ℤ) → ((f : ℕ → Names) → Hold l d f → AreRows c (λ i. varying_values Volume code.params vs (f i)) varyings) → uniforms ≡ values_of true code.params vs → Left [] uniforms varyings out →
       e.colours.now ≡ over c (triple_in out (row_length c) 0) → e.opacities.now ≡ over c (triple_in out (row_length c) 3) → e.points.now ≡ d.points.now → e.normals.now ≡ d.normals.now → e.sights.now ≡ d.sights.now →
-      (lights : List (Vec3 → Light)) (f : ℕ → Names) → Hold l d f → Hold l e (ran t (around l bound lights) (λ j. vs) f)
-  volume_law k valid d e uniforms varyings out given eu lv ec eo ep en es lights f h =
+      (f : ℕ → Names) → Hold l d f → Hold l e (ran t (around l bound []) (λ j. vs) f)
+  volume_law k valid d e uniforms varyings out given eu lv ec eo ep en es f h =
       let rows' = subst (λ q. AreRows c (λ i. varying_values q code.params vs (f i)) varyings) (sym k) (given f h) in
       let none : uniforms ≡ uniform_values t.kind code.params vs (f 0) = eu ∙ sym (append-nil (values_of true code.params vs)) ∙ ap (λ b. values_of true code.params vs ++ cond b (f 0 names.Du ∷ f 0 names.Dv ∷ []) []) (sym (ap has_surface k)) in
       let away : has_surface code.kind ≡ false = ap has_surface (is.kind ∙ k) in
-      let same = lines_unread (lines_given (columns l) (rows l) code.params uniforms) (lines l) (spaces_of l bound) [] c 65536 (block_of code.nodes) plain (placed_plain code.kind away false true (block_of code.nodes) valid) in
-      volume_hold l t (around l bound lights) vs f d e h out (left f d lights uniforms varyings out _ h none rows' same lv) k ec eo ep en es
+      let same = lines_unread (lines_given (columns l) (rows l) code.params uniforms) (lines l) (spaces_of l bound) [] c 65536 (block_of code.nodes) (placed_plain code.kind away false true (block_of code.nodes) valid) in
+      volume_hold l t (around l bound []) vs f d e h out (left f d [] [] uniforms varyings out _ tt h none rows' same lv) k ec eo ep en es
 
   -- ---- what the run asks of what it is given
   surface_shapes : has_surface code.kind ≡ true → (uniforms : List Value) → uniforms ≡ with_steps → map shape uniforms ≡ map register_shape (uniform_inputs code.kind code.params)

@@ -12,3 +12,5 @@ pub mod GivenRows
 pub mod Plain
 pub mod Laws
 pub mod BoundLaws
+pub mod LightBegins
+pub mod LampLaws

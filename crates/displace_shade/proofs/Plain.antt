@@ -1,12 +1,15 @@
--- Code without sums and statements over lights does the same whatever the lights, and code without differences whatever the lines of the grid.
-use Rattle.std.proofs.Common.{◌≡◌, ℕ, Bool, true, false, cond, List, refl, sym, ap, ◌∙◌}
+-- Code without differences does the same whatever the lines of the grid.
+use Rattle.std.proofs.Common.{◌≡◌, ℕ, Bool, true, false, cond, List, [], ◌∷◌, refl, sym, ap, ◌∙◌}
 use Rattle.std.specs.Prelude.{◌&&◌}
 use Rattle.std.proofs.lemmas.Bool.{and_parts, and_from, false≢true}
 use Rattle.transforms.specs.declared.spaces.Spaces.{Spaces}
+use Rattle.sl_ast.specs.declared.kinds.LightStmt.{LightStmt}
+use Rattle.sl_ast.specs.declared.kinds.LightStmt.TheVariants.{Illuminance, Illuminate, Solar}
 use Rattle.sl_ast.specs.declared.kinds.SlKind.{SlKind}
 use Rattle.sl_ast.specs.Names.{has_surface, is_surface}
 use Rattle.builtins.specs.Differences.{Lines}
 use Rattle.builtins.specs.Values.{is_true}
+use Rattle.grid_code.specs.declared.code.Register.{Register}
 use Rattle.grid_code.specs.declared.code.Register.TheVariants.{Uniform, Varying}
 use Rattle.grid_code.specs.declared.code.Source.{Source}
 use Rattle.grid_code.specs.declared.code.Source.TheVariants.{Constant, Copy, Into, Apply}
@@ -14,8 +17,7 @@ use Rattle.builtins.specs.declared.shape.Shape.TheVariants as shapes
 use Rattle.grid_code.specs.Shapes.{register_shape}
 use Rattle.grid_code.specs.Valid.{at_most_three, is_placed}
 use Rattle.grid_code.specs.Code.{Block, end, put, differ, sum, branch, loops, lights, breaks, continues}
-use Rattle.grid_code.specs.Masked.{Asked, Ground, State, same_shape, write, result_of, both_parts, looped, masked}
-use Rattle.grid_machine.specs.Run.{without_lights}
+use Rattle.grid_code.specs.Masked.{Asked, Ground, State, same_shape, write, result_of, both_parts, looped, over_lights, masked}
 
 -- whether a difference stands in a block
 abbrev pub without_differences : Block → Bool
@@ -32,48 +34,6 @@ without_differences (continues x) = without_differences x
 abbrev Runs : Type 0
 Runs = State → State
 
-module _ (lines : Lines) (spaces : Spaces) (ls ks : List Asked) (c n : ℕ) where
-  abbrev one : Ground
-  one = record { lines = lines; spaces = spaces; lights = ls }
-
-  abbrev two : Ground
-  two = record { lines = lines; spaces = spaces; lights = ks }
-
-  result_same : (o : Source) (s : State) → result_of o one s ≡ result_of o two s
-  result_same (Constant v) s = refl
-  result_same (Copy q) s = refl
-  result_same (Into t q) s = refl
-  result_same (Apply op qs) s = refl
-
-  pub lights_unread : (x : Block) → without_lights x ≡ true → masked x one c n ≡ masked x two c n
-  lights_unread end h = refl
-  lights_unread (put r o x) h = ap (λ (k : Runs). λ s. k (write c r (result_of o one s) s)) (lights_unread x h) ∙ (λ i s. masked x two c n (write c r (result_same o s i) s))
-  lights_unread (differ r d q x) h = ap (λ (k : Runs). λ s. k (masked (differ r d q end) one c n s)) (lights_unread x h)
-  lights_unread (sum r which qs x) h = absurd (false≢true h)
-  lights_unread (branch (Uniform shape r) a b x) h =
-      let p = and_parts _ _ h in
-      let q = and_parts _ _ p.1 in
-      ap (λ (k : Runs). λ s. k (cond (is_true (s.shared shape r)) (masked a one c n s) (masked b one c n s))) (lights_unread x q.1)
-      ∙ ap (λ (k : Runs). λ s. masked x two c n (cond (is_true (s.shared shape r)) (k s) (masked b one c n s))) (lights_unread a p.0)
-      ∙ ap (λ (k : Runs). λ s. masked x two c n (cond (is_true (s.shared shape r)) (masked a two c n s) (k s))) (lights_unread b q.0)
-  lights_unread (branch (Varying shape r) a b x) h =
-      let p = and_parts _ _ h in
-      let q = and_parts _ _ p.1 in
-      ap (λ (k : Runs). λ s. k (both_parts (λ i. is_true (s.rows shape r i)) (masked a one c n) (masked b one c n) s)) (lights_unread x q.1)
-      ∙ ap (λ (k : Runs). λ s. masked x two c n (both_parts (λ i. is_true (s.rows shape r i)) k (masked b one c n) s)) (lights_unread a p.0)
-      ∙ ap (λ (k : Runs). λ s. masked x two c n (both_parts (λ i. is_true (s.rows shape r i)) (masked a two c n) k s)) (lights_unread b q.0)
-  lights_unread (loops u d t e a x) h =
-      let p = and_parts _ _ h in
-      let q = and_parts _ _ p.1 in
-      let w = and_parts _ _ q.1 in
-      ap (λ (k : Runs). λ s. k (looped n c u (masked d one c n) t (masked e one c n) (masked a one c n) s)) (lights_unread x w.1)
-      ∙ ap (λ (k : Runs). λ s. masked x two c n (looped n c u k t (masked e one c n) (masked a one c n) s)) (lights_unread d p.0)
-      ∙ ap (λ (k : Runs). λ s. masked x two c n (looped n c u (masked d two c n) t k (masked a one c n) s)) (lights_unread e q.0)
-      ∙ ap (λ (k : Runs). λ s. masked x two c n (looped n c u (masked d two c n) t (masked e two c n) k s)) (lights_unread a w.0)
-  lights_unread (lights w qs a x) h = absurd (false≢true h)
-  lights_unread (breaks x) h = ap (λ (k : Runs). λ s. k (masked (breaks end) one c n s)) (lights_unread x h)
-  lights_unread (continues x) h = ap (λ (k : Runs). λ s. k (masked (continues end) one c n s)) (lights_unread x h)
-
 module _ (lines others : Lines) (spaces : Spaces) (ls : List Asked) (c n : ℕ) where
   abbrev three : Ground
   three = record { lines = lines; spaces = spaces; lights = ls }
@@ -87,41 +47,45 @@ module _ (lines others : Lines) (spaces : Spaces) (ls : List Asked) (c n : ℕ) 
   result_alike (Into t q) s = refl
   result_alike (Apply op qs) s = refl
 
-  pub lines_unread : (x : Block) → without_lights x ≡ true → without_differences x ≡ true → masked x three c n ≡ masked x four c n
-  lines_unread end h g = refl
-  lines_unread (put r o x) h g = ap (λ (k : Runs). λ s. k (write c r (result_of o three s) s)) (lines_unread x h g) ∙ (λ i s. masked x four c n (write c r (result_alike o s i) s))
-  lines_unread (differ r d q x) h g = absurd (false≢true g)
-  lines_unread (sum r which qs x) h g = absurd (false≢true h)
-  lines_unread (branch (Uniform shape r) a b x) h g =
-      let p = and_parts _ _ h in
+  -- a statement over lights sees the lights alone
+  over_alike : (w : LightStmt) (qs : List Register) (k : Runs) (s : State) → over_lights c w three qs k s ≡ over_lights c w four qs k s
+  over_alike w [] k s = refl
+  over_alike Illuminance (q ∷ qs) k s = refl
+  over_alike Illuminate (q ∷ qs) k s = refl
+  over_alike Solar (q ∷ qs) k s = refl
+
+  pub lines_unread : (x : Block) → without_differences x ≡ true → masked x three c n ≡ masked x four c n
+  lines_unread end g = refl
+  lines_unread (put r o x) g = ap (λ (k : Runs). λ s. k (write c r (result_of o three s) s)) (lines_unread x g) ∙ (λ i s. masked x four c n (write c r (result_alike o s i) s))
+  lines_unread (differ r d q x) g = absurd (false≢true g)
+  lines_unread (sum r which qs x) g = ap (λ (k : Runs). λ s. k (masked (sum r which qs end) three c n s)) (lines_unread x g)
+  lines_unread (branch (Uniform shape r) a b x) g =
+      let p = and_parts _ _ g in
       let q = and_parts _ _ p.1 in
-      let p' = and_parts _ _ g in
-      let q' = and_parts _ _ p'.1 in
-      ap (λ (k : Runs). λ s. k (cond (is_true (s.shared shape r)) (masked a three c n s) (masked b three c n s))) (lines_unread x q.1 q'.1)
-      ∙ ap (λ (k : Runs). λ s. masked x four c n (cond (is_true (s.shared shape r)) (k s) (masked b three c n s))) (lines_unread a p.0 p'.0)
-      ∙ ap (λ (k : Runs). λ s. masked x four c n (cond (is_true (s.shared shape r)) (masked a four c n s) (k s))) (lines_unread b q.0 q'.0)
-  lines_unread (branch (Varying shape r) a b x) h g =
-      let p = and_parts _ _ h in
+      ap (λ (k : Runs). λ s. k (cond (is_true (s.shared shape r)) (masked a three c n s) (masked b three c n s))) (lines_unread x q.1)
+      ∙ ap (λ (k : Runs). λ s. masked x four c n (cond (is_true (s.shared shape r)) (k s) (masked b three c n s))) (lines_unread a p.0)
+      ∙ ap (λ (k : Runs). λ s. masked x four c n (cond (is_true (s.shared shape r)) (masked a four c n s) (k s))) (lines_unread b q.0)
+  lines_unread (branch (Varying shape r) a b x) g =
+      let p = and_parts _ _ g in
       let q = and_parts _ _ p.1 in
-      let p' = and_parts _ _ g in
-      let q' = and_parts _ _ p'.1 in
-      ap (λ (k : Runs). λ s. k (both_parts (λ i. is_true (s.rows shape r i)) (masked a three c n) (masked b three c n) s)) (lines_unread x q.1 q'.1)
-      ∙ ap (λ (k : Runs). λ s. masked x four c n (both_parts (λ i. is_true (s.rows shape r i)) k (masked b three c n) s)) (lines_unread a p.0 p'.0)
-      ∙ ap (λ (k : Runs). λ s. masked x four c n (both_parts (λ i. is_true (s.rows shape r i)) (masked a four c n) k s)) (lines_unread b q.0 q'.0)
-  lines_unread (loops u d t e a x) h g =
-      let p = and_parts _ _ h in
+      ap (λ (k : Runs). λ s. k (both_parts (λ i. is_true (s.rows shape r i)) (masked a three c n) (masked b three c n) s)) (lines_unread x q.1)
+      ∙ ap (λ (k : Runs). λ s. masked x four c n (both_parts (λ i. is_true (s.rows shape r i)) k (masked b three c n) s)) (lines_unread a p.0)
+      ∙ ap (λ (k : Runs). λ s. masked x four c n (both_parts (λ i. is_true (s.rows shape r i)) (masked a four c n) k s)) (lines_unread b q.0)
+  lines_unread (loops u d t e a x) g =
+      let p = and_parts _ _ g in
       let q = and_parts _ _ p.1 in
       let w = and_parts _ _ q.1 in
-      let p' = and_parts _ _ g in
-      let q' = and_parts _ _ p'.1 in
-      let w' = and_parts _ _ q'.1 in
-      ap (λ (k : Runs). λ s. k (looped n c u (masked d three c n) t (masked e three c n) (masked a three c n) s)) (lines_unread x w.1 w'.1)
-      ∙ ap (λ (k : Runs). λ s. masked x four c n (looped n c u k t (masked e three c n) (masked a three c n) s)) (lines_unread d p.0 p'.0)
-      ∙ ap (λ (k : Runs). λ s. masked x four c n (looped n c u (masked d four c n) t k (masked a three c n) s)) (lines_unread e q.0 q'.0)
-      ∙ ap (λ (k : Runs). λ s. masked x four c n (looped n c u (masked d four c n) t (masked e four c n) k s)) (lines_unread a w.0 w'.0)
-  lines_unread (lights w qs a x) h g = absurd (false≢true h)
-  lines_unread (breaks x) h g = ap (λ (k : Runs). λ s. k (masked (breaks end) three c n s)) (lines_unread x h g)
-  lines_unread (continues x) h g = ap (λ (k : Runs). λ s. k (masked (continues end) three c n s)) (lines_unread x h g)
+      ap (λ (k : Runs). λ s. k (looped n c u (masked d three c n) t (masked e three c n) (masked a three c n) s)) (lines_unread x w.1)
+      ∙ ap (λ (k : Runs). λ s. masked x four c n (looped n c u k t (masked e three c n) (masked a three c n) s)) (lines_unread d p.0)
+      ∙ ap (λ (k : Runs). λ s. masked x four c n (looped n c u (masked d four c n) t k (masked a three c n) s)) (lines_unread e q.0)
+      ∙ ap (λ (k : Runs). λ s. masked x four c n (looped n c u (masked d four c n) t (masked e four c n) k s)) (lines_unread a w.0)
+  lines_unread (lights w qs a x) g =
+      let p = and_parts _ _ g in
+      ap (λ (k : Runs). λ s. k (over_lights c w three qs (masked a three c n) s)) (lines_unread x p.1)
+      ∙ ap (λ (k : Runs). λ s. masked x four c n (over_lights c w three qs k s)) (lines_unread a p.0)
+      ∙ (λ i s. masked x four c n (over_alike w qs (masked a four c n) s i))
+  lines_unread (breaks x) g = ap (λ (k : Runs). λ s. k (masked (breaks end) three c n s)) (lines_unread x g)
+  lines_unread (continues x) g = ap (λ (k : Runs). λ s. k (masked (continues end) three c n s)) (lines_unread x g)
 
 -- valid code of a shader that isn't on a surface has no difference
 pub placed_plain : (k : SlKind) → has_surface k ≡ false → (l u : Bool) (x : Block) → is_placed k l u x ≡ true → without_differences x ≡ true

@@ -135,7 +135,7 @@ fit_on (r ∷ rs) qs (v ∷ vs) ws a b = (a.0, fit_on rs qs vs ws a.1 b)
 fit_on [] qs (v ∷ vs) ws a b = absurd a
 fit_on (r ∷ rs) qs [] ws a b = absurd a
 
-name_number : (p : Predefined) → register_number (name_at p) < first_free
+pub name_number : (p : Predefined) → register_number (name_at p) < first_free
 name_number p = let e = number_of_reg (is_uniform_name p) (shape_of (name_type p)) (place_of p) in let l = place_small p in omega (arith, e, l)
 
 abbrev step_values : SlKind → Names → List Value
@@ -215,12 +215,12 @@ started_keeps Light c s = record { live = refl; turns = refl; own = refl }
 started_keeps Volume c s = record { live = refl; turns = refl; own = refl }
 
 -- ---- the state that a run begins with
-zero_is : (s : Shape) → run.zero_value s ≡ as_shape s zero_value
+pub zero_is : (s : Shape) → run.zero_value s ≡ as_shape s zero_value
 zero_is shapes.Number = refl
 zero_is shapes.Triple = refl
 zero_is shapes.Word = refl
 
-fresh_read : (u : Bool) (s : Shape) (k i : ℕ) → read fresh (reg u s k) i ≡ run.zero_value s
+pub fresh_read : (u : Bool) (s : Shape) (k i : ℕ) → read fresh (reg u s k) i ≡ run.zero_value s
 fresh_read true s k i = refl
 fresh_read false s k i = refl
 

@@ -5,3 +5,4 @@ pub mod Rows
 pub mod Diced
 pub mod Given
 pub mod Shop
+pub mod Lamps

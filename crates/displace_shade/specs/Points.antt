@@ -1,5 +1,5 @@
 -- What is known of the points of a leaf's grid before any shader runs (RenderMan Interface 3.2, section 11, predefined shader variables).
-use Rattle.std.specs.Prelude.{ℕ, ◌/◌, ◌%◌, ℤ, pos, Bool, cond, Option, Some, None, slice_index_or}
+use Rattle.std.specs.Prelude.{◌≡◌, ℕ, ◌/◌, ◌%◌, ℤ, pos, neg_ℤ, refl, Bool, true, false, cond, Option, Some, None, slice_index_or}
 use Rattle.fixed_math.specs.declared.vec3.Vec3.{Vec3}
 use Rattle.patches.specs.Parts.{Part}
 use Rattle.patches.specs.Patches.{patch_point, patch_du, patch_dv}
@@ -109,3 +109,19 @@ diced_names l i names.Os = Triple l.prim.os
 diced_names l i names.DPdu = Triple (dpdu l i)
 diced_names l i names.DPdv = Triple (dpdv l i)
 diced_names l i name = nothing name
+
+-- worked: the normal of a patch turned over, and that of a flat primitive; what a camera without perspective sees
+abbrev a_normal : Vec3
+a_normal = record { x = pos 65536; y = pos 0; z = pos 0 }
+
+abbrev another : Vec3
+another = record { x = pos 0; y = pos 65536; z = pos 0 }
+
+abbrev turned_over : turned true (flat_or None a_normal) ≡ record { x = neg_ℤ (pos 65536); y = pos 0; z = pos 0 }
+turned_over = refl
+
+abbrev of_flat : turned false (flat_or (Some another) a_normal) ≡ another
+of_flat = refl
+
+abbrev straight_on : sight_by None a_normal ≡ record { x = pos 0; y = pos 0; z = pos 65536 }
+straight_on = refl

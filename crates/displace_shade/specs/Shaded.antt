@@ -1,5 +1,5 @@
 -- The shaded grid of a leaf: displacement, surface and volume, one after another, each over all points (Cook, Carpenter, Catmull 1987).
-use Rattle.std.specs.Prelude.{ℕ, ◌*◌, ℤ, pos, ◌+ℤ◌, ◌-ℤ◌, List, [], ◌∷◌, map, Option, Some, None, slice_index_or, slice_get}
+use Rattle.std.specs.Prelude.{◌≡◌, refl, ℕ, ◌*◌, ℤ, pos, neg_ℤ, ◌+ℤ◌, ◌-ℤ◌, List, [], ◌∷◌, map, Option, Some, None, slice_index_or, slice_get}
 use Rattle.std.specs.List.{range_with_len}
 use Rattle.std.specs.Int.{int_max, int_min}
 use Rattle.fixed_math.specs.declared.vec3.Vec3.{Vec3}
@@ -49,13 +49,13 @@ light_spaces l b = spaces_with l b.space b.space
 abbrev pub light_of : Leaf → Bound → Vec3 → Light
 light_of l b q = light_answer b.tree (light_spaces l b) b.values q
 
+abbrev pub with_light : Leaf → Option Bound → List (Vec3 → Light) → List (Vec3 → Light)
+with_light l None rest = rest
+with_light l (Some b) rest = light_of l b ∷ rest
+
 abbrev pub lights_from : Leaf → SetValue → List ShaderUse → List ℕ → List (Vec3 → Light)
 lights_from l s uses [] = []
-lights_from l s uses (n ∷ ns) = light_at (bound_at s uses n) (lights_from l s uses ns)
-  where
-    light_at : Option Bound → List (Vec3 → Light) → List (Vec3 → Light)
-    light_at None rest = rest
-    light_at (Some b) rest = light_of l b ∷ rest
+lights_from l s uses (n ∷ ns) = with_light l (bound_at s uses n) (lights_from l s uses ns)
 
 -- a run of one shader over the grid; where there is none, nothing changes
 abbrev pub around : Leaf → Bound → List (Vec3 → Light) → Around
@@ -117,3 +117,25 @@ shaded l s uses =
       colours = at_points l (λ i. triple_of (behind i names.Ci));
       opacities = at_points l (λ i. opacity (triple_of (behind i names.Oi)));
     }
+
+-- worked: displacement within the bound, past it on both sides, and without any; opacities below, within and above their range
+abbrev within_the_bound : kept_near (pos 3) (pos 10) (pos 12) ≡ pos 12
+within_the_bound = refl
+
+abbrev past_the_bound : kept_near (pos 3) (pos 10) (pos 20) ≡ pos 13
+past_the_bound = refl
+
+abbrev past_it_downwards : kept_near (pos 3) (pos 1) (neg_ℤ (pos 20)) ≡ neg_ℤ (pos 2)
+past_it_downwards = refl
+
+abbrev with_no_bound : kept_near (pos 0) (pos 10) (pos 12) ≡ pos 10
+with_no_bound = refl
+
+abbrev less_than_none : share (neg_ℤ (pos 1)) ≡ pos 0
+less_than_none = refl
+
+abbrev half_of_all : share (pos 32768) ≡ pos 32768
+half_of_all = refl
+
+abbrev more_than_all : share (pos 65537) ≡ pos 65536
+more_than_all = refl

@@ -5,7 +5,7 @@ ghost use Rattle.scene_state.specs.declared.uses.ShaderKind.{ShaderKind as UseKi
 ghost use Rattle.sl_ast.specs.TreeView.{tree_of};
 ghost use Rattle.displace_shade.specs.Sets.{Fits, is_of_kind};
 ghost use Rattle.displace_shade.specs.Shaded.{bound_at as bound_at_use};
-ghost use Rattle.displace_shade.specs.Shop.{set_value, bound_value, CanRunAll, Runs};
+ghost use Rattle.displace_shade.specs.Shop.{set_value, bound_value, Runs};
 
 use crate::set::ShaderSet;
 use mask_codegen::Compiled;
@@ -25,7 +25,6 @@ pub(crate) struct BoundShader<'s> {
 pub(crate) fn bound_at<'s>(set: &'s ShaderSet, uses: &'s [ShaderUse], n: u32) -> BoundShader<'s>
     requires fits { Fits (set_value set.now) uses.now }
     requires there { n < length uses.now }
-    requires can { CanRunAll set.now }
     ensures found { bound_at_use (set_value set.now) uses.now n ≡ Some (bound_value result) }
     ensures runs { Runs result }
     ensures kind { (kind : UseKind) → IsUse uses.now kind n → is_of_kind (tree_of result.compiled.now.tree).kind kind ≡ true }

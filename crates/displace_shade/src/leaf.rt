@@ -163,4 +163,12 @@ impl<'s> Leaf<'s> {
         let prim = self.prim;
         prim.atmosphere
     }
+
+    /// The uses of its primitive's lights.
+    pub(crate) fn lights(&self) -> &[u32]
+        ensures { result.now ≡ self.now.prim.lights }
+    {
+        let prim = self.prim;
+        prim.lights.as_slice()
+    }
 }

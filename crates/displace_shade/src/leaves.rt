@@ -1,19 +1,19 @@
 // The shaded grid of a leaf: its three shaders in turn.
-ghost use Rattle.std.specs.Prelude.{◌≡◌, ℕ, List, [], map, length, get_or, IfOk};
+ghost use Rattle.std.specs.Prelude.{◌≡◌, ℕ, [], All, map, length, get_or, IfOk};
 ghost use Rattle.fixed_math.specs.Axes.{origin};
-ghost use Rattle.fixed_math.specs.declared.vec3.Vec3.{Vec3 as Triple};
 ghost use Rattle.scene_state.specs.Scene.{IsUse, IsSomeUse, HasUses};
 ghost use Rattle.scene_state.specs.declared.uses.ShaderKind.TheVariants as requested;
-ghost use Rattle.builtins.specs.Lights.{Light};
 ghost use Rattle.sl_meaning.specs.Runs.{Names};
 ghost use Rattle.displace_shade.specs.Sets.{Fits};
 ghost use Rattle.displace_shade.specs.Points.{sight};
 ghost use Rattle.displace_shade.specs.Shaded.{bound_at as bound_at_use, bound_for, shaded_by, moved, shaded};
 ghost use Rattle.displace_shade.specs.Diced.{point_count, over, Hold, IsSized, IsColoured, ArePlaces, grid_value};
-ghost use Rattle.displace_shade.specs.Shop.{set_value, CanRunAll};
+ghost use Rattle.displace_shade.specs.Shop.{set_value};
+ghost use Rattle.displace_shade.specs.Lamps.{IsLamp, lamp_light};
 
 use crate::bound::bound_at;
 use crate::diced::{first_variables, grid_of, places_of};
+use crate::lamps::{Lamp, lamps_of};
 use crate::leaf::Leaf;
 use crate::moves::{kept_points, sights};
 use crate::places::Places;
@@ -44,7 +44,6 @@ fn displaced_by<'a>(
     n: u32,
 ) -> Result<Variables<'a>, NoMemory>
     requires fits { Fits (set_value shaders.now.set.now) shaders.now.uses.now }
-    requires can { CanRunAll shaders.now.set.now }
     requires use_of { IsUse shaders.now.uses.now requested.Displacement n }
     requires places { ArePlaces leaf.now places.now }
     requires sized { IsSized leaf.now variables.now }
@@ -65,7 +64,6 @@ fn displaced<'a>(
     shader: Option<u32>,
 ) -> Result<Variables<'a>, NoMemory>
     requires fits { Fits (set_value shaders.now.set.now) shaders.now.uses.now }
-    requires can { CanRunAll shaders.now.set.now }
     requires use_of { IsSomeUse shaders.now.uses.now requested.Displacement shader }
     requires places { ArePlaces leaf.now places.now }
     requires sized { IsSized leaf.now variables.now }
@@ -106,26 +104,27 @@ fn kept_near<'a>(
     })
 }
 
-/// The variables behind the surface of use `n`.
-fn coloured<'a>(
-    shaders: &Shaders,
+/// The variables behind the surface of use `n` under lights.
+fn coloured<'a, 's>(
+    shaders: &Shaders<'s>,
     arena: &'a Bump,
     leaf: &Leaf,
+    lamps: &[Lamp<'s, 'a>],
     places: &Places,
     variables: &Variables<'a>,
     n: u32,
 ) -> Result<Variables<'a>, NoMemory>
     requires fits { Fits (set_value shaders.now.set.now) shaders.now.uses.now }
-    requires can { CanRunAll shaders.now.set.now }
     requires use_of { IsUse shaders.now.uses.now requested.Surface n }
+    requires lamps { All (IsLamp leaf.now) lamps.now }
     requires places { ArePlaces leaf.now places.now }
     requires sized { IsSized leaf.now variables.now }
     ensures sized { IfOk result (λ e. IsSized leaf.now e) }
     ensures coloured { IfOk result (λ e. IsColoured leaf.now e) }
-    ensures hold { IfOk result (λ e. (lights : List (Triple → Light)) (f : ℕ → Names) → Hold leaf.now variables.now f → Hold leaf.now e (shaded_by leaf.now (bound_at_use (set_value shaders.now.set.now) shaders.now.uses.now n) lights f)) }
+    ensures hold { IfOk result (λ e. (f : ℕ → Names) → Hold leaf.now variables.now f → Hold leaf.now e (shaded_by leaf.now (bound_at_use (set_value shaders.now.set.now) shaders.now.uses.now n) (map (lamp_light leaf.now) lamps.now) f)) }
 {
     let bound = bound_at(shaders.set, shaders.uses, n);
-    colour(shaders.alloc, arena, leaf, &bound, places, variables)
+    colour(shaders.alloc, arena, leaf, &bound, lamps, places, variables)
 }
 
 /// The variables behind the volume of use `n`.
@@ -137,7 +136,6 @@ fn dimmed_by<'a>(
     n: u32,
 ) -> Result<Variables<'a>, NoMemory>
     requires fits { Fits (set_value shaders.now.set.now) shaders.now.uses.now }
-    requires can { CanRunAll shaders.now.set.now }
     requires use_of { IsUse shaders.now.uses.now requested.Volume n }
     requires sized { IsSized leaf.now variables.now }
     requires coloured { IsColoured leaf.now variables.now }
@@ -158,7 +156,6 @@ fn dimmed<'a>(
     shader: Option<u32>,
 ) -> Result<Variables<'a>, NoMemory>
     requires fits { Fits (set_value shaders.now.set.now) shaders.now.uses.now }
-    requires can { CanRunAll shaders.now.set.now }
     requires use_of { IsSomeUse shaders.now.uses.now requested.Volume shader }
     requires sized { IsSized leaf.now variables.now }
     requires coloured { IsColoured leaf.now variables.now }
@@ -179,7 +176,6 @@ pub(crate) fn shaded_leaf<'a>(
     leaf: &Leaf,
 ) -> Result<GridRef<'a>, NoMemory>
     requires fits { Fits (set_value shaders.now.set.now) shaders.now.uses.now }
-    requires can { CanRunAll shaders.now.set.now }
     requires uses { HasUses shaders.now.uses.now leaf.now.prim }
     ensures { IfOk result (λ grid. grid_value grid ≡ shaded leaf.now (set_value shaders.now.set.now) shaders.now.uses.now) }
 {
@@ -187,7 +183,8 @@ pub(crate) fn shaded_leaf<'a>(
     let places = places_of(arena, leaf, first.normals)?;
     let free = displaced(shaders, arena, leaf, &places, &first, leaf.displacement())?;
     let near = kept_near(arena, leaf, &first, &free)?;
-    let lit = coloured(shaders, arena, leaf, &places, &near, leaf.surface())?;
+    let lamps = lamps_of(arena, shaders.set, shaders.uses, leaf)?;
+    let lit = coloured(shaders, arena, leaf, &lamps, &places, &near, leaf.surface())?;
     let last = dimmed(shaders, arena, leaf, &lit, leaf.atmosphere())?;
     let grid = grid_of(arena, leaf, &last)?;
     Ok(grid)

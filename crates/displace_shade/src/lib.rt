@@ -4,6 +4,7 @@
 mod bound;
 mod diced;
 mod given;
+mod lamps;
 mod leaf;
 mod leaves;
 mod left;
@@ -13,7 +14,6 @@ mod rows;
 mod runs;
 mod set;
 mod shop;
-mod unlit;
 mod variables;
 
 pub use set::ShaderSet;

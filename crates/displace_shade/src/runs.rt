@@ -1,12 +1,10 @@
 // Runs of the three shaders of a primitive.
-ghost use Rattle.std.specs.Prelude.{◌≡◌, ◌≤◌, ◌*◌, ◌++◌, ◌∷◌, [], List, ℕ, true, false, length, map, IfOk};
-ghost use Rattle.fixed_math.specs.declared.vec3.Vec3.{Vec3 as Triple};
+ghost use Rattle.std.specs.Prelude.{◌≡◌, ◌≤◌, ◌*◌, ◌++◌, ◌∷◌, [], ℕ, true, false, All, length, map, IfOk};
 ghost use Rattle.transforms.specs.declared.spaces.Spaces.{Spaces as Maps};
 ghost use Rattle.sl_ast.specs.Names.{is_light};
 ghost use Rattle.sl_ast.specs.TreeView.{tree_of};
 ghost use Rattle.sl_ast.specs.declared.kinds.SlKind.TheVariants as kinds;
 ghost use Rattle.sl_ast.specs.declared.typed.Value.TheVariants as values;
-ghost use Rattle.builtins.specs.Lights.{Light};
 ghost use Rattle.builtins.specs.Shapes.{shape as shape_of_value};
 ghost use Rattle.grid_code.specs.Masked.{masked};
 ghost use Rattle.grid_code.specs.Shapes.{register_shape};
@@ -14,19 +12,20 @@ ghost use Rattle.grid_code.specs.View.{block_of};
 ghost use Rattle.sl_meaning.specs.Runs.{Names, ran};
 ghost use Rattle.displace_shade.specs.Points.{columns as column_count, rows as row_count, lines};
 ghost use Rattle.displace_shade.specs.Shaded.{spaces_of as maps_of, around};
-ghost use Rattle.grid_machine.specs.Run.{row_length, rows_of, uniform_inputs, varying_inputs, written_names, lines_given, begun, Leaves, without_lights};
+ghost use Rattle.grid_machine.specs.Run.{row_length, rows_of, uniform_inputs, varying_inputs, written_names, lines_given, begun, Leaves};
 ghost use Rattle.displace_shade.specs.Rows.{AreRaws, values_of};
 ghost use Rattle.displace_shade.specs.Diced.{point_count, over, triple_in, Hold, IsSized, IsColoured, ArePlaces};
 ghost use Rattle.displace_shade.specs.Given.{displacement_rows as displacement_list, surface_rows as surface_list, volume_rows as volume_list};
 ghost use Rattle.displace_shade.specs.Shop.{bound_value, Runs};
+ghost use Rattle.displace_shade.specs.Lamps.{IsLamp, lamp_light, lamp_asked};
 
 use crate::bound::BoundShader;
 use crate::given::{displacement_rows, surface_rows, uniform_values, volume_rows};
+use crate::lamps::{Lamp, Lamps, kept};
 use crate::leaf::Leaf;
 use crate::left::triples_from;
 use crate::places::Places;
 use crate::rows::{length_of_row, raws_of};
-use crate::unlit::Unlit;
 use crate::variables::Variables;
 use bumpalo::Bump;
 use fixed_math::{NoMemory, Num, Vec3};
@@ -65,25 +64,26 @@ fn surface_values(alloc: Global, leaf: &Leaf, bound: &BoundShader) -> Result<Vec
     Ok(given)
 }
 
-/// The six rows that a run of a shader leaves.
-fn run_on<'a>(
+/// The six rows that a run of a shader under lights leaves.
+fn run_on<'a, 's>(
     arena: &'a Bump,
     leaf: &Leaf,
-    bound: &BoundShader,
+    bound: &BoundShader<'s>,
+    lamps: &[Lamp<'s, 'a>],
     uniforms: &[Value],
     rows: &[Num],
 ) -> Result<Vec<i64, &'a Bump>, NoMemory>
     requires kind { is_light bound.now.compiled.now.code.kind ≡ false }
     requires written { rows_of (written_names bound.now.compiled.now.code.kind) ≡ 6 }
-    requires plain { without_lights (block_of bound.now.compiled.now.code.nodes) ≡ true }
+    requires lamps { All (IsLamp leaf.now) lamps.now }
     requires uniforms { map shape_of_value uniforms.now ≡ map register_shape (uniform_inputs bound.now.compiled.now.code.kind bound.now.compiled.now.code.params) }
     requires rows { length rows.now ≡ rows_of (varying_inputs bound.now.compiled.now.code.kind bound.now.compiled.now.code.params) * row_length (point_count leaf.now) }
     ensures long { IfOk result (λ out. length out.items ≡ 6 * row_length (point_count leaf.now)) }
     ensures small { IfOk result (λ out. AreRaws out.items) }
-    ensures values { IfOk result (λ out. Leaves bound.now.compiled.now.code.kind (point_count leaf.now) out.items (masked (block_of bound.now.compiled.now.code.nodes) record { lines = lines_given (column_count leaf.now) (row_count leaf.now) bound.now.compiled.now.code.params uniforms.now; spaces = maps_of leaf.now (bound_value bound.now); lights = [] } (point_count leaf.now) 65536 (begun bound.now.compiled.now.code.kind bound.now.compiled.now.code.params (point_count leaf.now) uniforms.now rows.now))) }
+    ensures values { IfOk result (λ out. Leaves bound.now.compiled.now.code.kind (point_count leaf.now) out.items (masked (block_of bound.now.compiled.now.code.nodes) record { lines = lines_given (column_count leaf.now) (row_count leaf.now) bound.now.compiled.now.code.params uniforms.now; spaces = maps_of leaf.now (bound_value bound.now); lights = map (lamp_asked (lines_given (column_count leaf.now) (row_count leaf.now) bound.now.compiled.now.code.params uniforms.now) (point_count leaf.now)) lamps.now } (point_count leaf.now) 65536 (begun bound.now.compiled.now.code.kind bound.now.compiled.now.code.params (point_count leaf.now) uniforms.now rows.now))) }
 {
     let raws = raws_of(arena, rows)?;
-    let spaces = spaces_of(leaf, bound.space);
+    let spaces = kept(arena, spaces_of(leaf, bound.space))?;
     let width = length_of_row(leaf.point_count());
     let mut out = vec![in arena; 0; 6 * width]?;
     let inputs = Inputs {
@@ -91,16 +91,16 @@ fn run_on<'a>(
         rows: leaf.rows(),
         uniforms,
         varyings: &raws,
-        spaces: &spaces,
+        spaces,
     };
     let compiled = bound.compiled;
     let code = compiled.code();
-    let unlit = Unlit {
-        code,
-        values: uniforms,
-        spaces: &spaces,
+    let spare = Lamp {
+        shader: *bound,
+        spaces,
     };
-    run(code, arena, &inputs, &unlit, &mut out)?;
+    let lights = Lamps { lamps, spare };
+    run(code, arena, &inputs, &lights, &mut out)?;
     Ok(out)
 }
 
@@ -148,7 +148,7 @@ fn displacement_given<'a>(
     )
 }
 
-/// The variables behind a run of a displacement.
+/// The variables behind a run of a displacement, which no light reaches.
 pub(crate) fn displace<'a>(
     alloc: Global,
     arena: &'a Bump,
@@ -162,11 +162,11 @@ pub(crate) fn displace<'a>(
     requires places { ArePlaces leaf.now places.now }
     requires sized { IsSized leaf.now variables.now }
     ensures sized { IfOk result (λ e. IsSized leaf.now e) }
-    ensures hold { IfOk result (λ e. (lights : List (Triple → Light)) (f : ℕ → Names) → Hold leaf.now variables.now f → Hold leaf.now e (ran (tree_of bound.now.compiled.now.tree) (around leaf.now (bound_value bound.now) lights) (λ i. bound.now.values.now) f)) }
+    ensures hold { IfOk result (λ e. (f : ℕ → Names) → Hold leaf.now variables.now f → Hold leaf.now e (ran (tree_of bound.now.compiled.now.tree) (around leaf.now (bound_value bound.now) []) (λ i. bound.now.values.now) f)) }
 {
     let rows = displacement_given(arena, leaf, bound, places, variables)?;
     let uniforms = surface_values(alloc, leaf, bound)?;
-    let out = run_on(arena, leaf, bound, &uniforms, &rows)?;
+    let out = run_on(arena, leaf, bound, &[], &uniforms, &rows)?;
     let points = triples_left(arena, leaf, &out, 0)?;
     let normals = triples_left(arena, leaf, &out, 3)?;
     Ok(Variables {
@@ -207,26 +207,28 @@ fn surface_given<'a>(
     )
 }
 
-/// The variables behind a run of a surface.
-pub(crate) fn colour<'a>(
+/// The variables behind a run of a surface under lights.
+pub(crate) fn colour<'a, 's>(
     alloc: Global,
     arena: &'a Bump,
     leaf: &Leaf,
-    bound: &BoundShader,
+    bound: &BoundShader<'s>,
+    lamps: &[Lamp<'s, 'a>],
     places: &Places,
     variables: &Variables<'a>,
 ) -> Result<Variables<'a>, NoMemory>
     requires runs { Runs bound.now }
     requires kind { (tree_of bound.now.compiled.now.tree).kind ≡ kinds.Surface }
+    requires lamps { All (IsLamp leaf.now) lamps.now }
     requires places { ArePlaces leaf.now places.now }
     requires sized { IsSized leaf.now variables.now }
     ensures sized { IfOk result (λ e. IsSized leaf.now e) }
     ensures coloured { IfOk result (λ e. IsColoured leaf.now e) }
-    ensures hold { IfOk result (λ e. (lights : List (Triple → Light)) (f : ℕ → Names) → Hold leaf.now variables.now f → Hold leaf.now e (ran (tree_of bound.now.compiled.now.tree) (around leaf.now (bound_value bound.now) lights) (λ i. bound.now.values.now) f)) }
+    ensures hold { IfOk result (λ e. (f : ℕ → Names) → Hold leaf.now variables.now f → Hold leaf.now e (ran (tree_of bound.now.compiled.now.tree) (around leaf.now (bound_value bound.now) (map (lamp_light leaf.now) lamps.now)) (λ i. bound.now.values.now) f)) }
 {
     let rows = surface_given(arena, leaf, bound, places, variables)?;
     let uniforms = surface_values(alloc, leaf, bound)?;
-    let out = run_on(arena, leaf, bound, &uniforms, &rows)?;
+    let out = run_on(arena, leaf, bound, lamps, &uniforms, &rows)?;
     let colours = triples_left(arena, leaf, &out, 0)?;
     let opacities = triples_left(arena, leaf, &out, 3)?;
     Ok(Variables {
@@ -272,7 +274,7 @@ fn volume_values(alloc: Global, bound: &BoundShader) -> Result<Vec<Value>, NoMem
     uniform_values(alloc, code.params.as_slice(), bound.values)
 }
 
-/// The variables behind a run of a volume.
+/// The variables behind a run of a volume, which no light reaches.
 pub(crate) fn dim<'a>(
     alloc: Global,
     arena: &'a Bump,
@@ -286,11 +288,11 @@ pub(crate) fn dim<'a>(
     requires coloured { IsColoured leaf.now variables.now }
     ensures sized { IfOk result (λ e. IsSized leaf.now e) }
     ensures coloured { IfOk result (λ e. IsColoured leaf.now e) }
-    ensures hold { IfOk result (λ e. (lights : List (Triple → Light)) (f : ℕ → Names) → Hold leaf.now variables.now f → Hold leaf.now e (ran (tree_of bound.now.compiled.now.tree) (around leaf.now (bound_value bound.now) lights) (λ i. bound.now.values.now) f)) }
+    ensures hold { IfOk result (λ e. (f : ℕ → Names) → Hold leaf.now variables.now f → Hold leaf.now e (ran (tree_of bound.now.compiled.now.tree) (around leaf.now (bound_value bound.now) []) (λ i. bound.now.values.now) f)) }
 {
     let rows = volume_given(arena, leaf, bound, variables)?;
     let uniforms = volume_values(alloc, bound)?;
-    let out = run_on(arena, leaf, bound, &uniforms, &rows)?;
+    let out = run_on(arena, leaf, bound, &[], &uniforms, &rows)?;
     let colours = triples_left(arena, leaf, &out, 0)?;
     let opacities = triples_left(arena, leaf, &out, 3)?;
     Ok(Variables {

@@ -3,7 +3,7 @@ ghost use Rattle.scene_state.specs.Scene.{FrameValue, PrimValue, HasUses};
 ghost use Rattle.displace_shade.specs.Sets.{Fits};
 ghost use Rattle.displace_shade.specs.Shaded.{shaded};
 ghost use Rattle.displace_shade.specs.Diced.{grid_value};
-ghost use Rattle.displace_shade.specs.Shop.{set_value, leaf_of, CanRunAll};
+ghost use Rattle.displace_shade.specs.Shop.{set_value, leaf_of};
 
 use crate::leaf::Leaf;
 use crate::leaves::{Shaders, shaded_leaf};
@@ -25,7 +25,6 @@ fn shaded_piece<'a>(
     q: u8,
 ) -> Result<GridRef<'a>, NoMemory>
     requires fits { Fits (set_value shaders.now.set.now) shaders.now.uses.now }
-    requires can { CanRunAll shaders.now.set.now }
     requires prim { piece.now.prim < length frame.now.prims }
     requires uses { All (HasUses shaders.now.uses.now) frame.now.prims }
     requires columns { p ≤ 4 }
@@ -74,8 +73,8 @@ impl Shop {
     }
 
     /// The shaded grid of a piece in the arena, of 2^`p` + 1 columns and 2^`q` + 1 rows: displacement, surface and volume over its points, one
-    /// after another. The shop's shaders are those of the scene, the frame and the piece's primitive are there, and `p` and `q` are at most 4.
-    /// No shader of the shop has anything over lights yet. The count rises by one, unless memory is wanting.
+    /// after another, the surface under the lights of the primitive. The shop's shaders are those of the scene, the frame and the piece's
+    /// primitive are there, and `p` and `q` are at most 4. The count rises by one, unless memory is wanting.
     pub fn shade<'a>(
         &mut self,
         arena: &'a Bump,
@@ -86,7 +85,6 @@ impl Shop {
         q: u8,
     ) -> Result<GridRef<'a>, NoMemory>
         requires fits { Fits (set_value self.old.set) scene.now.uses }
-        requires can { CanRunAll self.old.set }
         requires frame { frame < length scene.now.frames }
         requires prim { (f : FrameValue) → slice_get scene.now.frames frame ≡ Some f → piece.now.prim < length f.prims }
         requires columns { p ≤ 4 }

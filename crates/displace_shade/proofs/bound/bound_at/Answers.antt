@@ -5,7 +5,7 @@ use Rattle.std.proofs.lemmas.List.{length-map}
 use Rattle.sl_ast.specs.TreeView.{tree_of}
 use Rattle.scene_state.specs.Scene.{IsOf}
 use Rattle.displace_shade.specs.Sets.{AreValuesOf, is_of_kind}
-use Rattle.displace_shade.specs.Shop.{set_value, CanRun}
+use Rattle.displace_shade.specs.Shop.{set_value}
 use Rattle.displace_shade.proofs.BoundLaws.{fits_place, fits_long, fits_use, tree_found, found_law}
 use Rattle.displace_shade.proofs.bound.bound_at.Goals as goal
 
@@ -61,7 +61,6 @@ returns-clause-runs c =
     record {
       code = c.code-code.ensures.means;
       values = subst (λ vs. AreValuesOf (tree_of x.tree).params vs) (sym c.as_slice-4.ensures) fits.1;
-      can = subst CanRun (sym is) (c.requires.can k x lt);
     }
 
 pub returns-clause-kind : goal.returns-clause-kind

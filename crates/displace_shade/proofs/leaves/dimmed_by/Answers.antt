@@ -13,4 +13,4 @@ dim-requires-clause-kind c = of_volume _ (c.bound_at-bound.ensures.kind requeste
 
 pub returns-clause-hold : goal.returns-clause-hold
 returns-clause-hold c =
-    if_ok c.dim.result _ _ (λ e h f k. subst (λ o. Hold c.args.leaf.now e (shaded_by c.args.leaf.now o [] f)) (sym c.bound_at-bound.ensures.found) (h [] f k)) c.dim.ensures.hold
+    if_ok c.dim.result _ _ (λ e h f k. subst (λ o. Hold c.args.leaf.now e (shaded_by c.args.leaf.now o [] f)) (sym c.bound_at-bound.ensures.found) (h f k)) c.dim.ensures.hold

@@ -13,4 +13,4 @@ displace-requires-clause-kind c = of_displacement _ (c.bound_at-bound.ensures.ki
 
 pub returns-clause-hold : goal.returns-clause-hold
 returns-clause-hold c =
-    if_ok c.displace.result _ _ (λ e h f k. subst (λ o. Hold c.args.leaf.now e (shaded_by c.args.leaf.now o [] f)) (sym c.bound_at-bound.ensures.found) (h [] f k)) c.displace.ensures.hold
+    if_ok c.displace.result _ _ (λ e h f k. subst (λ o. Hold c.args.leaf.now e (shaded_by c.args.leaf.now o [] f)) (sym c.bound_at-bound.ensures.found) (h f k)) c.displace.ensures.hold

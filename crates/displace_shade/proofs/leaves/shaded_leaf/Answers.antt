@@ -1,9 +1,10 @@
-use Rattle.std.proofs.Common.{[], sym, subst, ◌∙◌}
+use Rattle.std.proofs.Common.{[], map, sym, ap, subst, ◌∙◌}
 use Rattle.scene_state.specs.Scene.{IsUse, IsSomeUse}
 use Rattle.scene_state.specs.declared.uses.ShaderKind.TheVariants as requested
 use Rattle.displace_shade.specs.Diced.{Hold}
 use Rattle.displace_shade.specs.Points.{diced_names}
 use Rattle.displace_shade.specs.Shaded.{bound_at, bound_for, lights_from, shaded_by, displaced}
+use Rattle.displace_shade.specs.Lamps.{lamp_light}
 use Rattle.displace_shade.specs.Shop.{set_value}
 use Rattle.displace_shade.proofs.Dicing.{first_hold, first_places, first_sized}
 use Rattle.displace_shade.proofs.Stages.{placed_hold, near_sized, grid_is}
@@ -55,7 +56,9 @@ returns c =
     let before = first_hold l c.in_ok-first.first d.points d.normals d.sights d.colours d.opacities in
     let free = subst (λ n. Hold l c.in_ok-free.free (shaded_by l (bound_for s uses n) [] (diced_names l))) c.displacement.ensures (c.in_ok-free.ensures.hold (diced_names l) before) in
     let near = placed_hold l c.in_ok-first.first c.in_ok-free.free c.in_ok-near.near (diced_names l) (shaded_by l (bound_for s uses l.prim.displacement) [] (diced_names l)) before free sized.points n.points n.sights n.normals n.colours n.opacities in
-    let lit = subst (λ n. Hold l c.in_ok-lit.lit (shaded_by l (bound_at s uses n) lights (displaced l (bound_for s uses l.prim.displacement)))) c.surface.ensures (c.in_ok-lit.ensures.hold lights (displaced l (bound_for s uses l.prim.displacement)) near) in
+    let lamps = ap (map (lamp_light l)) c.deref.ensures.value ∙ c.in_ok-lamps.ensures.lights in
+    let under = subst (λ n. Hold l c.in_ok-lit.lit (shaded_by l (bound_at s uses n) (map (lamp_light l) c.deref.result.now) (displaced l (bound_for s uses l.prim.displacement)))) c.surface.ensures (c.in_ok-lit.ensures.hold (displaced l (bound_for s uses l.prim.displacement)) near) in
+    let lit = subst (λ ls. Hold l c.in_ok-lit.lit (shaded_by l (bound_at s uses l.prim.surface) ls (displaced l (bound_for s uses l.prim.displacement)))) lamps under in
     let behind = shaded_by l (bound_at s uses l.prim.surface) lights (displaced l (bound_for s uses l.prim.displacement)) in
     let last = subst (λ n. Hold l c.in_ok-last.last (shaded_by l (bound_for s uses n) [] behind)) c.atmosphere.ensures (c.in_ok-last.ensures.hold behind lit) in
     grid_is l s uses c.in_ok-last.last c.in_ok-grid.grid last c.in_ok-last.ensures.sized.points c.in_ok-last.ensures.coloured.colours c.in_ok-last.ensures.coloured.opacities g.columns g.rows g.points g.colours g.opacities
@@ -68,3 +71,6 @@ coloured-requires-clause-use_of c = subst (λ n. IsUse c.args.shaders.now.uses.n
 
 pub dimmed-requires-clause-use_of : goal.dimmed-requires-clause-use_of
 dimmed-requires-clause-use_of c = subst (λ n. IsSomeUse c.args.shaders.now.uses.now requested.Volume n) (sym c.atmosphere.ensures) c.requires.uses.atmosphere
+
+pub lamps_of-requires-clause-use_of : goal.lamps_of-requires-clause-use_of
+lamps_of-requires-clause-use_of c = c.requires.uses.lights

@@ -21,20 +21,17 @@ run_on-requires-clause-kind c = ap is_light (c.requires.runs.code.kind ∙ c.req
 pub run_on-requires-clause-written : goal.run_on-requires-clause-written
 run_on-requires-clause-written c = ap (λ k. rows_of (written_names k)) (c.requires.runs.code.kind ∙ c.requires.kind)
 
-pub run_on-requires-clause-plain : goal.run_on-requires-clause-plain
-run_on-requires-clause-plain c = c.requires.runs.can.plain
-
 pub run_on-requires-clause-uniforms : goal.run_on-requires-clause-uniforms
 run_on-requires-clause-uniforms c =
     let b = c.args.bound.now in
     let r = c.requires.runs in
-    displace_shapes c.args.leaf.now (tree_of b.compiled.now.tree) b.compiled.now.code b.values.now b.space.now r.code r.values (bound_rowable b r) r.can.plain c.requires.kind c.deref.result.now (c.deref.ensures.value ∙ c.in_ok-uniforms.ensures)
+    displace_shapes c.args.leaf.now (tree_of b.compiled.now.tree) b.compiled.now.code b.values.now b.space.now r.code r.values (bound_rowable b r) c.requires.kind c.deref.result.now (c.deref.ensures.value ∙ c.in_ok-uniforms.ensures)
 
 pub run_on-requires-clause-rows : goal.run_on-requires-clause-rows
 run_on-requires-clause-rows c =
     let b = c.args.bound.now in
     let r = c.requires.runs in
-    displace_long c.args.leaf.now (tree_of b.compiled.now.tree) b.compiled.now.code b.values.now b.space.now r.code r.values (bound_rowable b r) r.can.plain c.requires.kind c.args.places.now c.args.variables.now c.deref-2.result.now c.requires.places c.requires.sized (c.deref-2.ensures.value ∙ c.in_ok-rows.ensures)
+    displace_long c.args.leaf.now (tree_of b.compiled.now.tree) b.compiled.now.code b.values.now b.space.now r.code r.values (bound_rowable b r) c.requires.kind c.args.places.now c.args.variables.now c.deref-2.result.now c.requires.places c.requires.sized (c.deref-2.ensures.value ∙ c.in_ok-rows.ensures)
 
 pub triples_left-requires-clause-small : goal.triples_left-requires-clause-small
 triples_left-requires-clause-small c = subst AreRaws (sym c.deref-3.ensures.value) c.in_ok-out.ensures.small
@@ -56,6 +53,6 @@ returns-clause-hold c =
     let b = c.args.bound.now in
     let r = c.requires.runs in
     let n = point_count c.args.leaf.now in
-    λ lights f h. displace_law c.args.leaf.now (tree_of b.compiled.now.tree) b.compiled.now.code b.values.now b.space.now r.code r.values (bound_rowable b r) r.can.plain c.requires.kind c.args.places.now c.args.variables.now _ c.deref.result.now c.deref-2.result.now c.in_ok-out.out.items
+    λ f h. displace_law c.args.leaf.now (tree_of b.compiled.now.tree) b.compiled.now.code b.values.now b.space.now r.code r.values (bound_rowable b r) c.requires.kind c.args.places.now c.args.variables.now _ c.deref.result.now c.deref-2.result.now c.in_ok-out.out.items
     c.requires.places c.requires.sized (c.deref.ensures.value ∙ c.in_ok-uniforms.ensures) (c.deref-2.ensures.value ∙ c.in_ok-rows.ensures) c.in_ok-out.ensures.values
-    (c.in_ok-points.ensures ∙ ap (λ o. over n (triple_in o (row_length n) 0)) c.deref-3.ensures.value) (c.in_ok-normals.ensures ∙ ap (λ o. over n (triple_in o (row_length n) 3)) c.deref-4.ensures.value) refl refl refl lights f h
+    (c.in_ok-points.ensures ∙ ap (λ o. over n (triple_in o (row_length n) 0)) c.deref-3.ensures.value) (c.in_ok-normals.ensures ∙ ap (λ o. over n (triple_in o (row_length n) 3)) c.deref-4.ensures.value) refl refl refl f h

@@ -1,0 +1,27 @@
+-- The lights of a primitive as they are run: each with its shader and its spaces.
+use Rattle.std.specs.Prelude.{◌≡◌, ℕ}
+use Rattle.fixed_math.specs.declared.vec3.Vec3.{Vec3}
+use Rattle.sl_ast.specs.declared.kinds.SlKind.TheVariants as kinds
+use Rattle.sl_ast.specs.TreeView.{tree_of}
+use Rattle.builtins.specs.Differences.{Lines}
+use Rattle.builtins.specs.Lights.{Light}
+use Rattle.grid_code.specs.Masked.{Asked}
+use Rattle.grid_machine.specs.Asked.{asked}
+use Rattle.displace_shade.specs.Points.{Leaf}
+use Rattle.displace_shade.specs.Shaded.{light_spaces, light_of}
+use Rattle.displace_shade.specs.Shop.{bound_value, Runs}
+use Rattle.displace_shade.specs.declared.lamps.Lamp.{Lamp}
+
+-- a shader of a light, in the spaces of a light
+pub record IsLamp (l : Leaf) (x : Lamp) : Type 0 where
+  pub runs : Runs x.shader
+  pub kind : (tree_of x.shader.compiled.now.tree).kind ≡ kinds.Light
+  pub spaces : x.spaces.now ≡ light_spaces l (bound_value x.shader)
+
+-- what its shader answers at a point
+abbrev pub lamp_light : Leaf → Lamp → Vec3 → Light
+lamp_light l x = light_of l (bound_value x.shader)
+
+-- what its code answers at all places of a grid at once
+abbrev pub lamp_asked : Lines → ℕ → Lamp → Asked
+lamp_asked lines c x = asked lines c x.spaces.now x.shader.compiled.now.code x.shader.values.now
