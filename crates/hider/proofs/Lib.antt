@@ -9,3 +9,7 @@ pub mod Sights
 pub mod Outside
 pub mod Pushes
 pub mod Pixels
+pub mod Keeps
+pub mod Placing
+pub mod Puts
+pub mod Showings

@@ -67,7 +67,7 @@ put_in_last : (z : ℤ) (f : Fragment) (l : List Fragment) → IsSorted l → of
 put_in_last z f [] s = refl
 put_in_last z f (g ∷ gs) s = put_in_last_from g.depth z f (g ∷ gs) (omega (arith, ints), s)
 
-all_sorted : (fs l : List Fragment) → IsSorted l → IsSorted (fold (λ k f. put_in f k) l fs)
+pub all_sorted : (fs l : List Fragment) → IsSorted l → IsSorted (fold (λ k f. put_in f k) l fs)
 all_sorted [] l s = s
 all_sorted (f ∷ fs) l s = all_sorted fs (put_in f l) (put_in_sorted f l s)
 

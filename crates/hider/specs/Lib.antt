@@ -3,5 +3,8 @@ pub mod Cells
 pub mod Coverage
 pub mod Fragments
 pub mod Composite
+pub mod Kept
+pub mod CellValues
+pub mod Tiles
 pub mod Bounding
 pub mod Weighing

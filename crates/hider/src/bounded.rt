@@ -8,6 +8,8 @@ use crate::coverage::covers;
 use crate::extremes::{greatest_of, least_of};
 use crate::fragment::Fragment;
 use crate::quad::Quad;
+use crate::sample::Sample;
+use crate::showing::Showing;
 use crate::spot::Spot;
 use std::marker::Model;
 
@@ -66,5 +68,13 @@ impl BoundedQuad {
             return None;
         }
         covers(&self.quad, s)
+    }
+}
+
+impl Showing for BoundedQuad {
+    ghost shown = { λ q s. covers q s.place };
+
+    fn shown_at(&self, s: &Sample) -> Option<Fragment> {
+        self.fragment_at(s.place)
     }
 }

@@ -1,0 +1,73 @@
+-- What a tile shows.
+use Rattle.std.proofs.Common.{◌≡◌, ℕ, ◌<◌, ap, arith, refl, sym, ◌∙◌, true, false, List, [], ◌∷◌, length, slice_index_or}
+use Rattle.std.specs.Prelude.{ℤ, ◌≤ℤ◌, ◌<ℤ◌, int_lt}
+use Rattle.std.proofs.lemmas.Int.{ints}
+use Rattle.hider.specs.declared.fragment.Fragment.{Fragment}
+use Rattle.hider.specs.declared.sample.Sample.{Sample}
+use Rattle.hider.specs.declared.tile_sample.TileSample.{TileSample}
+use Rattle.fixed_math.specs.declared.vec3.Vec3.{Vec3}
+use Rattle.hider.specs.Composite.{is_opaque, cut, composite}
+use Rattle.hider.specs.Fragments.{put_all, IsSortedFrom, IsSorted}
+use Rattle.hider.specs.Kept.{keep_all, hides, blocks}
+use Rattle.hider.specs.Tiles.{TileValue, IsTile, Shows, BlocksAll, HavePut, sample_of, sample_count}
+use Rattle.hider.proofs.Cuts.{by_bool, composite-cut}
+use Rattle.hider.proofs.Keeps.{keep_all-cut}
+use Rattle.hider.proofs.Threes.{and_true}
+use Rattle.hider.proofs.Orders.{all_sorted}
+
+-- with more put in at each sample
+pub shows_more : (t : TileValue) (new : List TileSample) (h f : Sample → List Fragment) → IsTile t → HavePut h t.samples new → Shows t f →
+    Shows (record { grid = t.grid; samples = new }) (λ s. put_all (f s) (h s))
+shows_more t new h f i p s = record {
+  sorted = λ x. all_sorted (h x) (f x) (s.sorted x);
+  kept = λ n d l.
+      let inside : n < length t.samples = (let e = i.samples.count in omega (arith, e, l)) in
+      let old = slice_index_or t.samples n d in
+      (p n d inside).1
+      ∙ ap (λ (k : _). keep_all k (h old.at)) (s.kept n d l)
+      ∙ ap (λ (x : Sample). keep_all (cut (f (sample_of t.grid n))) (h x)) (i.samples.places n d inside)
+      ∙ keep_all-cut (h (sample_of t.grid n)) (f (sample_of t.grid n));
+}
+
+-- the composite of what is kept is that of all
+pub shown_colour : (t : TileValue) (f : Sample → List Fragment) (n : ℕ) (d : TileSample) (c : Vec3) → Shows t f → n < sample_count t.grid → c ≡ composite (slice_index_or t.samples n d).list →
+    c ≡ composite (f (sample_of t.grid n))
+shown_colour t f n d c s h e = e ∙ ap composite (s.kept n d h) ∙ composite-cut (f (sample_of t.grid n))
+
+-- ---- in a sorted list nothing blocks what lies before its start
+blocks_above : (m z : ℤ) (l : List Fragment) → IsSortedFrom m l → blocks z l ≡ true → m <ℤ z
+blocks_above m z [] s e = absurd (cc)
+blocks_above m z (g ∷ gs) s e =
+    let low = s.0 in
+    by_bool (hides z g)
+    (λ o. let h = (and_true (is_opaque g) (int_lt g.depth z) o).1 in omega (arith, ints))
+    (λ o. let h = blocks_above g.depth z gs s.1 (rw o at e) in omega (arith, ints))
+
+no_block : (m z : ℤ) (l : List Fragment) → IsSortedFrom m l → z ≤ℤ m → blocks z l ≡ false
+no_block m z l s h = by_bool (blocks z l) (λ b. absurd (let k = blocks_above m z l s b in omega (arith, ints))) (λ b. b)
+
+-- a cut blocks as much as its list
+blocks-cut_from : (m z : ℤ) (l : List Fragment) → IsSortedFrom m l → blocks z (cut l) ≡ blocks z l
+blocks-cut_from m z [] s = refl
+blocks-cut_from m z (g ∷ gs) s =
+    by_bool (is_opaque g)
+    (λ o. by_bool (int_lt g.depth z)
+    (λ t. simp (o, t))
+    (λ t. let n = no_block g.depth z gs s.1 (omega (arith, ints)) in simp (o, t, n)))
+    (λ o. let i = blocks-cut_from g.depth z gs s.1 in simp (o, i))
+
+pub blocks-cut : (z : ℤ) (l : List Fragment) → IsSorted l → blocks z (cut l) ≡ blocks z l
+blocks-cut z [] s = refl
+blocks-cut z (g ∷ gs) s = blocks-cut_from g.depth z (g ∷ gs) (omega (arith, ints), s)
+
+-- at all samples
+pub blocked_all : (t : TileValue) (f : Sample → List Fragment) (z : ℤ) → IsTile t → Shows t f → ((n : ℕ) (d : TileSample) → n < length t.samples → blocks z (slice_index_or t.samples n d).list ≡ true) → BlocksAll z t.grid f
+blocked_all t f z i s b n h =
+    let l : n < length t.samples = (let e = i.samples.count in omega (arith, e, h)) in
+    let d : TileSample = record { at = sample_of t.grid n; list = [] } in
+    sym (blocks-cut z (f (sample_of t.grid n)) (s.sorted (sample_of t.grid n))) ∙ ap (blocks z) (sym (s.kept n d h)) ∙ b n d l
+
+pub blocked_each : (t : TileValue) (f : Sample → List Fragment) (z : ℤ) → IsTile t → Shows t f → BlocksAll z t.grid f → (n : ℕ) (d : TileSample) → n < length t.samples → blocks z (slice_index_or t.samples n d).list ≡ true
+blocked_each t f z i s b n d h =
+    let l : n < sample_count t.grid = (let e = i.samples.count in omega (arith, e, h)) in
+    ap (blocks z) (s.kept n d l) ∙ blocks-cut z (f (sample_of t.grid n)) (s.sorted (sample_of t.grid n)) ∙ b n l

@@ -1,0 +1,97 @@
+-- Tiles: the samples of a rectangle of pixels, and what shows at each.
+use Rattle.std.specs.Prelude.{ℕ, ◌*◌, ◌<◌, ◌≤◌, ℤ, ◌≡◌, ◌⊎◌, true, List, [], slice_index_or, length}
+use Rattle.fixed_math.specs.Spots.{PixelRect, pixel_count}
+use Rattle.transforms.specs.declared.view.View.{View}
+use Rattle.hider.specs.declared.fragment.Fragment.{Fragment}
+use Rattle.hider.specs.declared.sample.Sample.{Sample}
+use Rattle.hider.specs.declared.tile_sample.TileSample.{TileSample}
+use Rattle.hider.specs.declared.sample_grid.SampleGrid.{SampleGrid}
+use Rattle.hider.specs.Cells.{Micropolygon}
+use Rattle.hider.specs.Composite.{cut}
+use Rattle.hider.specs.Fragments.{covering, put_all, IsSorted}
+use Rattle.hider.specs.Kept.{keep_all, blocks}
+use Rattle.hider.specs.Samples.{sample_in}
+
+-- ---- which samples
+abbrev pub rect_of : SampleGrid → PixelRect
+rect_of g = record { left = g.left; top = g.top; right = g.right; bottom = g.bottom }
+
+abbrev pub sample_count : SampleGrid → ℕ
+sample_count g = pixel_count (rect_of g) * (g.xs * g.ys)
+
+abbrev pub sample_of : SampleGrid → ℕ → Sample
+sample_of g n = sample_in g.xs g.ys (rect_of g) n
+
+-- the samples of a rectangle given by its left, top, right and bottom, with xs by ys a pixel
+abbrev pub grid_of : List ℕ → ℕ → ℕ → SampleGrid
+grid_of r xs ys = record {
+  left = slice_index_or r 0 0;
+  top = slice_index_or r 1 0;
+  right = slice_index_or r 2 0;
+  bottom = slice_index_or r 3 0;
+  xs = xs;
+  ys = ys;
+}
+
+-- a rectangle of some pixels within 4096 by 4096, and 1 to 16 samples a pixel in each direction
+pub record IsSampleGrid (g : SampleGrid) : Type 0 where
+  pub across : g.left < g.right
+  pub right : g.right ≤ 4096
+  pub down : g.top < g.bottom
+  pub bottom : g.bottom ≤ 4096
+  pub some_xs : 1 ≤ g.xs
+  pub most_xs : g.xs ≤ 16
+  pub some_ys : 1 ≤ g.ys
+  pub most_ys : g.ys ≤ 16
+
+-- the samples of a list stand where and when those of the sampling do
+pub record AreSamplesOf (g : SampleGrid) (samples : List TileSample) : Type 0 where
+  pub count : length samples ≡ sample_count g
+  pub places : (n : ℕ) (d : TileSample) → n < length samples → (slice_index_or samples n d).at ≡ sample_of g n
+
+-- nothing shows at them
+abbrev pub AreEmpty : List TileSample → Type 0
+AreEmpty samples = (n : ℕ) (d : TileSample) → n < length samples → (slice_index_or samples n d).list ≡ []
+
+-- ---- a tile, as contracts see it
+pub record TileValue : Type 0 where
+  pub grid : SampleGrid
+  pub samples : List TileSample
+
+pub record IsTile (t : TileValue) : Type 0 where
+  pub grid : IsSampleGrid t.grid
+  pub samples : AreSamplesOf t.grid t.samples
+
+-- the tile shows at each sample the fragments that f gives there, in order of depth: it has those that can show
+pub record Shows (t : TileValue) (f : Sample → List Fragment) : Type 0 where
+  pub sorted : (s : Sample) → IsSorted (f s)
+  pub kept : (n : ℕ) (d : TileSample) → n < sample_count t.grid → (slice_index_or t.samples n d).list ≡ cut (f (sample_of t.grid n))
+
+-- with the fragments of further micropolygons
+abbrev pub with_covering : View → List Micropolygon → (Sample → List Fragment) → Sample → List Fragment
+with_covering v ms f s = put_all (f s) (covering v ms s)
+
+-- at each sample an opaque fragment lies nearer than z
+abbrev pub BlocksAll : ℤ → SampleGrid → (Sample → List Fragment) → Type 0
+BlocksAll z g f = (n : ℕ) → n < sample_count g → blocks z (f (sample_of g n)) ≡ true
+
+-- ---- what changes at samples
+-- the sample has moved nowhere and has the fragments that h gives there besides
+abbrev pub HasPut : (Sample → List Fragment) → TileSample → TileSample → Type 0
+HasPut h old new = (new.at ≡ old.at) × (new.list ≡ keep_all old.list (h old.at))
+
+-- so has each sample of a list
+abbrev pub HavePut : (Sample → List Fragment) → List TileSample → List TileSample → Type 0
+HavePut h old new = (n : ℕ) (d : TileSample) → n < length old → HasPut h (slice_index_or old n d) (slice_index_or new n d)
+
+-- each sample has moved nowhere
+abbrev pub HaveStayed : List TileSample → List TileSample → Type 0
+HaveStayed old new = (n : ℕ) (d : TileSample) → n < length old → (slice_index_or new n d).at ≡ (slice_index_or old n d).at
+
+-- so has each from number `from` to below `to`
+abbrev pub HavePutBetween : ℕ → ℕ → (Sample → List Fragment) → List TileSample → List TileSample → Type 0
+HavePutBetween from to h old new = (n : ℕ) (d : TileSample) → n < length old → from ≤ n → n < to → HasPut h (slice_index_or old n d) (slice_index_or new n d)
+
+-- the others are as they were
+abbrev pub HaveKept : ℕ → ℕ → List TileSample → List TileSample → Type 0
+HaveKept from to old new = (n : ℕ) (d : TileSample) → (n < from) ⊎ (to ≤ n) → slice_index_or new n d ≡ slice_index_or old n d

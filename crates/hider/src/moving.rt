@@ -1,0 +1,57 @@
+ghost use Rattle.std.specs.Prelude.{◌≡◌, ◌<◌};
+ghost use Rattle.hider.specs.CellValues.{cell_when, micropolygon_of};
+ghost use Rattle.hider.specs.Fragments.{fragment_of};
+
+use crate::cell::{Cell, CellCorner};
+use crate::cells::Cells;
+use crate::coverage::covers;
+use crate::fragment::Fragment;
+use crate::sample::Sample;
+use crate::showing::Showing;
+use crate::sight::quad_of;
+use transforms::Camera;
+
+/// Cell `cell` at a time.
+#[tactic(auto, unfolding(crate::specs::CellValues::cell_when))]
+pub(crate) fn cell_when<C: Cells>(cells: &C, cell: usize, time: u16) -> Cell
+    requires { cell < (C.values cells.now).count }
+    ensures { result ≡ cell_when (C.values cells.now) cell time }
+{
+    let colour = cells.colour(cell);
+    let opacity = cells.opacity(cell);
+    let corner = |point| CellCorner {
+        point,
+        colour,
+        opacity,
+    };
+    Cell {
+        a: corner(cells.corner(cell, 0, time)),
+        b: corner(cells.corner(cell, 1, time)),
+        c: corner(cells.corner(cell, 2, time)),
+        d: corner(cells.corner(cell, 3, time)),
+    }
+}
+
+/// A micropolygon that may move, before a camera.
+#[derive(Drop)]
+pub(crate) struct MovingCell<'a, C: Cells> {
+    pub(crate) cells: &'a C,
+    pub(crate) cell: usize,
+    pub(crate) camera: &'a Camera,
+    pub(crate) one_sided: bool,
+    pub(crate) flip: bool,
+    pub(crate) ghost inside: { cell < (C.values cells.now).count },
+}
+
+impl<'a, C: Cells> Showing for MovingCell<'a, C> {
+    ghost shown = { λ m s. fragment_of m.camera.now s (micropolygon_of (C.values m.cells.now) m.one_sided m.flip m.cell) };
+
+    #[tactic(auto, unfolding(crate::specs::Fragments::fragment_of))]
+    fn shown_at(&self, s: &Sample) -> Option<Fragment> {
+        let cell = cell_when(self.cells, self.cell, s.time);
+        match quad_of(self.camera, &cell, self.one_sided, self.flip) {
+            None => None,
+            Some(quad) => covers(&quad, s.place),
+        }
+    }
+}

@@ -1,0 +1,141 @@
+ghost use Rattle.std.specs.Prelude.{ℕ, ◌≡◌, ◌<◌, ◌↔◌, true, [], ◌∷◌, IsTrue, IfOk, OnOk, List, length, slice_index_or};
+ghost use Rattle.hider.specs.declared.fragment.Fragment.{Fragment};
+ghost use Rattle.hider.specs.declared.sample.Sample.{Sample};
+ghost use Rattle.hider.specs.declared.tile_sample.TileSample.{TileSample};
+ghost use Rattle.hider.specs.CellValues.{micropolygons_of};
+ghost use Rattle.hider.specs.Composite.{composite};
+ghost use Rattle.hider.specs.Kept.{blocks};
+ghost use Rattle.hider.specs.Tiles.{TileValue, IsTile, IsSampleGrid, AreSamplesOf, AreEmpty, Shows, BlocksAll, grid_of, sample_count, sample_of, with_covering};
+
+use crate::cells::Cells;
+use crate::compositing::composite;
+use crate::hiding::hide_all;
+use crate::list::FragmentList;
+use crate::sample_grid::SampleGrid;
+use crate::tile_sample::TileSample;
+use fixed_math::{NoMemory, Num, Vec3};
+use std::alloc::Global;
+use std::marker::Model;
+use transforms::Camera;
+
+/// The samples of a rectangle of pixels, and the fragments that can show at each. Contracts say of what it shows that it is
+/// what a function of samples gives: all fragments at a sample, in order of depth.
+#[derive(Drop)]
+pub struct Tile {
+    grid: SampleGrid,
+    samples: Vec<TileSample>,
+}
+
+impl Model for Tile {
+    ghost Value = { TileValue };
+
+    ghost view = { λ t. record { grid = t.grid; samples = t.samples.items } };
+
+    ghost invariant = { λ t. IsTile (record { grid = t.grid; samples = t.samples.items }) };
+}
+
+/// The samples of a tile, at which nothing shows.
+fn samples_of(alloc: Global, grid: &SampleGrid) -> Result<Vec<TileSample>, NoMemory>
+    requires { IsSampleGrid grid.now }
+    ensures places { IfOk result (λ samples. AreSamplesOf grid.now samples.items) }
+    ensures empty { IfOk result (λ samples. AreEmpty samples.items) }
+{
+    let mut samples = Vec::new(alloc);
+    for n in 0..grid.count() {
+        samples.push(TileSample {
+            at: grid.sample(n),
+            list: FragmentList::new(alloc),
+        })?;
+    }
+    Ok(samples)
+}
+
+/// Whether an opaque fragment lies nearer than `z` at each sample.
+fn all_block(samples: &[TileSample], z: Num) -> bool
+    ensures { IsTrue result ↔ ((n : ℕ) (d : TileSample) → n < length samples.now → blocks z (slice_index_or samples.now n d).list ≡ true) }
+{
+    for sample in samples {
+        if !sample.list.blocks(z) {
+            return false;
+        }
+    }
+    true
+}
+
+impl Tile {
+    /// A tile of the pixels from the left one of `rect` to below its right one, and from its top to below its bottom one, in
+    /// this order, within 4096 by 4096, with `xs` by `ys` samples a pixel, each 1 to 16. Nothing shows at them.
+    pub fn new(alloc: Global, rect: [u32; 4], xs: u32, ys: u32) -> Result<Tile, NoMemory>
+        requires { IsSampleGrid (grid_of rect xs ys) }
+        ensures grid { IfOk result (λ tile. tile.grid ≡ grid_of rect xs ys) }
+        ensures empty { IfOk result (λ tile. Shows tile (λ s. [])) }
+    {
+        let [left, top, right, bottom] = rect;
+        let grid = SampleGrid {
+            left,
+            top,
+            right,
+            bottom,
+            xs,
+            ys,
+        };
+        let samples = samples_of(alloc, &grid)?;
+        Ok(Tile { grid, samples })
+    }
+
+    /// Adds what the cells show, before the camera, at each sample: by depth, and behind what has an equal depth. Cells of one
+    /// side are dropped where that is turned away, the other way round where they are flipped. After `NoMemory` the tile shows
+    /// parts of them, and is only good to be dropped.
+    pub fn hide<C: Cells>(
+        &mut self,
+        cells: &C,
+        camera: &Camera,
+        one_sided: bool,
+        flip: bool,
+    ) -> Result<(), NoMemory>
+        ensures grid { self.new.grid ≡ self.old.grid }
+        ensures shows { OnOk result ((f : Sample → List Fragment) → Shows self.old f → Shows self.new (with_covering camera.now (micropolygons_of (C.values cells.now) one_sided flip) f)) }
+    {
+        hide_all(
+            &mut self.samples,
+            &self.grid,
+            cells,
+            camera,
+            one_sided,
+            flip,
+        )?;
+        Ok(())
+    }
+
+    /// Whether at each sample an opaque fragment shows that is nearer than `z`.
+    pub fn all_behind(&self, z: Num) -> bool
+        ensures { (f : Sample → List Fragment) → Shows self.now f → IsTrue result ↔ BlocksAll z self.now.grid f }
+    {
+        all_block(self.samples.as_slice(), z)
+    }
+
+    /// The number of samples.
+    pub fn samples(&self) -> usize
+        ensures { result ≡ sample_count self.now.grid }
+    {
+        self.samples.len()
+    }
+
+    /// Where sample `n` lies on the raster, across and down, in 1/256 pixel: that of cell `n` modulo `k` of pixel `n` / `k` of
+    /// the rectangle, where `k` is the number of samples a pixel, and pixels and cells go by rows.
+    pub fn at(&self, n: usize) -> [i64; 2]
+        requires { n < sample_count self.now.grid }
+        ensures { let s = sample_of self.now.grid n in result ≡ s.place.x ∷ s.place.y ∷ [] }
+    {
+        let place = self.samples[n].at.place;
+        [place.x(), place.y()]
+    }
+
+    /// The colour of sample `n`: the composite of what shows there.
+    pub fn colour(&self, n: usize) -> Vec3
+        requires { n < sample_count self.now.grid }
+        ensures { (f : Sample → List Fragment) → Shows self.now f → result ≡ composite (f (sample_of self.now.grid n)) }
+    {
+        composite(self.samples[n].list.as_slice())
+    }
+}
