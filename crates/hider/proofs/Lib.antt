@@ -12,4 +12,8 @@ pub mod Pixels
 pub mod Keeps
 pub mod Placing
 pub mod Puts
+pub mod Rows
+pub mod Boxes
+pub mod Stills
+pub mod Moves
 pub mod Showings

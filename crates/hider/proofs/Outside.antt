@@ -1,5 +1,5 @@
 -- A covered place lies in each box that holds the corners, and its depth between theirs.
-use Rattle.std.proofs.Common.{◌≡◌, ◌^◌, ◌<◌, ◌≤◌, unsigned_abs, to_z, of_z, ap, arith, refl, ◌∙◌}
+use Rattle.std.proofs.Common.{◌≡◌, ◌^◌, ◌<◌, ◌≤◌, unsigned_abs, to_z, of_z, ap, arith, refl, inl, inr, ◌∙◌}
 use Rattle.std.specs.Prelude.{ℤ, pos, negsuc, zero, suc, ◌≤ℤ◌, ◌<ℤ◌, Option, Some, None}
 use Rattle.std.specs.Option.{option_or}
 use Rattle.std.proofs.lemmas.Int.{ints, int_min_is, int_max_is}
@@ -12,6 +12,7 @@ use Rattle.hider.specs.declared.bounds.Bounds.{Bounds}
 use Rattle.hider.specs.declared.fragment.Fragment.{Fragment}
 use Rattle.hider.specs.Coverage.{is_in_three, areas_at, mean_at, means_at, by_sign, covers_facing, covers_triangle, covers}
 use Rattle.hider.specs.Bounding.{least_of, greatest_of, bounds_of}
+use Rattle.hider.specs.Searching.{LiesOutside}
 use Rattle.hider.proofs.Threes.{three_around}
 use Rattle.hider.proofs.Between.{areas_weigh, mean_at-low, mean_at-high}
 use Rattle.hider.proofs.Cuts.{by_bool}
@@ -172,3 +173,9 @@ above b q s e l = let h = bounds_hold b q e in unseen q s (λ z i. clash b.top s
 
 pub below : (b : Bounds) (q : Quad) (s : Spot) → b ≡ bounds_of q → b.bottom <ℤ s.y → covers q s ≡ None
 below b q s e l = let h = bounds_hold b q e in unseen q s (λ z i. clash s.y b.bottom (i.bottom b.bottom h.bottom.0 h.bottom.1 h.bottom.2 h.bottom.3) l)
+
+pub outside_none : (b : Bounds) (q : Quad) (s : Spot) → HoldsCorners b q → LiesOutside b s → covers q s ≡ None
+outside_none b q s h (inl l) = unseen q s (λ z i. clash b.left s.x (i.left b.left h.left.0 h.left.1 h.left.2 h.left.3) l)
+outside_none b q s h (inr (inl l)) = unseen q s (λ z i. clash s.x b.right (i.right b.right h.right.0 h.right.1 h.right.2 h.right.3) l)
+outside_none b q s h (inr (inr (inl l))) = unseen q s (λ z i. clash b.top s.y (i.top b.top h.top.0 h.top.1 h.top.2 h.top.3) l)
+outside_none b q s h (inr (inr (inr l))) = unseen q s (λ z i. clash s.y b.bottom (i.bottom b.bottom h.bottom.0 h.bottom.1 h.bottom.2 h.bottom.3) l)

@@ -6,5 +6,7 @@ pub mod Composite
 pub mod Kept
 pub mod CellValues
 pub mod Tiles
+pub mod Searching
+pub mod Extents
 pub mod Bounding
 pub mod Weighing

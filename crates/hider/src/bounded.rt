@@ -51,6 +51,13 @@ impl BoundedQuad {
         BoundedQuad { quad, bounds }
     }
 
+    /// The box.
+    pub fn bounds(&self) -> &Bounds
+        ensures { result.now ≡ bounds_of self.now }
+    {
+        &self.bounds
+    }
+
     /// What the micropolygon shows at the place `s`, where it covers it: `covers`, after a look at the box.
     pub fn fragment_at(&self, s: Spot) -> Option<Fragment>
         ensures { result ≡ covers self.now s }
