@@ -14,3 +14,4 @@ pub mod Laws
 pub mod BoundLaws
 pub mod LightBegins
 pub mod LampLaws
+pub mod Flat

@@ -6,3 +6,4 @@ pub mod Diced
 pub mod Given
 pub mod Shop
 pub mod Lamps
+pub mod Constant

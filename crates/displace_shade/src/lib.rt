@@ -2,6 +2,7 @@
 #![tactic(auto)]
 
 mod bound;
+mod constant;
 mod diced;
 mod given;
 mod lamps;
@@ -16,5 +17,6 @@ mod set;
 mod shop;
 mod variables;
 
+pub use constant::constant_law;
 pub use set::ShaderSet;
 pub use shop::Shop;
