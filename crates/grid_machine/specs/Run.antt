@@ -17,7 +17,6 @@ use Rattle.builtins.specs.Differences.{Lines}
 use Rattle.builtins.specs.Values.{number_of, shape_of}
 use Rattle.grid_code.specs.declared.code.Register.{Register}
 use Rattle.grid_code.specs.declared.slot.Slot.{Slot}
-use Rattle.grid_code.specs.Code.{Block, end, put, differ, sum, branch, loops, lights, breaks, continues}
 use Rattle.grid_code.specs.Names.{reg, name_at, first_free}
 use Rattle.grid_code.specs.Shapes.{register_shape}
 use Rattle.grid_code.specs.Masked.{State, read, write}
@@ -123,18 +122,6 @@ HoldRows w rows i (r ∷ rs) at s = (value_in (register_shape r) rows w (at + i)
 -- the rows that a run leaves hold what its kind of shader writes
 abbrev pub Leaves : SlKind → ℕ → List ℤ → State → Type 0
 Leaves kind c out s = (i : ℕ) → i < c → HoldRows (row_length c) out i (written_names kind) 0 s
-
--- no sum over lights, and no statement over lights, stands in a block
-abbrev pub without_lights : Block → Bool
-without_lights end = true
-without_lights (put r o x) = without_lights x
-without_lights (differ r d q x) = without_lights x
-without_lights (sum r which qs x) = false
-without_lights (branch t a b x) = without_lights a && (without_lights b && without_lights x)
-without_lights (loops u d t e a x) = without_lights d && (without_lights e && (without_lights a && without_lights x))
-without_lights (lights w qs a x) = false
-without_lights (breaks x) = without_lights x
-without_lights (continues x) = without_lights x
 
 -- worked: a surface is given P, N, Ng, I, u, v, s, t, Cs, Os, dPdu and dPdv; a displacement P and N behind the others; 81 points have rows of 88
 abbrev of_surface : length (given_names Surface) ≡ 12
