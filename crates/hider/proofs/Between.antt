@@ -46,6 +46,15 @@ mean_at-low w x y z m h a b c = mean_low_z w.a w.b w.c w.whole x y z m h.low_a h
 pub mean_at-high : (w : Areas) (x y z m : ℤ) → AreAreas w → x ≤ℤ m → y ≤ℤ m → z ≤ℤ m → mean_at w x y z ≤ℤ m
 mean_at-high w x y z m h a b c = mean_high_z w.a w.b w.c w.whole x y z m h.low_a h.low_b h.low_c h.sum h.some a b c
 
+-- where all three are equal it is that number
+pub mean_at-same : (w : Areas) (x y z : ℤ) → AreAreas w → x ≡ y → y ≡ z → x ≡ mean_at w x y z
+mean_at-same w x y z h e f =
+    let l = mean_at-low w x y z x h (omega (arith, ints)) (omega (arith, ints, e)) (omega (arith, ints, e, f)) in
+    let g = mean_at-high w x y z x h (omega (arith, ints)) (omega (arith, ints, e)) (omega (arith, ints, e, f)) in
+    omega (arith, ints, l, g)
+
+pub ruleset sames = (mean_at-same)
+
 -- so it is a raw where theirs are
 pub mean_at-raw : (w : Areas) (x y z : ℤ) → AreAreas w → unsigned_abs x ≤ 2147483647 → unsigned_abs y ≤ 2147483647 → unsigned_abs z ≤ 2147483647 → sat (mean_at w x y z) ≡ mean_at w x y z
 mean_at-raw w x y z h a b c =

@@ -17,3 +17,4 @@ pub mod Boxes
 pub mod Stills
 pub mod Moves
 pub mod Showings
+pub mod Frames

@@ -1,6 +1,6 @@
 -- Tiles: the samples of a rectangle of pixels, and what shows at each.
-use Rattle.std.specs.Prelude.{ℕ, ◌*◌, ◌<◌, ◌≤◌, ℤ, ◌≡◌, ◌⊎◌, true, List, [], slice_index_or, length}
-use Rattle.fixed_math.specs.Spots.{PixelRect, pixel_count}
+use Rattle.std.specs.Prelude.{ℕ, ◌*◌, ◌<◌, ◌≤◌, ℤ, ◌≡◌, ◌⊎◌, true, refl, ◌/◌, List, [], ◌∷◌, ◌++◌, slice_index_or, length}
+use Rattle.fixed_math.specs.Spots.{PixelRect, pixel_count, pixel_x}
 use Rattle.transforms.specs.declared.view.View.{View}
 use Rattle.hider.specs.declared.fragment.Fragment.{Fragment}
 use Rattle.hider.specs.declared.sample.Sample.{Sample}
@@ -8,7 +8,7 @@ use Rattle.hider.specs.declared.tile_sample.TileSample.{TileSample}
 use Rattle.hider.specs.declared.sample_grid.SampleGrid.{SampleGrid}
 use Rattle.hider.specs.Cells.{Micropolygon}
 use Rattle.hider.specs.Composite.{cut}
-use Rattle.hider.specs.Fragments.{covering, put_all, IsSorted}
+use Rattle.hider.specs.Fragments.{covering, put_all, fragments, IsSorted}
 use Rattle.hider.specs.Kept.{keep_all, blocks}
 use Rattle.hider.specs.Samples.{sample_in}
 
@@ -71,6 +71,10 @@ pub record Shows (t : TileValue) (f : Sample → List Fragment) : Type 0 where
 abbrev pub with_covering : View → List Micropolygon → (Sample → List Fragment) → Sample → List Fragment
 with_covering v ms f s = put_all (f s) (covering v ms s)
 
+-- where it showed all fragments of any micropolygons and had ks hidden in it, it shows those of these and ns
+abbrev pub GoesOn : View → TileValue → List Micropolygon → List Micropolygon → Type 0
+GoesOn v t ks ns = (ms : List Micropolygon) → Shows t (with_covering v ks (fragments v ms)) → Shows t (fragments v (ms ++ ns))
+
 -- at each sample an opaque fragment lies nearer than z
 abbrev pub BlocksAll : ℤ → SampleGrid → (Sample → List Fragment) → Type 0
 BlocksAll z g f = (n : ℕ) → n < sample_count g → blocks z (f (sample_of g n)) ≡ true
@@ -95,3 +99,13 @@ HavePutBetween from to h old new = (n : ℕ) (d : TileSample) → n < length old
 -- the others are as they were
 abbrev pub HaveKept : ℕ → ℕ → List TileSample → List TileSample → Type 0
 HaveKept from to old new = (n : ℕ) (d : TileSample) → (n < from) ⊎ (to ≤ n) → slice_index_or new n d ≡ slice_index_or old n d
+
+-- worked values: two by three pixels with two by two samples each; the last sample is in the last pixel
+abbrev worked : SampleGrid
+worked = grid_of (1 ∷ 2 ∷ 3 ∷ 5 ∷ []) 2 2
+
+count_of_six : sample_count worked ≡ 24
+count_of_six = refl
+
+last_pixel : pixel_x (rect_of worked) (23 / 4) ≡ 2
+last_pixel = refl

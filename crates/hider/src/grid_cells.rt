@@ -62,5 +62,5 @@ impl<'a> Cells for GridCells<'a> {
 
 /// The law of the cells of a grid: they are the micropolygons of `cells_of_grid`, each of which stays where it is.
 pub fn grid_cells_law(cells: &GridCells, one_sided: bool, flip: bool)
-    ensures { micropolygons_of (grid_values cells.now.grid.columns cells.now.grid.rows cells.now.grid.p.now cells.now.grid.ci.now cells.now.grid.oi.now) one_sided flip ≡ map (still one_sided flip) (cells_of cells.now.grid.columns cells.now.grid.rows cells.now.grid.p.now cells.now.grid.ci.now cells.now.grid.oi.now) }
+    ensures { let g = cells.now.grid in micropolygons_of (grid_values g.columns g.rows g.p.now g.ci.now g.oi.now) one_sided flip ≡ map (still one_sided flip) (cells_of g.columns g.rows g.p.now g.ci.now g.oi.now) }
 {}

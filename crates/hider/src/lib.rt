@@ -48,4 +48,4 @@ pub use sample_grid::SampleGrid;
 pub use sampling::sample_at;
 pub use sight::quad_of;
 pub use spot::Spot;
-pub use tile::Tile;
+pub use tile::{Tile, leaf_law};

@@ -2,7 +2,7 @@ ghost use Rattle.std.specs.Prelude.{◌≡◌, ◌≤◌, ◌++◌, ◌∷◌, [
 ghost use Rattle.hider.specs.declared.fragment.Fragment.{Fragment};
 ghost use Rattle.hider.specs.Composite.{is_opaque, cut};
 ghost use Rattle.hider.specs.Fragments.{put_in};
-ghost use Rattle.hider.specs.Kept.{IsKept, keep, hides, blocks};
+ghost use Rattle.hider.specs.Kept.{IsKept, IsPlace, keep, hides, blocks};
 
 use crate::fragment::Fragment;
 use fixed_math::{NoMemory, Num};
@@ -28,7 +28,7 @@ impl Model for FragmentList {
 /// The place of `f` among fragments: behind those that are no farther. None where one of these is opaque, so that `f`
 /// doesn't show.
 fn place_in(list: &[Fragment], f: &Fragment) -> Option<usize>
-    ensures { MatchOption result (keep f.now list.now ≡ cut list.now) (λ p. (p ≤ length list.now) × (cut list.now ≡ take p list.now ++ cut (drop p list.now)) × (keep f.now list.now ≡ take p list.now ++ cut (f.now ∷ drop p list.now))) }
+    ensures { MatchOption result (keep f.now list.now ≡ cut list.now) (λ p. IsPlace f.now list.now p) }
 {
     let mut place = 0;
     for g in list {

@@ -49,6 +49,20 @@ fn mean_at(areas: &Areas, a: Num, b: Num, c: Num) -> Num
     Num::sat(floor_div(plus(plus(at_a, at_b), at_c), areas.whole as i128))
 }
 
+/// The mean of a number of the corners, which is that number where all three are equal.
+#[tactic(auto, using(crate::proofs::Between::sames))]
+fn mean_or_same(areas: &Areas, a: Num, b: Num, c: Num) -> Num
+    requires parts { AreAreas areas.now }
+    requires small { unsigned_abs areas.now.whole ≤ 2 ^ 59 }
+    ensures { result ≡ mean_at areas.now a b c }
+{
+    if a.raw() == b.raw() && b.raw() == c.raw() {
+        a
+    } else {
+        mean_at(areas, a, b, c)
+    }
+}
+
 /// The mean of a colour of the corners.
 fn mean_colour_at(areas: &Areas, a: Vec3, b: Vec3, c: Vec3) -> Vec3
     requires parts { AreAreas areas.now }
@@ -56,9 +70,9 @@ fn mean_colour_at(areas: &Areas, a: Vec3, b: Vec3, c: Vec3) -> Vec3
     ensures { result ≡ mean_colour_at areas.now a b c }
 {
     Vec3 {
-        x: mean_at(areas, a.x, b.x, c.x),
-        y: mean_at(areas, a.y, b.y, c.y),
-        z: mean_at(areas, a.z, b.z, c.z),
+        x: mean_or_same(areas, a.x, b.x, c.x),
+        y: mean_or_same(areas, a.y, b.y, c.y),
+        z: mean_or_same(areas, a.z, b.z, c.z),
     }
 }
 

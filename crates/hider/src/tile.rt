@@ -1,14 +1,16 @@
-ghost use Rattle.std.specs.Prelude.{ℕ, ◌≡◌, ◌<◌, ◌↔◌, true, [], ◌∷◌, IsTrue, IfOk, OnOk, List, length, slice_index_or};
+ghost use Rattle.std.specs.Prelude.{ℕ, ◌≡◌, ◌<◌, ◌↔◌, true, [], ◌∷◌, map, IsTrue, IfOk, OnOk, List, length, slice_index_or};
 ghost use Rattle.hider.specs.declared.fragment.Fragment.{Fragment};
 ghost use Rattle.hider.specs.declared.sample.Sample.{Sample};
 ghost use Rattle.hider.specs.declared.tile_sample.TileSample.{TileSample};
-ghost use Rattle.hider.specs.CellValues.{micropolygons_of};
+ghost use Rattle.hider.specs.CellValues.{grid_values, micropolygons_of};
+ghost use Rattle.hider.specs.Cells.{still, cells_of};
 ghost use Rattle.hider.specs.Composite.{composite};
 ghost use Rattle.hider.specs.Kept.{blocks};
-ghost use Rattle.hider.specs.Tiles.{TileValue, IsTile, IsSampleGrid, AreSamplesOf, AreEmpty, Shows, BlocksAll, grid_of, sample_count, sample_of, with_covering};
+ghost use Rattle.hider.specs.Tiles.{TileValue, IsTile, IsSampleGrid, AreSamplesOf, AreEmpty, Shows, BlocksAll, GoesOn, grid_of, sample_count, sample_of, with_covering};
 
 use crate::cells::Cells;
 use crate::compositing::composite;
+use crate::grid_cells::GridCells;
 use crate::hiding::hide_all;
 use crate::list::FragmentList;
 use crate::sample_grid::SampleGrid;
@@ -40,8 +42,9 @@ fn samples_of(alloc: Global, grid: &SampleGrid) -> Result<Vec<TileSample>, NoMem
     ensures places { IfOk result (λ samples. AreSamplesOf grid.now samples.items) }
     ensures empty { IfOk result (λ samples. AreEmpty samples.items) }
 {
-    let mut samples = Vec::new(alloc);
-    for n in 0..grid.count() {
+    let count = grid.count();
+    let mut samples = Vec::with_capacity(alloc, count)?;
+    for n in 0..count {
         samples.push(TileSample {
             at: grid.sample(n),
             list: FragmentList::new(alloc),
@@ -139,3 +142,9 @@ impl Tile {
         composite(self.samples[n].list.as_slice())
     }
 }
+
+/// The law of leaves: where a tile that showed all fragments of some micropolygons had a grid hidden in it, it shows those of
+/// these and then of the grid's.
+pub fn leaf_law(tile: &Tile, grid: &GridCells, camera: &Camera, one_sided: bool, flip: bool)
+    ensures { let g = grid.now.grid in GoesOn camera.now tile.now (micropolygons_of (grid_values g.columns g.rows g.p.now g.ci.now g.oi.now) one_sided flip) (map (still one_sided flip) (cells_of g.columns g.rows g.p.now g.ci.now g.oi.now)) }
+{}

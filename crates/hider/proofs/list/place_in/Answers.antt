@@ -9,7 +9,7 @@ returns-then-raw c =
     let i = c.loop-g.g-index in
     let e : c.loop-g.place ≡ i = c.loop-g.invariant.counted in
     let d : c.args.f.now.depth <ℤ c.g-item.result.depth = omega (arith, ints) in
-    rw e (omega arith, c.loop-g.invariant.front, placed c.args.f.now c.args.list.now i c.g-item.result c.loop-g-test.true c.g-item.is d c.loop-g.invariant.put)
+    rw e (record { inside = omega arith; front = c.loop-g.invariant.front; put = placed c.args.f.now c.args.list.now i c.g-item.result c.loop-g-test.true c.g-item.is d c.loop-g.invariant.put })
 
 pub returns-then-is_opaque : goal.returns-then-is_opaque
 returns-then-is_opaque c =

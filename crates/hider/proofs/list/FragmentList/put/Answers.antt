@@ -1,6 +1,5 @@
-use Rattle.std.proofs.Common.{◌≡◌, ◌≤◌, ◌++◌, ◌∷◌, sym, ap, ◌∙◌, length, take, drop}
-use Rattle.hider.specs.Composite.{cut}
-use Rattle.hider.specs.Kept.{keep}
+use Rattle.std.proofs.Common.{◌≡◌, sym, ap, ◌∙◌}
+use Rattle.hider.specs.Kept.{IsPlace, keep}
 use Rattle.hider.proofs.Keeps.{keep_is_kept, take_kept}
 use Rattle.hider.proofs.Placing.{opaque_put, clear_put}
 use Rattle.hider.proofs.list.FragmentList.put.Goals.{then-is_opaque, else-is_opaque}
@@ -11,11 +10,11 @@ put_is c =
     let l = c.self.inside.list.items in
     let f = c.args.f in
     let p = c.in-Some.place in
-    let a : (p ≤ length l) × (cut l ≡ take p l ++ cut (drop p l)) × (keep f l ≡ take p l ++ cut (f ∷ drop p l)) = rw c.as_slice.ensures at c.in-Some.ensures in
+    let a : IsPlace f l p = rw c.as_slice.ensures at c.in-Some.ensures in
     elim c.if-is_opaque.branch [
-      | then-is_opaque w ↦ opaque_put f p l c.if-is_opaque.self-inside.list.items c.insert.new.self.items a.0 (sym c.is_opaque.ensures ∙ w.if-is_opaque.true) a.2
+      | then-is_opaque w ↦ opaque_put f p l c.if-is_opaque.self-inside.list.items c.insert.new.self.items a.inside (sym c.is_opaque.ensures ∙ w.if-is_opaque.true) a.put
           (ap (λ (s : _). s.list.items) w.self-inside-is ∙ w.truncate.ensures.items) (c.in_ok-insert.ensures.ok)
-      | else-is_opaque w ↦ clear_put f p l c.if-is_opaque.self-inside.list.items c.insert.new.self.items c.self.invariant.whole (sym c.is_opaque.ensures ∙ w.if-is_opaque.false) a.1 a.2
+      | else-is_opaque w ↦ clear_put f p l c.if-is_opaque.self-inside.list.items c.insert.new.self.items c.self.invariant.whole (sym c.is_opaque.ensures ∙ w.if-is_opaque.false) a.front a.put
           (ap (λ (s : _). s.list.items) w.self-inside-is) (c.in_ok-insert.ensures.ok)
     ]
 
