@@ -1,5 +1,5 @@
 -- Points that pass the test of their range are within it.
-use Rattle.std.proofs.Common.{◌≡◌, ℕ, zero, suc, ◌*◌, ◌<◌, ◌^◌, Bool, true, false, ◌&&◌, is_some, nat_le, List, [], ◌∷◌, Option, Some, None, arith, refl, ap, sym, subst, length, if◌then◌else◌, slice_index_or, unsigned_abs}
+use Rattle.std.proofs.Common.{◌≡◌, ℕ, zero, suc, ◌<◌, ◌^◌, Bool, true, false, ◌&&◌, is_some, nat_le, List, [], ◌∷◌, Option, Some, None, arith, refl, sym, subst, length, if◌then◌else◌, slice_index_or, unsigned_abs}
 use Rattle.std.specs.Prelude.{ℤ}
 use Rattle.std.specs.List.{list_all}
 use Rattle.std.proofs.lemmas.Bool.{false≢true}
@@ -10,9 +10,6 @@ use Rattle.fixed_math.specs.Axes.{origin, AreWithin}
 use Rattle.patches.specs.Boxes.{IsWithin}
 use Rattle.patches.specs.BoxLaws.{Each-AreWithin}
 use Rattle.mesh_basis.specs.Ranges.{of_numbers, is_in_range, are_in_range}
-use Rattle.mesh_basis.specs.Counts.{linear_count, cubic_count, count_along, both, counts_of}
-use Rattle.mesh_basis.specs.declared.shape.Shape.{Shape}
-use Rattle.mesh_basis.specs.declared.counts.Counts.{Counts}
 
 kept : Bool → ℤ → Option ℤ
 kept b x = if b then Some x else None
@@ -56,44 +53,3 @@ near_from (p ∷ ps) h (suc k) d l = near_from ps (both_true (is_in_range p) (li
 -- a point that was read of them
 pub item_near : (ps : List Vec3) (k : ℕ) (r : Vec3) → are_in_range ps ≡ true → k < length ps → r ≡ slice_index_or ps k r → IsWithin (2 ^ 30) r
 item_near ps k r h l e = subst (IsWithin (2 ^ 30)) (sym e) (near_from ps h k r l)
-
--- a patch is there only where the mesh has points
-linear_some : (b : Bool) (n m : ℕ) → linear_count b n ≡ Some m → 0 < m → 0 < n
-linear_some true n m e h = let f : n ≡ m = cc in omega (arith, f)
-linear_some false zero m e h = absurd (none_some e)
-  where
-    none_some : None ≡ Some m → ⊥
-    none_some e = cc
-linear_some false (suc n) m e h = omega arith
-
-cubic_some : (b : Bool) (n step m : ℕ) → cubic_count b n step ≡ Some m → 0 < n
-cubic_some true zero step m e = cc
-cubic_some false zero step m e = cc
-cubic_some b (suc n) step m e = omega arith
-
-count_some : (c b : Bool) (n step m : ℕ) → count_along c b n step ≡ Some m → 0 < m → 0 < n
-count_some true b n step m e h = cubic_some b n step m e
-count_some false b n step m e h = linear_some b n m e h
-
-both_some : (a b : Option ℕ) (c : Counts) → both a b ≡ Some c → (a ≡ Some c.along_u) × (b ≡ Some c.along_v)
-both_some None None c e = cc
-both_some None (Some n) c e = cc
-both_some (Some m) None c e = cc
-both_some (Some m) (Some n) c e =
-    let f : record { along_u = m; along_v = n } ≡ c = cc in
-    (ap (λ (d : Counts). Some d.along_u) f, ap (λ (d : Counts). Some d.along_v) f)
-
-factor_left : (k m n : ℕ) → k < m * n → 0 < m
-factor_left k zero n h = absurd (omega arith)
-factor_left k (suc m) n h = omega arith
-
-factor_right : (k m n : ℕ) → k < m * n → 0 < n
-factor_right k m zero h = absurd (omega arith)
-factor_right k m (suc n) h = omega arith
-
-pub wide : (s : Shape) (c : Counts) (k : ℕ) → counts_of s ≡ Some c → k < c.along_u * c.along_v → (0 < s.nu) × (0 < s.nv) × (0 < c.along_u)
-wide s c k e h =
-    let f = both_some (count_along s.bicubic s.periodic_u s.nu s.step_u) (count_along s.bicubic s.periodic_v s.nv s.step_v) c e in
-    let m = factor_left k c.along_u c.along_v h in
-    let n = factor_right k c.along_u c.along_v h in
-    (count_some s.bicubic s.periodic_u s.nu s.step_u c.along_u f.0 m, count_some s.bicubic s.periodic_v s.nv s.step_v c.along_v f.1 n, m)

@@ -37,7 +37,7 @@ sum_more f (suc k) h =
 abbrev pub with_front : {A : Type 0} → List A → Option (List A) → Option (List A)
 with_front xs o = option_map (λ ys. xs ++ ys) o
 
-all_step : {A : Type 0} (f : ℕ → Option A) (k n : ℕ) → k < n → all_from f k (n - k) ≡ with_next (f k) (all_from f (k + 1) (n - (k + 1)))
+pub all_step : {A : Type 0} (f : ℕ → Option A) (k n : ℕ) → k < n → all_from f k (n - k) ≡ with_next (f k) (all_from f (k + 1) (n - (k + 1)))
 unfolding all_from
 all_step f k n h =
     let e : n - k ≡ suc (n - (k + 1)) = omega arith in
@@ -50,10 +50,6 @@ front_next xs x (Some ys) = ap (λ l. Some l) (sym (append_assoc xs (x ∷ []) y
 front_none : {A : Type 0} (xs : List A) (o : Option (List A)) → with_front xs (with_next None o) ≡ None
 front_none xs None = refl
 front_none xs (Some ys) = refl
-
-pub nothing_before : {A : Type 0} (o : Option (List A)) → with_front [] o ≡ o
-nothing_before None = refl
-nothing_before (Some ys) = refl
 
 -- one more of n, none there, and no more
 pub run_next : {A : Type 0} (f : ℕ → Option A) (k n : ℕ) (xs ys : List A) (x : A) (all : Option (List A)) → k < n → f k ≡ Some x → ys ≡ xs ++ x ∷ [] →

@@ -1,5 +1,5 @@
 -- How many patches a mesh has (RenderMan Interface 3.2, section 5.2, PatchMesh).
-use Rattle.std.specs.Prelude.{ℕ, ◌+◌, ◌-◌, ◌/◌, ◌%◌, ◌==◌, nat_le, Bool, true, false, ◌&&◌, Option, Some, None, if◌then◌else◌, ◌≡◌, refl}
+use Rattle.std.specs.Prelude.{ℕ, ◌+◌, ◌-◌, ◌*◌, ◌/◌, ◌%◌, ◌==◌, nat_le, Bool, true, false, ◌&&◌, Option, Some, None, if◌then◌else◌, ◌≡◌, refl}
 use Rattle.mesh_basis.specs.declared.shape.Shape.{Shape}
 use Rattle.mesh_basis.specs.declared.counts.Counts.{Counts}
 
@@ -21,9 +21,11 @@ abbrev pub both : Option ℕ → Option ℕ → Option Counts
 both (Some m) (Some n) = Some (record { along_u = m; along_v = n })
 both _ _ = None
 
--- of a mesh of this shape, where its points make whole patches both ways
-abbrev pub counts_of : Shape → Option Counts
-counts_of s = both (count_along s.bicubic s.periodic_u s.nu s.step_u) (count_along s.bicubic s.periodic_v s.nv s.step_v)
+-- of a mesh of this shape with so many points, where they are as many as it has and make whole patches both ways
+abbrev pub counts_of : Shape → ℕ → Option Counts
+counts_of s points =
+    if points == s.nu * s.nv then both (count_along s.bicubic s.periodic_u s.nu s.step_u) (count_along s.bicubic s.periodic_v s.nv s.step_v)
+    else None
 
 -- worked values
 five_under_bezier : cubic_count false 5 3 ≡ None

@@ -1,5 +1,5 @@
 -- Meshes as lists of patches (RenderMan Interface 3.2, section 5.2, PatchMesh): by rows, u fastest, each in Bezier form.
-use Rattle.std.specs.Prelude.{ℕ, zero, suc, ◌+◌, ◌*◌, ◌/◌, ◌%◌, ◌==◌, pos, true, false, List, [], ◌∷◌, ◌++◌, length, Option, Some, None, option_map, Result, Ok, Err, if◌then◌else◌, slice_index_or, ◌≡◌, refl}
+use Rattle.std.specs.Prelude.{ℕ, zero, suc, ◌+◌, ◌*◌, ◌/◌, ◌%◌, pos, true, false, List, [], ◌∷◌, ◌++◌, length, Option, Some, None, option_map, Result, Ok, Err, if◌then◌else◌, slice_index_or, ◌≡◌, refl}
 use Rattle.fixed_math.specs.declared.vec3.Vec3.{Vec3}
 use Rattle.fixed_math.specs.Axes.{by_axes, origin}
 use Rattle.patches.specs.declared.patch.Patch.{Patch}
@@ -74,11 +74,11 @@ or_far None = Err M7
 
 abbrev pub mesh_with : List Vec3 → Shape → Option Counts → Result (List Patch) MeshFault
 mesh_with ps s None = Err G5
-mesh_with ps s (Some c) = if length ps == s.nu * s.nv then or_far (patches_in ps s c) else Err G5
+mesh_with ps s (Some c) = or_far (patches_in ps s c)
 
 -- the patches of a mesh of these points, or the first fault: of the counts, then of the range
 abbrev pub mesh_of : List Vec3 → Shape → Result (List Patch) MeshFault
-mesh_of ps s = mesh_with ps s (counts_of s)
+mesh_of ps s = mesh_with ps s (counts_of s (length ps))
 
 -- worked values: a bilinear ring of three points along u has its last patch from the last column to the first
 abbrev at_x : ℕ → Vec3

@@ -56,12 +56,16 @@ fn count_along(bicubic: bool, periodic: bool, points: u32, step: u32) -> Option<
     }
 }
 
-/// How many patches a mesh of this shape has, or none where its points don't make whole patches.
-pub fn counts_of(shape: &Shape) -> Option<Counts>
+/// How many patches a mesh of this shape with so many points has, or none where it has another number of points or they don't
+/// make whole patches. The steps are at least 1.
+pub fn counts_of(shape: &Shape, points: usize) -> Option<Counts>
     requires step_u { 1 ≤ shape.now.step_u }
     requires step_v { 1 ≤ shape.now.step_v }
-    ensures { result ≡ counts_of shape.now }
+    ensures { result ≡ counts_of shape.now points }
 {
+    if points as u64 != shape.nu as u64 * shape.nv as u64 {
+        return None;
+    }
     Some(Counts {
         along_u: count_along(shape.bicubic, shape.periodic_u, shape.nu, shape.step_u)?,
         along_v: count_along(shape.bicubic, shape.periodic_v, shape.nv, shape.step_v)?,

@@ -33,11 +33,10 @@ fn patch_in(points: &[Vec3], shape: &Shape, c: u32, d: u32) -> Option<Patch>
     }
 }
 
-/// Patch `k` of all, where its control points are in range.
-fn patch_at(points: &[Vec3], shape: &Shape, counts: Counts, k: u64) -> Option<Patch>
+/// Patch `k` of a mesh whose points are in range, where its control points are too.
+pub fn patch_at(points: &[Vec3], shape: &Shape, counts: Counts, k: u64) -> Option<Patch>
     requires there { k < counts.along_u * counts.along_v }
-    requires tied { counts_of shape.now ≡ Some counts }
-    requires len { length points.now ≡ shape.now.nu * shape.now.nv }
+    requires tied { counts_of shape.now (length points.now) ≡ Some counts }
     requires near { are_in_range points.now ≡ true }
     ensures { result ≡ patch_at points.now shape.now counts.along_u k }
 {
@@ -52,8 +51,7 @@ fn patches(
     shape: &Shape,
     counts: Counts,
 ) -> Result<Vec<Patch>, MeshFault>
-    requires tied { counts_of shape.now ≡ Some counts }
-    requires len { length points.now ≡ shape.now.nu * shape.now.nv }
+    requires tied { counts_of shape.now (length points.now) ≡ Some counts }
     requires near { are_in_range points.now ≡ true }
     ensures { GivesPatches result (or_far (all_from (patch_at points.now shape.now counts.along_u) 0 (counts.along_u * counts.along_v))) }
 {
@@ -77,12 +75,9 @@ pub fn mesh(alloc: Global, points: &[Vec3], shape: &Shape) -> Result<Vec<Patch>,
     requires step_v { 1 ≤ shape.now.step_v }
     ensures { GivesPatches result (mesh_of points.now shape.now) }
 {
-    let Some(counts) = counts_of(shape) else {
+    let Some(counts) = counts_of(shape, points.len()) else {
         return Err(MeshFault::G5);
     };
-    if points.len() as u64 != shape.nu as u64 * shape.nv as u64 {
-        return Err(MeshFault::G5);
-    }
     if !are_in_range(points) {
         return Err(MeshFault::M7);
     }

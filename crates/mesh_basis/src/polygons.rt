@@ -23,8 +23,8 @@ pub fn piece_corners(n: usize, i: usize) -> [usize; 4]
     [0, k, across, k + 1]
 }
 
-/// Piece `i` of a polygon.
-fn piece_of(points: &[Vec3], i: usize) -> Patch
+/// Piece `i` of a polygon whose points are in range.
+pub fn piece_of(points: &[Vec3], i: usize) -> Patch
     requires there { i < piece_count (length points.now) }
     requires near { are_in_range points.now ≡ true }
     ensures { result ≡ piece_of points.now i }
@@ -124,8 +124,8 @@ fn direction(x: i128, y: i128, z: i128) -> Vec3
     unit([x, y, z])
 }
 
-/// The flat normal of a polygon.
-fn flat_normal(points: &[Vec3]) -> Vec3
+/// The flat normal of a polygon: the unit of the exact sum of the cross products about its first point.
+pub fn flat_normal(points: &[Vec3]) -> Vec3
     requires some { 3 ≤ length points.now }
     requires few { length points.now ≤ 2 ^ 32 }
     ensures { result ≡ flat_normal points.now }

@@ -35,8 +35,8 @@ fn is_in_range(point: Vec3) -> bool
     point_in_range(point).is_some()
 }
 
-/// Whether each point is in range.
-pub(crate) fn are_in_range(points: &[Vec3]) -> bool
+/// Whether each raw coordinate of each point has a magnitude of at most 2^30.
+pub fn are_in_range(points: &[Vec3]) -> bool
     ensures { result ≡ are_in_range points.now }
 {
     points.iter().all(|point| is_in_range(*point))

@@ -14,7 +14,7 @@ use Rattle.rib_reader.specs.declared.table.Shape.TheVariants as shapes
 use Rattle.rib_reader.specs.declared.table.Words.{Words}
 use Rattle.rib_reader.specs.declared.table.Words.TheVariants.{Modes, Bicubic, Bounds}
 use Rattle.rib_reader.specs.declared.table.Rule.{Rule}
-use Rattle.rib_reader.specs.declared.table.Rule.TheVariants.{Within, AtLeast, Rising, Only, OneOf, NoneOf, NoArray, Levels, Declaration, Unsupported}
+use Rattle.rib_reader.specs.declared.table.Rule.TheVariants.{Within, AtLeast, Rising, Only, OneOf, NoneOf, NoArray, Levels, Declaration}
 use Rattle.rib_reader.specs.declared.table.Tail.{Tail}
 use Rattle.rib_reader.specs.declared.table.Tail.TheVariants as tails
 use Rattle.rib_reader.specs.declared.follows.Follows.{Follows}
@@ -171,7 +171,6 @@ rule_code (NoneOf place words) args = when (is_one words (word_at args place)) S
 rule_code (NoArray place) args = when (is_array_at args place) S2
 rule_code Levels args = if is_one Modes (word_at args 0) then levels_code (whole_at args 1) (whole_at args 2) (whole_at args 3) else None
 rule_code Declaration args = declare_code (word_at args 1)
-rule_code Unsupported args = Some S2
 
 -- the lowest code that stands in the arguments
 abbrev pub args_code : Req → List Arg → Option RibCode

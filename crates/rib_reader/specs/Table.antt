@@ -8,7 +8,7 @@ use Rattle.rib_reader.specs.declared.table.Shape.TheVariants.{Whole, Number, Wor
 use Rattle.rib_reader.specs.declared.table.Words.{Words}
 use Rattle.rib_reader.specs.declared.table.Words.TheVariants.{Projections, Filters, Modes, Interpolations, Smooth, Orientations, Handed, Bases, Patches, Bicubic, Wraps, Bounds}
 use Rattle.rib_reader.specs.declared.table.Rule.{Rule}
-use Rattle.rib_reader.specs.declared.table.Rule.TheVariants.{Within, AtLeast, Rising, Only, OneOf, NoneOf, NoArray, Levels, Declaration, Unsupported}
+use Rattle.rib_reader.specs.declared.table.Rule.TheVariants.{Within, AtLeast, Rising, Only, OneOf, NoneOf, NoArray, Levels, Declaration}
 use Rattle.rib_reader.specs.declared.table.Tail.{Tail}
 use Rattle.rib_reader.specs.declared.table.Tail.TheVariants as tails
 use Rattle.rib_reader.specs.declared.faults.RibCode.TheVariants.{S2, S3}
@@ -22,7 +22,7 @@ words_in Interpolations = codes "constant" ∷ codes "smooth" ∷ []
 words_in Smooth = codes "smooth" ∷ []
 words_in Orientations = codes "outside" ∷ codes "inside" ∷ codes "lh" ∷ codes "rh" ∷ []
 words_in Handed = codes "lh" ∷ codes "rh" ∷ []
-words_in Bases = codes "bezier" ∷ []
+words_in Bases = codes "bezier" ∷ codes "b-spline" ∷ codes "catmull-rom" ∷ codes "hermite" ∷ codes "power" ∷ []
 words_in Patches = codes "bilinear" ∷ codes "bicubic" ∷ []
 words_in Bicubic = codes "bicubic" ∷ []
 words_in Wraps = codes "periodic" ∷ codes "nonperiodic" ∷ []
@@ -93,9 +93,9 @@ row_of reqs.Transform = plain_row (Array 16 ∷ [])
 row_of reqs.ConcatTransform = plain_row (Array 16 ∷ [])
 row_of reqs.Patch = row (Word ∷ []) (OneOf 0 Patches S3 ∷ []) tails.Points
 row_of reqs.PatchMesh = row (Word ∷ Whole ∷ Word ∷ Whole ∷ Word ∷ [])
-    (Unsupported ∷ OneOf 0 Patches S3 ∷ Within 1 (pos 1) (pos 65536) ∷ OneOf 2 Wraps S3 ∷ Within 3 (pos 1) (pos 65536) ∷ OneOf 4 Wraps S3 ∷ []) tails.Variables
-row_of reqs.Polygon = row [] (Unsupported ∷ []) tails.Variables
-row_of reqs.PointsPolygons = row (Wholes ∷ Wholes ∷ []) (Unsupported ∷ []) tails.Variables
+    (OneOf 0 Patches S3 ∷ Within 1 (pos 1) (pos 65536) ∷ OneOf 2 Wraps S3 ∷ Within 3 (pos 1) (pos 65536) ∷ OneOf 4 Wraps S3 ∷ []) tails.Points
+row_of reqs.Polygon = row [] [] tails.Points
+row_of reqs.PointsPolygons = row (Wholes ∷ Wholes ∷ []) [] tails.Points
 row_of reqs.Version = passed_over
 row_of reqs.ErrorHandler = passed_over
 row_of reqs.Hider = passed_over

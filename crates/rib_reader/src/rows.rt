@@ -200,24 +200,23 @@ pub fn row(name: Req) -> Row
                 Shape::Word,
             ],
             rules: &[
-                Rule::Unsupported,
                 Rule::OneOf(0, Words::Patches, RibCode::S3),
                 Rule::Within(1, 1, 65_536),
                 Rule::OneOf(2, Words::Wraps, RibCode::S3),
                 Rule::Within(3, 1, 65_536),
                 Rule::OneOf(4, Words::Wraps, RibCode::S3),
             ],
-            tail: Tail::Variables,
+            tail: Tail::Points,
         },
         Req::Polygon => Row {
             shapes: &[],
-            rules: &[Rule::Unsupported],
-            tail: Tail::Variables,
+            rules: &[],
+            tail: Tail::Points,
         },
         Req::PointsPolygons => Row {
             shapes: &[Shape::Wholes, Shape::Wholes],
-            rules: &[Rule::Unsupported],
-            tail: Tail::Variables,
+            rules: &[],
+            tail: Tail::Points,
         },
         Req::Version
         | Req::ErrorHandler

@@ -120,7 +120,6 @@ fn rule_fault(alloc: Global, rule: Rule, args: &[Arg]) -> Result<Option<RibCode>
             }
         }
         Rule::Declaration => declaration(alloc, args)?,
-        Rule::Unsupported => Some(RibCode::S2),
     })
 }
 

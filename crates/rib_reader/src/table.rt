@@ -52,8 +52,6 @@ pub enum Rule {
     Levels,
     /// What `Declare` says of its second word.
     Declaration,
-    /// The request isn't supported: S2.
-    Unsupported,
 }
 
 /// What may follow the arguments of a request.

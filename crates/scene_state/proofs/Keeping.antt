@@ -1,5 +1,5 @@
 -- The shaders that attributes, lights' numbers and primitives name stay there, and keep their kinds.
-use Rattle.std.proofs.Common.{◌≡◌, refl, subst, ℕ, zero, suc, ◌-◌, ℤ, Bool, true, false, List, [], ◌∷◌, ◌++◌, length, set, Option, Some, None, Result, Ok, Err, All, slice_get, slice_index_or, if◌then◌else◌, arith, not, is_some, nat_le, ◌==◌}
+use Rattle.std.proofs.Common.{◌≡◌, refl, subst, ℕ, zero, suc, ◌+◌, ◌*◌, ◌-◌, take, drop, ℤ, Bool, true, false, List, [], ◌∷◌, ◌++◌, length, set, Option, Some, None, Result, Ok, Err, All, slice_get, slice_index_or, if◌then◌else◌, arith, not, is_some, nat_le, ◌==◌}
 use Rattle.std.specs.Ordering.{int_eq}
 use Rattle.std.specs.Option.{option_or}
 use Rattle.std.proofs.lemmas.List.Elements.{All-append, All-take, All-filter}
@@ -7,21 +7,29 @@ use Rattle.rib_reader.specs.declared.req.Req.{Req}
 use Rattle.rib_reader.specs.declared.req.Req.TheVariants as reqs
 use Rattle.rib_reader.specs.Reading.{Read}
 use Rattle.rib_reader.specs.Rules.{word_at, raw_at, whole_at, numbers_at}
-use Rattle.rib_reader.specs.Lists.{points_in}
+use Rattle.std.specs.List.{sum_by}
 use Rattle.transforms.specs.Map.{Map, identity, before_of}
 use Rattle.transforms.specs.Field.{camera_of}
 use Rattle.transforms.specs.declared.view.View.{View}
 use Rattle.transforms.specs.declared.fault.FormFault.{FormFault}
 use Rattle.fixed_math.specs.declared.vec3.Vec3.{Vec3}
 use Rattle.patches.specs.declared.patch.Patch.{Patch}
-use Rattle.scene_state.specs.Scene.{PrimValue, FrameValue, IsUse, IsSomeUse, HasUses, most_prims}
+use Rattle.scene_state.specs.Scene.{PrimValue, FrameValue, IsUse, IsSomeUse, HasUses}
 use Rattle.scene_state.specs.Choices.{ChoiceValues, chosen, view_of}
 use Rattle.scene_state.specs.Looks.{look_after, is_single}
 use Rattle.scene_state.specs.Shaders.{with_request, placed_in, placed, some_placed, all_placed, light_of, with_light, without_light, is_among}
-use Rattle.scene_state.specs.State.{most_blocks, most_frames, most_lights, with_frame, name_or, moved, scaled, turned, of_rows, control_points, is_bicubic, patch_made, prim_of, Stepped, first_state, closed, opened, innermost, frame_ended, attributes_ended, transform_ended, world_with, frame_made, frame_of, world_ended, with_choices, option_set, display_set, with_current, with_before, space_of, use_of, next_shader, with_shader, light_added, light_made, handle_for, illuminated_by, light_named, with_prim, patch_in_range, patch_with, patch_of_numbers, patch_in, patch_set}
+use Rattle.scene_state.specs.State.{most_blocks, most_frames, most_lights, with_frame, name_or, moved, scaled, turned, of_rows, prim_of, Stepped, Located, first_state, closed, opened, innermost, frame_ended, attributes_ended, transform_ended, world_with, frame_made, frame_of, world_ended, with_choices, option_set, display_set, with_current, with_before, space_of, use_of, next_shader, with_shader, light_added, light_made, handle_for, illuminated_by, light_named, patch_place, with_prim, with_patches, is_past, mesh_from, mesh_counted, mesh_laid, face_points, with_face, with_faces, faces_laid, located, laid}
+use Rattle.scene_state.specs.Bases.{bases_after, patch_shape, mesh_shape}
+use Rattle.scene_state.specs.Faces.{FaceValues, one_face, faces_in}
+use Rattle.mesh_basis.specs.declared.shape.Shape.{Shape}
+use Rattle.mesh_basis.specs.declared.counts.Counts.{Counts}
+use Rattle.mesh_basis.specs.Ranges.{are_in_range}
+use Rattle.mesh_basis.specs.Counts.{counts_of}
+use Rattle.mesh_basis.specs.Meshes.{patches_in}
+use Rattle.mesh_basis.specs.Polygons.{piece_count, pieces_of, flat_normal}
 use Rattle.scene_state.specs.Steps.{with_surface, with_displacement, with_atmosphere, look_set, step, after, and_then, Placed, state_from}
 use Rattle.scene_state.specs.declared.fault.StateCode.{StateCode}
-use Rattle.scene_state.specs.declared.fault.StateCode.TheVariants.{N1, N2, N5, M1, M2, M3, M4}
+use Rattle.scene_state.specs.declared.fault.StateCode.TheVariants.{N1, N2, M1, M2, M3, M4, M7}
 use Rattle.scene_state.specs.declared.uses.ShaderKind.{ShaderKind}
 use Rattle.scene_state.specs.declared.uses.ShaderKind.TheVariants as kinds
 use Rattle.scene_state.specs.declared.uses.ShaderUse.{ShaderUse}
@@ -444,8 +452,8 @@ good_illuminated (Some k) on s is g =
 
 -- ---- primitives
 
-good_prim : (r : Read) (object : Map) (patch : Patch) (s : State) → IsGood s → IsGood (with_prim r object patch s)
-good_prim r object patch s g =
+pub good_prim : (r : Read) (object : Map) (flat : Option Vec3) (place : List ℕ) (patch : Patch) (s : State) → IsGood s → IsGood (with_prim r object flat place patch s)
+good_prim r object flat place patch s g =
     let a = s.attributes in
     let w = g.attributes in
     let d = some_placed s.shaders a.displacement in
@@ -465,7 +473,7 @@ good_prim r object patch s g =
       attributes = h.attributes;
       blocks = h.blocks;
       handles = h.handles;
-      prims = all_more (HasUses l.0.uses) s.prims (prim_of r object patch a.look f.1 d.1 v.1 l.1) h.prims record {
+      prims = all_more (HasUses l.0.uses) s.prims (prim_of r object flat place patch a.look f.1 d.1 v.1 l.1) h.prims record {
         surface = f_l.uses kinds.Surface f.1 (placed_is d.0 kinds.Surface a.surface (to_d.shaders kinds.Surface a.surface w.surface));
         displacement = some_use_keeps d.0 l.0 kinds.Displacement d.1 d_l (some_placed_is s.shaders kinds.Displacement a.displacement w.displacement);
         atmosphere = some_use_keeps v.0 l.0 kinds.Volume v.1 v_l (some_placed_is f.0 kinds.Volume a.atmosphere (some_keeps s.shaders f.0 kinds.Volume a.atmosphere to_f w.atmosphere));
@@ -474,25 +482,42 @@ good_prim r object patch s g =
       frames = h.frames;
     }
 
-good_in_range : (r : Read) (object : Map) (o : Option Patch) (s : State) → IsGood s → GoodStep (patch_in_range r object o s)
-good_in_range r object None s g = tt
-good_in_range r object (Some patch) s g = good_prim r object patch s g
+good_patches : (r : Read) (object : Map) (flat : Option Vec3) (c : Option Counts) (k : ℕ) (ps : List Patch) (s : State) → IsGood s → IsGood (with_patches r object flat c k ps s)
+unfolding with_patches
+good_patches r object flat c k [] s g = g
+good_patches r object flat c k (p ∷ ps) s g = good_patches r object flat c (k + 1) ps (with_prim r object flat (patch_place c k) p s) (good_prim r object flat (patch_place c k) p s g)
 
-good_patch_with : (r : Read) (object : Map) (o : Option (List Vec3)) (s : State) → IsGood s → GoodStep (patch_with r object o s)
-good_patch_with r object None s g = tt
-good_patch_with r object (Some ps) s g =
-    either (nat_le most_prims (length s.prims)) (Err M3) (patch_in_range r object (patch_made (is_bicubic r) object ps) s) tt (good_in_range r object (patch_made (is_bicubic r) object ps) s g)
+good_in_range : (r : Read) (object : Map) (c : Counts) (o : Option (List Patch)) (s : State) → IsGood s → GoodStep (mesh_from r object c 0 o s)
+good_in_range r object c None s g = tt
+good_in_range r object c (Some ps) s g = good_patches r object None (Some c) 0 ps s g
 
-good_numbers : (r : Read) (object : Map) (o : Option (List ℤ)) (s : State) → IsGood s → GoodStep (patch_of_numbers r object o s)
-good_numbers r object None s g = tt
-good_numbers r object (Some xs) s g = good_patch_with r object (control_points (is_bicubic r) xs) s g
+good_counted : (r : Read) (object : Map) (shape : Shape) (ps : List Vec3) (o : Option Counts) (s : State) → IsGood s → GoodStep (mesh_counted r object shape ps o s)
+good_counted r object shape ps None s g = tt
+good_counted r object shape ps (Some c) s g =
+    either (is_past (c.along_u * c.along_v) s) (Err M3) (mesh_from r object c 0 (patches_in ps shape c) s) tt (good_in_range r object c (patches_in ps shape c) s g)
 
-good_patch_in : (r : Read) (m : Result Map FormFault) (s : State) → IsGood s → GoodStep (patch_in r m s)
-good_patch_in r (Err e) s g = tt
-good_patch_in r (Ok object) s g = good_numbers r object (points_in r.params) s g
+good_mesh : (r : Read) (shape : Shape) (object : Map) (ps : List Vec3) (s : State) → IsGood s → GoodStep (mesh_laid r shape object ps s)
+good_mesh r shape object ps s g = good_counted r object shape ps (counts_of shape (length ps)) s g
 
-good_patch : (r : Read) (s : State) → IsGood s → GoodStep (patch_set r s)
-good_patch r s g = either (is_some s.world) (patch_in r (space_of s) s) (Err N5) (good_patch_in r (space_of s) s g) tt
+pub good_face : (r : Read) (object : Map) (ps : List Vec3) (s : State) → IsGood s → IsGood (with_face r object ps s)
+good_face r object ps s g = good_patches r object (Some (flat_normal ps)) None 0 (pieces_of ps) s g
+
+good_all_faces : (r : Read) (object : Map) (ps : List Vec3) (ns corners : List ℕ) (s : State) → IsGood s → IsGood (with_faces r object ps ns corners s)
+unfolding with_faces
+good_all_faces r object ps [] corners s g = g
+good_all_faces r object ps (n ∷ ns) corners s g =
+    good_all_faces r object ps ns (drop n corners) (with_face r object (face_points ps (take n corners)) s) (good_face r object (face_points ps (take n corners)) s g)
+
+good_faces : (r : Read) (object : Map) (ps : List Vec3) (o : Option FaceValues) (s : State) → IsGood s → GoodStep (faces_laid r object ps o s)
+good_faces r object ps None s g = tt
+good_faces r object ps (Some f) s g =
+    let all : Stepped = if are_in_range ps then Ok (with_faces r object ps f.sizes f.corners s) else Err M7 in
+    either (is_past (sum_by piece_count f.sizes) s) (Err M3) all tt
+    (either (are_in_range ps) (Ok (with_faces r object ps f.sizes f.corners s)) (Err M7) (good_all_faces r object ps f.sizes f.corners s g) tt)
+
+good_laid : (form : Map → List Vec3 → State → Stepped) (at : Located) (s : State) → ((object : Map) (ps : List Vec3) → GoodStep (form object ps s)) → GoodStep (laid form at s)
+good_laid form (Err code) s f = tt
+good_laid form (Ok at) s f = f at.0 at.1
 
 -- ---- the whole list
 
@@ -531,16 +556,22 @@ good_step reqs.Atmosphere r s g = good_atmosphere (space_of s) r s g
 good_step reqs.LightSource r s g = good_light (space_of s) r s g
 good_step reqs.Illuminate r s g = good_illuminated (light_named (whole_at r.args 0) s.handles) (whole_at r.args 1) s (named_is s.shaders (whole_at r.args 0) s.handles g.handles) g
 good_step reqs.Attribute r s g = good_look r s g
-good_step reqs.Basis r s g = g
+good_step reqs.Basis r s g = worn s (record s.attributes { bases = bases_after r.args s.attributes.bases }) (record { surface = g.attributes.surface; displacement = g.attributes.displacement; atmosphere = g.attributes.atmosphere; lights = g.attributes.lights }) g
 good_step reqs.Translate r s g = good_before (moved (raw_at r.args 0) (raw_at r.args 1) (raw_at r.args 2)) s g
 good_step reqs.Scale r s g = good_before (scaled (raw_at r.args 0) (raw_at r.args 1) (raw_at r.args 2)) s g
 good_step reqs.Rotate r s g = good_before (turned (raw_at r.args 0) (raw_at r.args 1) (raw_at r.args 2) (raw_at r.args 3)) s g
 good_step reqs.Transform r s g = good_current (of_rows (numbers_at r.args 0)) s g
 good_step reqs.ConcatTransform r s g = good_before (of_rows (numbers_at r.args 0)) s g
-good_step reqs.Patch r s g = good_patch r s g
-good_step reqs.PatchMesh r s g = g
-good_step reqs.Polygon r s g = g
-good_step reqs.PointsPolygons r s g = g
+good_step reqs.Patch r s g =
+    let shape = patch_shape r.args s.attributes.bases in
+    good_laid (mesh_laid r shape) (located r s) s (λ object ps. good_mesh r shape object ps s g)
+good_step reqs.PatchMesh r s g =
+    let shape = mesh_shape r.args s.attributes.bases in
+    good_laid (mesh_laid r shape) (located r s) s (λ object ps. good_mesh r shape object ps s g)
+good_step reqs.Polygon r s g =
+    good_laid (λ object ps. faces_laid r object ps (one_face (length ps))) (located r s) s (λ object ps. good_faces r object ps (one_face (length ps)) s g)
+good_step reqs.PointsPolygons r s g =
+    good_laid (λ object ps. faces_laid r object ps (faces_in (length ps) r.args)) (located r s) s (λ object ps. good_faces r object ps (faces_in (length ps) r.args) s g)
 good_step reqs.Version r s g = g
 good_step reqs.ErrorHandler r s g = g
 good_step reqs.Hider r s g = g

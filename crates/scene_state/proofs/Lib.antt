@@ -1,5 +1,6 @@
-mod Controls
 mod Words
+pub mod Runs
+pub mod Laying
 pub mod Keeping
 pub mod Places
 pub mod FirstUse

@@ -1,8 +1,8 @@
 -- The uses of a scene stand in the order in which its primitives first have them.
-use Rattle.std.proofs.Common.{◌≡◌, refl, sym, ap, ◌∙◌, subst, ℕ, zero, suc, ◌<◌, ℤ, Bool, true, false, ◌||◌, ◌-◌, take, List, [], ◌∷◌, ◌++◌, length, Option, Some, None, Result, Ok, Err, All, slice_get, slice_index_or, is_some, nat_le, ◌==◌, append_assoc, if◌then◌else◌, arith}
+use Rattle.std.proofs.Common.{◌≡◌, refl, sym, ap, ◌∙◌, subst, ℕ, zero, suc, ◌+◌, ◌*◌, ◌<◌, ℤ, Bool, true, false, ◌||◌, ◌-◌, take, drop, List, [], ◌∷◌, ◌++◌, length, Option, Some, None, Result, Ok, Err, All, slice_get, slice_index_or, is_some, nat_le, ◌==◌, append_assoc, if◌then◌else◌, arith}
 use Rattle.std.proofs.lemmas.List.{append-nil}
 use Rattle.std.proofs.lemmas.Bool.Decides.{nat_tests}
-use Rattle.std.specs.List.{list_any}
+use Rattle.std.specs.List.{list_any, sum_by}
 use Rattle.rib_reader.specs.declared.req.Req.{Req}
 use Rattle.rib_reader.specs.declared.req.Req.TheVariants as reqs
 use Rattle.rib_reader.specs.Reading.{Read}
@@ -14,14 +14,22 @@ use Rattle.transforms.specs.declared.view.View.{View}
 use Rattle.transforms.specs.declared.fault.FormFault.{FormFault}
 use Rattle.fixed_math.specs.declared.vec3.Vec3.{Vec3}
 use Rattle.patches.specs.declared.patch.Patch.{Patch}
-use Rattle.scene_state.specs.Scene.{PrimValue, FrameValue, IsUse, most_prims}
+use Rattle.scene_state.specs.Scene.{PrimValue, FrameValue, IsUse}
 use Rattle.scene_state.specs.FirstUse.{place_in, places_in, places_of, all_places, firsts, below}
 use Rattle.scene_state.specs.Choices.{ChoiceValues, chosen, view_of}
 use Rattle.scene_state.specs.Shaders.{with_request, placed_in, placed, some_placed, all_placed}
-use Rattle.scene_state.specs.State.{most_blocks, most_frames, most_lights, with_frame, name_or, moved, scaled, turned, of_rows, control_points, is_bicubic, patch_made, prim_of, Stepped, first_state, opened, innermost, closed, outer, frame_ended, attributes_ended, transform_ended, world_with, frame_made, frame_of, world_ended, with_choices, option_set, display_set, with_current, with_before, space_of, use_of, next_shader, with_shader, light_added, light_made, illuminated_by, light_named, with_prim, patch_in_range, patch_with, patch_of_numbers, patch_in, patch_set}
+use Rattle.scene_state.specs.State.{most_blocks, most_frames, most_lights, with_frame, name_or, moved, scaled, turned, of_rows, prim_of, Stepped, Located, first_state, opened, innermost, closed, outer, frame_ended, attributes_ended, transform_ended, world_with, frame_made, frame_of, world_ended, with_choices, option_set, display_set, with_current, with_before, space_of, use_of, next_shader, with_shader, light_added, light_made, illuminated_by, light_named, patch_place, with_prim, with_patches, is_past, mesh_from, mesh_counted, mesh_laid, face_points, with_face, with_faces, faces_laid, in_space, located, laid}
+use Rattle.scene_state.specs.Bases.{patch_shape, mesh_shape}
+use Rattle.scene_state.specs.Faces.{FaceValues, one_face, faces_in}
+use Rattle.mesh_basis.specs.declared.shape.Shape.{Shape}
+use Rattle.mesh_basis.specs.declared.counts.Counts.{Counts}
+use Rattle.mesh_basis.specs.Ranges.{are_in_range}
+use Rattle.mesh_basis.specs.Counts.{counts_of}
+use Rattle.mesh_basis.specs.Meshes.{patches_in}
+use Rattle.mesh_basis.specs.Polygons.{piece_count, pieces_of, flat_normal}
 use Rattle.scene_state.specs.Steps.{with_surface, with_displacement, with_atmosphere, step, after, and_then, Placed, state_from}
 use Rattle.scene_state.specs.declared.fault.StateCode.{StateCode}
-use Rattle.scene_state.specs.declared.fault.StateCode.TheVariants.{N1, N2, N5, M1, M2, M3, M4}
+use Rattle.scene_state.specs.declared.fault.StateCode.TheVariants.{N1, N2, N5, M1, M2, M3, M4, M7}
 use Rattle.scene_state.specs.declared.uses.ShaderKind.{ShaderKind}
 use Rattle.scene_state.specs.declared.uses.ShaderKind.TheVariants as kinds
 use Rattle.scene_state.specs.declared.uses.ShaderUse.{ShaderUse}
@@ -34,7 +42,7 @@ use Rattle.scene_state.specs.declared.state.Block.TheVariants.{InFrame, InWorld,
 use Rattle.scene_state.specs.declared.state.World.{World}
 use Rattle.scene_state.specs.declared.state.State.{State}
 use Rattle.scene_state.proofs.FirstUse.{Reaches, reaches_again, reaches_next}
-use Rattle.scene_state.proofs.Keeping.{IsShader, IsSomeShader, SlotIs, IsGood, GoodStep, good_step, first_good, some_keeps, keeps_both, placed_keeps, some_placed_keeps, all_then}
+use Rattle.scene_state.proofs.Keeping.{IsShader, IsSomeShader, SlotIs, IsGood, GoodStep, good_step, good_prim, good_face, first_good, some_keeps, keeps_both, placed_keeps, some_placed_keeps, all_then}
 
 -- ---- places that are had one after another
 
@@ -243,8 +251,8 @@ grouped : (w d : List ℕ) (f : ℕ) (v l : List ℕ) → (((w ++ d) ++ f ∷ []
 grouped w d f v l =
     append_assoc ((w ++ d) ++ f ∷ []) v l ∙ append_assoc (w ++ d) (f ∷ []) (v ++ l) ∙ append_assoc w d (f ∷ (v ++ l))
 
-ordered_prim : (r : Read) (object : Map) (patch : Patch) (s : State) → is_some s.world ≡ true → IsGood s → IsOrdered s → IsOrdered (with_prim r object patch s)
-ordered_prim r object patch s opens g o =
+ordered_prim : (r : Read) (object : Map) (flat : Option Vec3) (place : List ℕ) (patch : Patch) (s : State) → is_some s.world ≡ true → IsGood s → IsOrdered s → IsOrdered (with_prim r object flat place patch s)
+ordered_prim r object flat place patch s opens g o =
     let a = s.attributes in
     let w = g.attributes in
     let d = some_placed s.shaders a.displacement in
@@ -261,7 +269,7 @@ ordered_prim r object patch s opens g o =
     let had_f = placed_reaches d.0 kinds.Surface a.surface ds (to_d.shaders kinds.Surface a.surface w.surface) had_d in
     let had_v = some_reaches f.0 kinds.Volume a.atmosphere fs (some_keeps s.shaders f.0 kinds.Volume a.atmosphere to_f w.atmosphere) had_f in
     let had_l = all_reaches v.0 kinds.Light a.lights vs (all_then (IsShader s.shaders kinds.Light) (IsShader v.0 kinds.Light) a.lights (to_v.shaders kinds.Light) w.lights) had_v in
-    let p : PrimValue = prim_of r object patch a.look f.1 d.1 v.1 l.1 in
+    let p : PrimValue = prim_of r object flat place patch a.look f.1 d.1 v.1 l.1 in
     let walk : vs ++ l.1 ≡ all_places s.frames ++ places_of (s.prims ++ p ∷ []) =
     grouped (walked s) (place_in d.1) f.1 (place_in v.1) l.1
     ∙ append_assoc (all_places s.frames) (places_of s.prims) (places_in p)
@@ -272,28 +280,56 @@ ordered_prim r object patch s opens g o =
     both_ways true t f = cc
     both_ways false t f = cc
 
-ordered_in_range : (r : Read) (object : Map) (p : Option Patch) (s : State) → is_some s.world ≡ true → IsGood s → IsOrdered s → OrderedStep (patch_in_range r object p s)
-ordered_in_range r object None s opens g o = tt
-ordered_in_range r object (Some patch) s opens g o = ordered_prim r object patch s opens g o
+ordered_patches : (r : Read) (object : Map) (flat : Option Vec3) (c : Option Counts) (k : ℕ) (ps : List Patch) (s : State) → is_some s.world ≡ true → IsGood s → IsOrdered s
+    → IsOrdered (with_patches r object flat c k ps s)
+unfolding with_patches
+ordered_patches r object flat c k [] s opens g o = o
+ordered_patches r object flat c k (p ∷ ps) s opens g o =
+    ordered_patches r object flat c (k + 1) ps (with_prim r object flat (patch_place c k) p s) opens
+    (good_prim r object flat (patch_place c k) p s g) (ordered_prim r object flat (patch_place c k) p s opens g o)
 
-ordered_patch_with : (r : Read) (object : Map) (ps : Option (List Vec3)) (s : State) → is_some s.world ≡ true → IsGood s → IsOrdered s → OrderedStep (patch_with r object ps s)
-ordered_patch_with r object None s opens g o = tt
-ordered_patch_with r object (Some ps) s opens g o =
-    either (nat_le most_prims (length s.prims)) (Err M3) (patch_in_range r object (patch_made (is_bicubic r) object ps) s) tt (ordered_in_range r object (patch_made (is_bicubic r) object ps) s opens g o)
+ordered_in_range : (r : Read) (object : Map) (c : Counts) (p : Option (List Patch)) (s : State) → is_some s.world ≡ true → IsGood s → IsOrdered s → OrderedStep (mesh_from r object c 0 p s)
+ordered_in_range r object c None s opens g o = tt
+ordered_in_range r object c (Some ps) s opens g o = ordered_patches r object None (Some c) 0 ps s opens g o
 
-ordered_numbers : (r : Read) (object : Map) (xs : Option (List ℤ)) (s : State) → is_some s.world ≡ true → IsGood s → IsOrdered s → OrderedStep (patch_of_numbers r object xs s)
-ordered_numbers r object None s opens g o = tt
-ordered_numbers r object (Some xs) s opens g o = ordered_patch_with r object (control_points (is_bicubic r) xs) s opens g o
+ordered_counted : (r : Read) (object : Map) (shape : Shape) (ps : List Vec3) (c : Option Counts) (s : State) → is_some s.world ≡ true → IsGood s → IsOrdered s → OrderedStep (mesh_counted r object shape ps c s)
+ordered_counted r object shape ps None s opens g o = tt
+ordered_counted r object shape ps (Some c) s opens g o =
+    either (is_past (c.along_u * c.along_v) s) (Err M3) (mesh_from r object c 0 (patches_in ps shape c) s) tt (ordered_in_range r object c (patches_in ps shape c) s opens g o)
 
-ordered_patch_in : (r : Read) (m : Result Map FormFault) (s : State) → is_some s.world ≡ true → IsGood s → IsOrdered s → OrderedStep (patch_in r m s)
-ordered_patch_in r (Err e) s opens g o = tt
-ordered_patch_in r (Ok object) s opens g o = ordered_numbers r object (points_in r.params) s opens g o
+ordered_mesh : (r : Read) (shape : Shape) (object : Map) (ps : List Vec3) (s : State) → is_some s.world ≡ true → IsGood s → IsOrdered s → OrderedStep (mesh_laid r shape object ps s)
+ordered_mesh r shape object ps s opens g o = ordered_counted r object shape ps (counts_of shape (length ps)) s opens g o
 
-ordered_patch : (r : Read) (s : State) → IsGood s → IsOrdered s → OrderedStep (patch_set r s)
-ordered_patch r s g o = by_world (is_some s.world) refl
+still_open : (r : Read) (object : Map) (flat : Option Vec3) (c : Option Counts) (k : ℕ) (ps : List Patch) (s : State) → (with_patches r object flat c k ps s).world ≡ s.world
+unfolding with_patches
+still_open r object flat c k [] s = refl
+still_open r object flat c k (p ∷ ps) s = still_open r object flat c (k + 1) ps (with_prim r object flat (patch_place c k) p s)
+
+ordered_all_faces : (r : Read) (object : Map) (ps : List Vec3) (ns corners : List ℕ) (s : State) → is_some s.world ≡ true → IsGood s → IsOrdered s → IsOrdered (with_faces r object ps ns corners s)
+unfolding with_faces
+ordered_all_faces r object ps [] corners s opens g o = o
+ordered_all_faces r object ps (n ∷ ns) corners s opens g o =
+    let face = face_points ps (take n corners) in
+    ordered_all_faces r object ps ns (drop n corners) (with_face r object face s)
+    (ap is_some (still_open r object (Some (flat_normal face)) None 0 (pieces_of face) s) ∙ opens)
+    (good_face r object face s g) (ordered_patches r object (Some (flat_normal face)) None 0 (pieces_of face) s opens g o)
+
+ordered_faces : (r : Read) (object : Map) (ps : List Vec3) (f : Option FaceValues) (s : State) → is_some s.world ≡ true → IsGood s → IsOrdered s → OrderedStep (faces_laid r object ps f s)
+ordered_faces r object ps None s opens g o = tt
+ordered_faces r object ps (Some f) s opens g o =
+    let all : Stepped = if are_in_range ps then Ok (with_faces r object ps f.sizes f.corners s) else Err M7 in
+    either (is_past (sum_by piece_count f.sizes) s) (Err M3) all tt
+    (either (are_in_range ps) (Ok (with_faces r object ps f.sizes f.corners s)) (Err M7) (ordered_all_faces r object ps f.sizes f.corners s opens g o) tt)
+
+ordered_laid : (form : Map → List Vec3 → State → Stepped) (r : Read) (s : State) → (is_some s.world ≡ true → (object : Map) (ps : List Vec3) → OrderedStep (form object ps s)) → OrderedStep (laid form (located r s) s)
+ordered_laid form r s f = by_world (is_some s.world) refl
   where
-    by_world : (b : Bool) → is_some s.world ≡ b → OrderedStep (if b then patch_in r (space_of s) s else Err N5)
-    by_world true opens = ordered_patch_in r (space_of s) s opens g o
+    at : (found : Located) → is_some s.world ≡ true → OrderedStep (laid form found s)
+    at (Err code) opens = tt
+    at (Ok found) opens = f opens found.0 found.1
+
+    by_world : (b : Bool) → is_some s.world ≡ b → OrderedStep (laid form (if b then in_space (points_in r.params) (space_of s) else Err N5) s)
+    by_world true opens = at (in_space (points_in r.params) (space_of s)) opens
     by_world false opens = tt
 
 -- ---- the whole list
@@ -329,9 +365,13 @@ ordered_step reqs.Sides r s g o = o
 ordered_step reqs.Orientation r s g o = o
 ordered_step reqs.Attribute r s g o = o
 ordered_step reqs.Basis r s g o = o
-ordered_step reqs.PatchMesh r s g o = o
-ordered_step reqs.Polygon r s g o = o
-ordered_step reqs.PointsPolygons r s g o = o
+ordered_step reqs.PatchMesh r s g o =
+    let shape = mesh_shape r.args s.attributes.bases in
+    ordered_laid (mesh_laid r shape) r s (λ opens object ps. ordered_mesh r shape object ps s opens g o)
+ordered_step reqs.Polygon r s g o =
+    ordered_laid (λ object ps. faces_laid r object ps (one_face (length ps))) r s (λ opens object ps. ordered_faces r object ps (one_face (length ps)) s opens g o)
+ordered_step reqs.PointsPolygons r s g o =
+    ordered_laid (λ object ps. faces_laid r object ps (faces_in (length ps) r.args)) r s (λ opens object ps. ordered_faces r object ps (faces_in (length ps) r.args) s opens g o)
 ordered_step reqs.Version r s g o = o
 ordered_step reqs.ErrorHandler r s g o = o
 ordered_step reqs.Hider r s g o = o
@@ -352,7 +392,9 @@ ordered_step reqs.Scale r s g o = ordered_before (scaled (raw_at r.args 0) (raw_
 ordered_step reqs.Rotate r s g o = ordered_before (turned (raw_at r.args 0) (raw_at r.args 1) (raw_at r.args 2) (raw_at r.args 3)) s o
 ordered_step reqs.Transform r s g o = ordered_current (of_rows (numbers_at r.args 0)) s o
 ordered_step reqs.ConcatTransform r s g o = ordered_before (of_rows (numbers_at r.args 0)) s o
-ordered_step reqs.Patch r s g o = ordered_patch r s g o
+ordered_step reqs.Patch r s g o =
+    let shape = patch_shape r.args s.attributes.bases in
+    ordered_laid (mesh_laid r shape) r s (λ opens object ps. ordered_mesh r shape object ps s opens g o)
 
 abbrev BothPlaced : Result State Placed → Type 0
 BothPlaced (Ok s) = IsGood s × IsOrdered s

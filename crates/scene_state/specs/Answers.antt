@@ -2,10 +2,11 @@
 use Rattle.std.specs.Prelude.{◌≡◌, Result, Ok, Err, List, map}
 use Rattle.rib_reader.specs.declared.request.Request.{Request}
 use Rattle.rib_reader.specs.Reading.{plain}
+use Rattle.fixed_math.specs.declared.vec3.Vec3.{Vec3}
 use Rattle.transforms.specs.Map.{Map}
 use Rattle.transforms.specs.declared.fault.FormFault.{FormFault}
 use Rattle.scene_state.specs.Scene.{SceneValue}
-use Rattle.scene_state.specs.State.{Stepped, code_of}
+use Rattle.scene_state.specs.State.{Stepped, Located, code_of}
 use Rattle.scene_state.specs.Steps.{Placed, scene_of}
 use Rattle.scene_state.specs.declared.state.State.{State}
 use Rattle.scene_state.specs.declared.fault.Stop.{Stop}
@@ -24,6 +25,12 @@ abbrev pub GivesState : Result State StateFault → Result State Placed → Type
 GivesState (Ok s) found = found ≡ Ok s
 GivesState (Err (faults.At code line)) found = found ≡ Err (code, line)
 GivesState (Err faults.NoMemory) found = Unit {0}
+
+-- the map and the points, or the code of their fault
+abbrev pub GivesPoints : Result (Map × List Vec3) Stop → Located → Type 0
+GivesPoints (Ok at) found = found ≡ Ok at
+GivesPoints (Err (Fault code)) found = found ≡ Err code
+GivesPoints (Err NoMemory) found = Unit {0}
 
 -- the map, or the code of its fault
 abbrev pub GivesMap : Result Map Stop → Result Map FormFault → Type 0

@@ -3,6 +3,8 @@ pub mod Scene
 pub mod FirstUse
 pub mod Choices
 pub mod Looks
+pub mod Bases
+pub mod Faces
 pub mod Shaders
 pub mod State
 pub mod Steps

@@ -51,6 +51,13 @@ pub record PrimValue : Type 0 where
   pub place : List ℕ
   pub line : ℕ
 
+-- a column below the number of columns, and a row below that of rows
+pub record IsPlace (place : List ℕ) : Type 0 where
+  pub column : slice_index_or place 0 0 < slice_index_or place 1 0
+  pub columns : slice_index_or place 1 0 ≤ 65536
+  pub row : slice_index_or place 2 0 < slice_index_or place 3 0
+  pub rows : slice_index_or place 3 0 ≤ 65536
+
 pub record IsPrim (p : PrimValue) : Type 0 where
   pub bound_low : pos 0 ≤ℤ p.bound
   pub bound_high : p.bound ≤ℤ pos 536870912

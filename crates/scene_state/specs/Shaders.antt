@@ -5,6 +5,7 @@ use Rattle.std.specs.Option.{option_or}
 use Rattle.std.specs.Ordering.{int_eq}
 use Rattle.transforms.specs.Map.{identity}
 use Rattle.scene_state.specs.Looks.{first_look}
+use Rattle.scene_state.specs.Bases.{first_bases}
 use Rattle.scene_state.specs.declared.uses.ShaderKind.TheVariants.{Surface}
 use Rattle.scene_state.specs.declared.uses.ShaderUse.{ShaderUse}
 use Rattle.scene_state.specs.declared.attributes.Attributes.{Attributes}
@@ -18,7 +19,7 @@ abbrev pub first_surface : ShaderUse
 first_surface = record { name = codes "constant"; kind = Surface; params = []; space = identity; line = 1 }
 
 abbrev pub first_attributes : Attributes
-first_attributes = record { look = first_look; surface = 0; displacement = None; atmosphere = None; lights = [] }
+first_attributes = record { look = first_look; bases = first_bases; surface = 0; displacement = None; atmosphere = None; lights = [] }
 
 -- A shader request waits until a primitive has it; then it is the next of the scene's uses.
 abbrev pub first_shaders : Shaders

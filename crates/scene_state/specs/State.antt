@@ -1,11 +1,17 @@
 -- The state between two requests, and how each request changes it (RenderMan Interface 3.2, sections 3 to 5).
-use Rattle.std.specs.Prelude.{ℕ, zero, suc, ◌-◌, ◌==◌, nat_le, ℤ, List, [], ◌∷◌, ◌++◌, length, take, drop, map, Bool, true, false, Option, Some, None, is_some, option_map, Result, Ok, Err, if◌then◌else◌, unsigned_abs, codes}
-use Rattle.std.specs.List.{slice_get}
+use Rattle.std.specs.Prelude.{ℕ, ◌+◌, ◌-◌, ◌*◌, ◌/◌, ◌%◌, ◌==◌, nat_le, nat_lt, ℤ, pos, List, [], ◌∷◌, ◌++◌, length, take, drop, map, Bool, Option, Some, None, is_some, Result, Ok, Err, if◌then◌else◌, codes, slice_index_or}
+use Rattle.std.specs.List.{slice_get, sum_by}
+use Rattle.fixed_math.specs.Fixed.{sat}
 use Rattle.fixed_math.specs.declared.vec3.Vec3.{Vec3}
 use Rattle.rib_lex.specs.declared.decimal.Decimal.{Decimal}
 use Rattle.rib_lex.specs.Decimal.{num}
 use Rattle.patches.specs.declared.patch.Patch.{Patch}
-use Rattle.patches.specs.declared.patch.Patch.TheVariants.{Bilinear, Bicubic}
+use Rattle.mesh_basis.specs.declared.shape.Shape.{Shape}
+use Rattle.mesh_basis.specs.declared.counts.Counts.{Counts}
+use Rattle.mesh_basis.specs.Ranges.{with_next, are_in_range}
+use Rattle.mesh_basis.specs.Counts.{counts_of}
+use Rattle.mesh_basis.specs.Meshes.{patches_in}
+use Rattle.mesh_basis.specs.Polygons.{point, piece_count, pieces_of, flat_normal}
 use Rattle.transforms.specs.Map.{Map, identity, translation, scale_map, before_of, point_of, differ}
 use Rattle.transforms.specs.Rotation.{rotate_map}
 use Rattle.transforms.specs.Concat.{concat_map}
@@ -17,7 +23,9 @@ use Rattle.rib_reader.specs.Rules.{word_at, whole_at}
 use Rattle.rib_reader.specs.Lists.{points_in}
 use Rattle.rib_reader.specs.Reading.{Read}
 use Rattle.scene_state.specs.Scene.{PrimValue, FrameValue, most_prims}
-use Rattle.scene_state.specs.Choices.{ChoiceValues, first_choices, chosen, view_of, is_word}
+use Rattle.scene_state.specs.Choices.{ChoiceValues, first_choices, chosen, view_of}
+use Rattle.scene_state.specs.Bases.{patch_shape, mesh_shape}
+use Rattle.scene_state.specs.Faces.{FaceValues, one_face, faces_in}
 use Rattle.scene_state.specs.Looks.{LookValues, is_single}
 use Rattle.scene_state.specs.Shaders.{first_attributes, first_shaders, with_request, placed, some_placed, all_placed, light_of, with_light, without_light}
 use Rattle.scene_state.specs.declared.fault.StateCode.{StateCode}
@@ -233,75 +241,41 @@ light_named None handles = None
 
 -- ---- primitives
 
-abbrev pub point : ℤ → ℤ → ℤ → Vec3
-point x y z = record { x = x; y = y; z = z }
+-- the number at a place
+abbrev pub item : List ℤ → ℕ → ℤ
+item xs k = slice_index_or xs k (pos 0)
 
--- the four points of twelve coordinates
-abbrev pub points_of : List ℤ → Option (List Vec3)
-points_of (ax ∷ ay ∷ az ∷ bx ∷ by ∷ bz ∷ cx ∷ cy ∷ cz ∷ dx ∷ dy ∷ dz ∷ []) =
-    Some (point ax ay az ∷ point bx by bz ∷ point cx cy cz ∷ point dx dy dz ∷ [])
-points_of _ = None
+-- a raw place in camera space as a point; what passes the limit of a number is still out of a primitive's range
+abbrev pub saturated : List ℤ → Vec3
+saturated xs = record { x = sat (item xs 0); y = sat (item xs 1); z = sat (item xs 2) }
 
-abbrev pub both : Option (List Vec3) → Option (List Vec3) → Option (List Vec3)
-both (Some ps) (Some qs) = Some (ps ++ qs)
-both _ _ = None
+abbrev pub camera_point : Map → Vec3 → Vec3
+camera_point m p = saturated (point_of m p)
 
--- the points of n rows of four
-abbrev pub rows_of : ℕ → List ℤ → Option (List Vec3)
-rows_of zero xs = Some []
-rows_of (suc n) xs = both (points_of (take 12 xs)) (rows_of n (drop 12 xs))
+-- the points of three coordinates each, in camera space
+abbrev pub points_from : Map → List ℤ → Option (List Vec3)
+points_from m [] = Some []
+points_from m (x ∷ y ∷ z ∷ xs) = with_next (Some (camera_point m (record { x = x; y = y; z = z }))) (points_from m xs)
+points_from m _ = None
 
--- the sixteen points of forty-eight coordinates, by rows of four
-abbrev pub sixteen_of : List ℤ → Option (List Vec3)
-sixteen_of xs = if length xs == 48 then rows_of 4 xs else None
+-- the place of a patch that is no mesh's
+abbrev pub whole_place : List ℕ
+whole_place = 0 ∷ 1 ∷ 0 ∷ 1 ∷ []
 
--- the control points of a bicubic patch, or of a bilinear one
-abbrev pub control_points : Bool → List ℤ → Option (List Vec3)
-control_points true xs = sixteen_of xs
-control_points false xs = points_of xs
+-- patch k of a mesh, of which so many stand along u and along v
+abbrev pub mesh_place : Counts → ℕ → List ℕ
+mesh_place c k = (k % c.along_u) ∷ c.along_u ∷ (k / c.along_u) ∷ c.along_v ∷ []
 
--- a raw coordinate of a primitive in camera space whose magnitude is at most 2 ^ 30
-abbrev pub number_in_range : ℤ → Option ℤ
-number_in_range x = if nat_le (unsigned_abs x) 1073741824 then Some x else None
-
-abbrev pub vec_in_range : Option ℤ → Option ℤ → Option ℤ → Option Vec3
-vec_in_range (Some x) (Some y) (Some z) = Some (point x y z)
-vec_in_range _ _ _ = None
-
-abbrev pub image_in_range : List ℤ → Option Vec3
-image_in_range (x ∷ y ∷ z ∷ []) = vec_in_range (number_in_range x) (number_in_range y) (number_in_range z)
-image_in_range _ = None
-
--- a point in camera space, where it is in range
-abbrev pub point_in_range : Map → Vec3 → Option Vec3
-point_in_range m p = image_in_range (point_of m p)
-
-abbrev pub with_next : Option Vec3 → Option (List Vec3) → Option (List Vec3)
-with_next (Some p) (Some ps) = Some (p ∷ ps)
-with_next _ _ = None
-
--- points in camera space, where each is in range
-abbrev pub points_in_range : Map → List Vec3 → Option (List Vec3)
-points_in_range m [] = Some []
-points_in_range m (p ∷ ps) = with_next (point_in_range m p) (points_in_range m ps)
-
--- whether the word of a patch's request says bicubic
-abbrev pub is_bicubic : Read → Bool
-is_bicubic r = is_word (word_at r.args 0) (codes "bicubic")
-
-abbrev pub patch_by : Bool → List Vec3 → Patch
-patch_by true ps = Bicubic ps
-patch_by false ps = Bilinear ps
-
--- the patch of control points that are mapped to camera space, where each is in range there
-abbrev pub patch_made : Bool → Map → List Vec3 → Option Patch
-patch_made bicubic object ps = option_map (patch_by bicubic) (points_in_range object ps)
+-- patch k of a mesh, or of what is none
+abbrev pub patch_place : Option Counts → ℕ → List ℕ
+patch_place None k = whole_place
+patch_place (Some c) k = mesh_place c k
 
 -- a primitive of these attributes, whose shaders have these places among the uses
-abbrev pub prim_of : Read → Map → Patch → LookValues → ℕ → Option ℕ → Option ℕ → List ℕ → PrimValue
-prim_of r object patch l surface displacement atmosphere lights = record {
+abbrev pub prim_of : Read → Map → Option Vec3 → List ℕ → Patch → LookValues → ℕ → Option ℕ → Option ℕ → List ℕ → PrimValue
+prim_of r object flat place patch l surface displacement atmosphere lights = record {
   patch = patch;
-  flat = None;
+  flat = flat;
   cs = l.cs;
   os = l.os;
   surface = surface;
@@ -314,36 +288,97 @@ prim_of r object patch l surface displacement atmosphere lights = record {
   flip = differ l.flip object.mirrored;
   vars = [];
   object = object;
-  place = 0 ∷ 1 ∷ 0 ∷ 1 ∷ [];
+  place = place;
   line = r.line;
 }
 
 -- a patch is placed: its shaders are had in the order displacement, surface, atmosphere, lights
-abbrev pub with_prim : Read → Map → Patch → State → State
-with_prim r object patch s =
+abbrev pub with_prim : Read → Map → Option Vec3 → List ℕ → Patch → State → State
+with_prim r object flat place patch s =
     let a = s.attributes in
     let d = some_placed s.shaders a.displacement in
     let f = placed d.0 a.surface in
     let v = some_placed f.0 a.atmosphere in
     let l = all_placed v.0 a.lights in
-    record s { shaders = l.0; prims = s.prims ++ prim_of r object patch a.look f.1 d.1 v.1 l.1 ∷ [] }
+    record s { shaders = l.0; prims = s.prims ++ prim_of r object flat place patch a.look f.1 d.1 v.1 l.1 ∷ [] }
 
-abbrev pub patch_in_range : Read → Map → Option Patch → State → Stepped
-patch_in_range r object None s = Err M7
-patch_in_range r object (Some patch) s = Ok (with_prim r object patch s)
+-- patches one after another, the first of these being patch k of its primitive
+unfoldable pub with_patches : Read → Map → Option Vec3 → Option Counts → ℕ → List Patch → State → State
+with_patches r object flat c k [] s = s
+with_patches r object flat c k (p ∷ ps) s = with_patches r object flat c (k + 1) ps (with_prim r object flat (patch_place c k) p s)
 
--- as many points as the kind of patch has, room in the frame, and then each point in range
-abbrev pub patch_with : Read → Map → Option (List Vec3) → State → Stepped
-patch_with r object None s = Err G5
-patch_with r object (Some ps) s = if nat_le most_prims (length s.prims) then Err M3 else patch_in_range r object (patch_made (is_bicubic r) object ps) s
+-- a frame has no room for so many primitives more
+abbrev pub is_past : ℕ → State → Bool
+is_past count s = nat_lt most_prims (length s.prims + count)
 
-abbrev pub patch_of_numbers : Read → Map → Option (List ℤ) → State → Stepped
-patch_of_numbers r object None s = Err G5
-patch_of_numbers r object (Some xs) s = patch_with r object (control_points (is_bicubic r) xs) s
+-- ---- patches and meshes
 
-abbrev pub patch_in : Read → Result Map FormFault → State → Stepped
-patch_in r (Err e) s = Err (code_of e)
-patch_in r (Ok object) s = patch_of_numbers r object (points_in r.params) s
+-- those from patch k on, where each is in range
+abbrev pub mesh_from : Read → Map → Counts → ℕ → Option (List Patch) → State → Stepped
+mesh_from r object c k None s = Err M7
+mesh_from r object c k (Some ps) s = Ok (with_patches r object None (Some c) k ps s)
+
+-- as many points as the shape has, room in the frame, and then each point in range
+abbrev pub mesh_counted : Read → Map → Shape → List Vec3 → Option Counts → State → Stepped
+mesh_counted r object shape ps None s = Err G5
+mesh_counted r object shape ps (Some c) s = if is_past (c.along_u * c.along_v) s then Err M3 else mesh_from r object c 0 (patches_in ps shape c) s
+
+abbrev pub mesh_laid : Read → Shape → Map → List Vec3 → State → Stepped
+mesh_laid r shape object ps s = mesh_counted r object shape ps (counts_of shape (length ps)) s
+
+-- ---- polygons
+
+-- the points of a face
+abbrev pub face_points : List Vec3 → List ℕ → List Vec3
+face_points ps corners = map (point ps) corners
+
+-- a face is taken apart; each of its pieces has the normal of the face
+abbrev pub with_face : Read → Map → List Vec3 → State → State
+with_face r object ps s = with_patches r object (Some (flat_normal ps)) None 0 (pieces_of ps) s
+
+unfoldable pub with_faces : Read → Map → List Vec3 → List ℕ → List ℕ → State → State
+with_faces r object ps [] corners s = s
+with_faces r object ps (n ∷ ns) corners s = with_faces r object ps ns (drop n corners) (with_face r object (face_points ps (take n corners)) s)
+
+-- faces, room in the frame, and then each point in range, those that no face has too
+abbrev pub faces_laid : Read → Map → List Vec3 → Option FaceValues → State → Stepped
+faces_laid r object ps None s = Err G5
+faces_laid r object ps (Some f) s =
+    if is_past (sum_by piece_count f.sizes) s then Err M3
+    else if are_in_range ps then Ok (with_faces r object ps f.sizes f.corners s)
+    else Err M7
+
+-- ---- primitives by their requests
+
+-- a primitive's map to camera space, and its points there
+abbrev pub Located : Type 0
+Located = Result (Map × List Vec3) StateCode
+
+abbrev pub with_points : Map → Option (List Vec3) → Located
+with_points object None = Err G5
+with_points object (Some ps) = Ok (object, ps)
+
+abbrev pub in_space : Option (List ℤ) → Result Map FormFault → Located
+in_space xs (Err e) = Err (code_of e)
+in_space None (Ok object) = Err G5
+in_space (Some xs) (Ok object) = with_points object (points_from object xs)
+
+-- primitives stand in worlds alone
+abbrev pub located : Read → State → Located
+located r s = if is_some s.world then in_space (points_in r.params) (space_of s) else Err N5
+
+abbrev pub laid : (Map → List Vec3 → State → Stepped) → Located → State → Stepped
+laid form (Err code) s = Err code
+laid form (Ok at) s = form at.0 at.1 s
 
 abbrev pub patch_set : Read → State → Stepped
-patch_set r s = if is_some s.world then patch_in r (space_of s) s else Err N5
+patch_set r s = laid (mesh_laid r (patch_shape r.args s.attributes.bases)) (located r s) s
+
+abbrev pub mesh_set : Read → State → Stepped
+mesh_set r s = laid (mesh_laid r (mesh_shape r.args s.attributes.bases)) (located r s) s
+
+abbrev pub polygon_set : Read → State → Stepped
+polygon_set r s = laid (λ object ps. faces_laid r object ps (one_face (length ps))) (located r s) s
+
+abbrev pub polygons_set : Read → State → Stepped
+polygons_set r s = laid (λ object ps. faces_laid r object ps (faces_in (length ps) r.args)) (located r s) s

@@ -7,10 +7,11 @@ use Rattle.rib_reader.specs.Reading.{Read}
 use Rattle.transforms.specs.Map.{identity}
 use Rattle.scene_state.specs.Scene.{SceneValue}
 use Rattle.scene_state.specs.Looks.{look_after}
+use Rattle.scene_state.specs.Bases.{bases_after}
 use Rattle.scene_state.specs.declared.attributes.Attributes.{Attributes}
 use Rattle.scene_state.specs.declared.state.State.{State}
 use Rattle.scene_state.specs.declared.state.Block.TheVariants.{InAttributes, InTransform}
-use Rattle.scene_state.specs.State.{Stepped, first_state, opened, innermost, frame_begun, frame_ended, attributes_ended, transform_ended, world_begun, world_ended, option_set, display_set, moved, scaled, turned, of_rows, with_current, with_before, space_of, shader_set, light_made, illuminated_by, light_named, patch_set}
+use Rattle.scene_state.specs.State.{Stepped, first_state, opened, innermost, frame_begun, frame_ended, attributes_ended, transform_ended, world_begun, world_ended, option_set, display_set, moved, scaled, turned, of_rows, with_current, with_before, space_of, shader_set, light_made, illuminated_by, light_named, patch_set, mesh_set, polygon_set, polygons_set}
 use Rattle.scene_state.specs.declared.fault.StateCode.{StateCode}
 use Rattle.scene_state.specs.declared.fault.StateCode.TheVariants.{N4}
 use Rattle.scene_state.specs.declared.uses.ShaderKind.TheVariants as kinds
@@ -26,6 +27,9 @@ with_atmosphere k a = record a { atmosphere = Some k }
 
 abbrev pub look_set : Read → State → Stepped
 look_set r s = Ok (record s { attributes = record s.attributes { look = look_after r.name r.args r.params s.attributes.look } })
+
+abbrev pub bases_set : Read → State → Stepped
+bases_set r s = Ok (record s { attributes = record s.attributes { bases = bases_after r.args s.attributes.bases } })
 
 -- the state behind a request, or the fault that it gives: of its nesting first, then of its geometry, then of a limit
 abbrev pub step : Req → Read → State → Stepped
@@ -66,7 +70,11 @@ step reqs.ConcatTransform r s = with_before (of_rows (numbers_at r.args 0)) s
 step reqs.Translate r s = with_before (moved (raw_at r.args 0) (raw_at r.args 1) (raw_at r.args 2)) s
 step reqs.Scale r s = with_before (scaled (raw_at r.args 0) (raw_at r.args 1) (raw_at r.args 2)) s
 step reqs.Rotate r s = with_before (turned (raw_at r.args 0) (raw_at r.args 1) (raw_at r.args 2) (raw_at r.args 3)) s
+step reqs.Basis r s = bases_set r s
 step reqs.Patch r s = patch_set r s
+step reqs.PatchMesh r s = mesh_set r s
+step reqs.Polygon r s = polygon_set r s
+step reqs.PointsPolygons r s = polygons_set r s
 step _ r s = Ok s
 
 abbrev pub after : Read → State → Stepped

@@ -2,6 +2,7 @@
 ghost use Rattle.std.specs.Prelude.{◌≡◌, IfOk};
 ghost use Rattle.scene_state.specs.Shaders.{first_attributes};
 
+use crate::bases::Bases;
 use crate::look::Look;
 use fixed_math::{List, NoMemory};
 use std::alloc::Global;
@@ -10,6 +11,7 @@ use std::alloc::Global;
 #[derive(Drop)]
 pub(crate) struct Attributes {
     pub(crate) look: Look,
+    pub(crate) bases: Bases,
     pub(crate) surface: usize,
     pub(crate) displacement: Option<usize>,
     pub(crate) atmosphere: Option<usize>,
@@ -23,6 +25,7 @@ impl Attributes {
     {
         Attributes {
             look: Look::first(),
+            bases: Bases::first(),
             surface: 0,
             displacement: None,
             atmosphere: None,
@@ -38,6 +41,7 @@ impl Attributes {
         lights.extend_from_slice(self.lights.as_slice())?;
         Ok(Attributes {
             look: self.look,
+            bases: self.bases,
             surface: self.surface,
             displacement: self.displacement,
             atmosphere: self.atmosphere,

@@ -29,7 +29,8 @@ pub enum StateCode {
     G3,
     /// A matrix whose fourth column isn't 0, 0, 0, 1.
     G4,
-    /// A primitive with another number of points than it has.
+    /// A primitive with another number of points than it has, points that make no whole patches, or a face without three points that
+    /// are there.
     G5,
     /// More than 64 blocks open at once.
     M1,
@@ -43,7 +44,7 @@ pub enum StateCode {
     M5,
     /// More than 16 samples in a direction of a pixel, or a filter wider or higher than 16 pixels.
     M6,
-    /// A point whose raw coordinate in camera space passes 2^30.
+    /// A point, or a control point that is made of them, whose raw coordinate in camera space passes 2^30.
     M7,
 }
 

@@ -2,15 +2,19 @@
 #![tactic(auto)]
 
 mod attributes;
+mod bases;
 mod blocks;
 mod choices;
+mod faces;
 mod fault;
 mod filter;
 mod frame;
 mod lights;
 mod look;
 mod options;
+mod patching;
 mod placing;
+mod points;
 mod prims;
 mod reading;
 mod shaders;

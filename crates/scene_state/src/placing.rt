@@ -1,259 +1,154 @@
 // Primitives.
-ghost use Rattle.std.specs.Prelude.{◌≡◌, ◌<◌, ◌≤◌, unsigned_abs, ◌^◌, Bool, true, false, [], ◌++◌, IfOk, IfSome, option_map, length};
-ghost use Rattle.fixed_math.specs.Axes.{AreWithin};
-ghost use Rattle.patches.specs.Boxes.{IsWithin};
+ghost use Rattle.std.specs.Prelude.{◌≡◌, ◌<◌, ◌≤◌, ◌+◌, true, IfOk, Some, length};
+ghost use Rattle.std.specs.List.{sum_by};
 ghost use Rattle.rib_reader.specs.Reading.{plain};
 ghost use Rattle.rib_reader.specs.declared.req.Req.TheVariants as reqs;
-ghost use Rattle.scene_state.specs.State.{points_of, sixteen_of, control_points, number_in_range, point_in_range, points_in_range, is_bicubic, patch_made, with_prim, patch_with, patch_in, patch_set};
+ghost use Rattle.mesh_basis.specs.Ranges.{are_in_range};
+ghost use Rattle.mesh_basis.specs.Polygons.{piece_count};
+ghost use Rattle.scene_state.specs.Faces.{use_up};
+ghost use Rattle.scene_state.specs.State.{mesh_laid, face_points, with_face, with_faces, faces_laid, patch_set, mesh_set, polygon_set, polygons_set};
 ghost use Rattle.scene_state.specs.Scene.{most_prims};
 ghost use Rattle.scene_state.specs.Answers.{Steps};
 
-use crate::fault::{StateCode, Stop, code_of};
-use crate::frame::Primitive;
+use crate::faces::{Faces, faces_in, one_face, piece_total};
+use crate::fault::{StateCode, Stop};
+use crate::points::face_points;
 use crate::state::State;
-use fixed_math::{List, NoMemory, Num, Vec3};
-use patches::{Bicubic, Bilinear, Patch};
+use fixed_math::{NoMemory, Vec3};
+use mesh_basis::{Shape, are_in_range, counts_of};
 use rib_reader::Request;
 use std::alloc::Global;
-use transforms::{Affine, FormFault};
-
-// The four points of twelve coordinates.
-fn four_points(numbers: &[Num]) -> Option<[Vec3; 4]>
-    ensures { result ≡ points_of numbers.now }
-{
-    let [ax, ay, az, bx, by, bz, cx, cy, cz, dx, dy, dz] = numbers else {
-        return None;
-    };
-    Some([
-        Vec3 {
-            x: *ax,
-            y: *ay,
-            z: *az,
-        },
-        Vec3 {
-            x: *bx,
-            y: *by,
-            z: *bz,
-        },
-        Vec3 {
-            x: *cx,
-            y: *cy,
-            z: *cz,
-        },
-        Vec3 {
-            x: *dx,
-            y: *dy,
-            z: *dz,
-        },
-    ])
-}
-
-// A raw coordinate in camera space in range.
-fn in_range(raw: i64) -> Option<Num>
-    ensures value { result ≡ number_in_range raw }
-    ensures range { IfSome result (λ x. unsigned_abs x ≤ 2 ^ 30) }
-{
-    if raw.unsigned_abs() <= 1073741824 {
-        Some(Num::sat(raw as i128))
-    } else {
-        None
-    }
-}
-
-// A point in camera space, where it is in range.
-fn point_in_range(object: &Affine, point: Vec3) -> Option<Vec3>
-    ensures value { result ≡ point_in_range object.now point }
-    ensures range { IfSome result (λ p. IsWithin (2 ^ 30) p) }
-{
-    let [x, y, z] = object.point(point);
-    Some(Vec3 {
-        x: in_range(x)?,
-        y: in_range(y)?,
-        z: in_range(z)?,
-    })
-}
-
-// The points of four rows, one behind another.
-fn joined(
-    first: &[Vec3; 4],
-    second: &[Vec3; 4],
-    third: &[Vec3; 4],
-    fourth: &[Vec3; 4],
-) -> [Vec3; 16]
-    ensures { result ≡ first.now ++ (second.now ++ (third.now ++ (fourth.now ++ []))) }
-{
-    let [a, b, c, d] = *first;
-    let [e, f, g, h] = *second;
-    let [i, j, k, l] = *third;
-    let [m, n, o, p] = *fourth;
-    [a, b, c, d, e, f, g, h, i, j, k, l, m, n, o, p]
-}
-
-// The sixteen points of forty-eight coordinates.
-fn sixteen_points(numbers: &[Num]) -> Option<[Vec3; 16]>
-    ensures { result ≡ sixteen_of numbers.now }
-{
-    if numbers.len() != 48 {
-        return None;
-    }
-    let (first, rest) = numbers.split_at(12);
-    let (second, rest) = rest.split_at(12);
-    let (third, rest) = rest.split_at(12);
-    let (fourth, _) = rest.split_at(12);
-    Some(joined(
-        &four_points(first)?,
-        &four_points(second)?,
-        &four_points(third)?,
-        &four_points(fourth)?,
-    ))
-}
-
-// A row of four points in camera space, where each is in range.
-fn row_in_range(object: &Affine, row: &[Vec3]) -> Option<[Vec3; 4]>
-    requires { length row.now ≡ 4 }
-    ensures value { result ≡ points_in_range object.now row.now }
-    ensures range { IfSome result (λ ps. AreWithin (2 ^ 30) ps) }
-{
-    let [a, b, c, d] = row else {
-        return None;
-    };
-    Some([
-        point_in_range(object, *a)?,
-        point_in_range(object, *b)?,
-        point_in_range(object, *c)?,
-        point_in_range(object, *d)?,
-    ])
-}
-
-// A bilinear patch of points in camera space, where each is in range.
-fn bilinear_of(object: &Affine, points: &[Vec3]) -> Option<Patch>
-    requires { length points.now ≡ 4 }
-    ensures { result ≡ patch_made false object.now points.now }
-{
-    Some(Patch::Bilinear(Bilinear::new(row_in_range(object, points)?)))
-}
-
-// A bicubic patch of points in camera space, where each is in range.
-fn bicubic_of(object: &Affine, points: &[Vec3]) -> Option<Patch>
-    requires { length points.now ≡ 16 }
-    ensures { result ≡ patch_made true object.now points.now }
-{
-    let (first, rest) = points.split_at(4);
-    let (second, rest) = rest.split_at(4);
-    let (third, rest) = rest.split_at(4);
-    let (fourth, _) = rest.split_at(4);
-    let a = row_in_range(object, first)?;
-    let b = row_in_range(object, second)?;
-    let c = row_in_range(object, third)?;
-    let d = row_in_range(object, fourth)?;
-    Some(Patch::Bicubic(Bicubic::new(joined(&a, &b, &c, &d))))
-}
-
-// A patch of coordinates: none where there are more or fewer than its kind has, and then none where a point isn't in range.
-fn patch_of(object: &Affine, bicubic: bool, numbers: &[Num]) -> Option<Option<Patch>>
-    ensures { result ≡ option_map (patch_made bicubic object.now) (control_points bicubic numbers.now) }
-{
-    if bicubic {
-        let points = sixteen_points(numbers)?;
-        Some(bicubic_of(object, &points))
-    } else {
-        let points = four_points(numbers)?;
-        Some(bilinear_of(object, &points))
-    }
-}
+use transforms::Affine;
 
 impl State {
-    // Places a patch with the attributes in force.
-    fn place(
+    // Places the patches of a mesh of these points.
+    fn lay_mesh(
+        &mut self,
+        alloc: Global,
+        request: &Request,
+        shape: &Shape,
+        object: Affine,
+        points: &[Vec3],
+    ) -> Result<(), Stop>
+        requires step_u { 1 ≤ shape.now.step_u }
+        requires step_v { 1 ≤ shape.now.step_v }
+        ensures { Steps result (mesh_laid (plain request.now) shape.now object points.now self.old) self.new }
+    {
+        let Some(counts) = counts_of(shape, points.len()) else {
+            return Err(Stop::Fault(StateCode::G5));
+        };
+        if self
+            .prims
+            .lack_room(counts.along_u as usize * counts.along_v as usize)
+        {
+            return Err(Stop::Fault(StateCode::M3));
+        }
+        if !are_in_range(points) {
+            return Err(Stop::Fault(StateCode::M7));
+        }
+        self.place_patches(alloc, request, object, points, shape, counts)
+    }
+
+    // Places the pieces of a face.
+    fn place_face(
         &mut self,
         alloc: Global,
         request: &Request,
         object: Affine,
-        patch: Patch,
+        points: &[Vec3],
+        corners: &[usize],
     ) -> Result<(), NoMemory>
-        requires { length self.old.prims < most_prims }
-        ensures { IfOk result (λ _. self.new ≡ with_prim (plain request.now) object patch self.old) }
+        requires some { 3 ≤ length corners.now }
+        requires near { are_in_range points.now ≡ true }
+        requires room { length self.old.prims + piece_count (length corners.now) ≤ most_prims }
+        ensures { IfOk result (λ _. self.new ≡ with_face (plain request.now) object (face_points points.now corners.now) self.old) }
     {
-        let displacement = self.shaders.place_some(self.attributes.displacement)?;
-        let surface = self.shaders.place(self.attributes.surface)?;
-        let atmosphere = self.shaders.place_some(self.attributes.atmosphere)?;
-        let lights = self
-            .shaders
-            .place_all(alloc, self.attributes.lights.as_slice())?;
-        let look = self.attributes.look;
-        self.prims.push(Primitive {
-            patch,
-            flat: None,
-            cs: look.cs,
-            os: look.os,
-            surface,
-            displacement,
-            atmosphere,
-            lights,
-            bound: look.bound,
-            rate: look.rate,
-            one_sided: look.one_sided,
-            flip: look.flip != object.mirrored(),
-            vars: List(Vec::new(alloc)),
-            object,
-            place: [0, 1, 0, 1],
-            line: request.line,
-        })?;
+        let face = face_points(alloc, points, corners)?;
+        self.place_pieces(alloc, request, object, face.as_slice())
+    }
+
+    // Places faces of these sizes, one after another.
+    fn place_faces(
+        &mut self,
+        alloc: Global,
+        request: &Request,
+        object: Affine,
+        points: &[Vec3],
+        sizes: &[usize],
+        corners: &[usize],
+    ) -> Result<(), NoMemory>
+        requires near { are_in_range points.now ≡ true }
+        requires faces { use_up sizes.now (length corners.now) ≡ true }
+        requires room { length self.old.prims + sum_by piece_count sizes.now ≤ most_prims }
+        ensures { IfOk result (λ _. self.new ≡ with_faces (plain request.now) object points.now sizes.now corners.now self.old) }
+    {
+        let mut rest = corners;
+        for size in sizes {
+            let (face, behind) = rest.split_at(*size);
+            self.place_face(alloc, request, object, points, face)?;
+            rest = behind;
+        }
         Ok(())
     }
 
-    // Places a patch of these numbers.
-    fn place_points(
+    // Places faces over these points.
+    fn lay_faces(
         &mut self,
         alloc: Global,
         request: &Request,
         object: Affine,
-        numbers: &[Num],
+        points: &[Vec3],
+        faces: Option<Faces>,
     ) -> Result<(), Stop>
-        requires { request.now.name ≡ reqs.Patch }
-        ensures { Steps result (patch_with (plain request.now) object (control_points (is_bicubic (plain request.now)) numbers.now) self.old) self.new }
+        ensures { Steps result (faces_laid (plain request.now) object points.now faces self.old) self.new }
     {
-        let bicubic = request.word(0).as_str() == "bicubic";
-        let Some(patch) = patch_of(&object, bicubic, numbers) else {
+        let Some(faces) = faces else {
             return Err(Stop::Fault(StateCode::G5));
         };
-        if self.prims.is_full() {
+        let (sizes, corners) = (faces.sizes.as_slice(), faces.corners.as_slice());
+        if self.prims.lack_room(piece_total(sizes)) {
             return Err(Stop::Fault(StateCode::M3));
         }
-        match patch {
-            Some(patch) => {
-                self.place(alloc, request, object, patch)?;
-                Ok(())
-            }
-            None => Err(Stop::Fault(StateCode::M7)),
+        if !are_in_range(points) {
+            return Err(Stop::Fault(StateCode::M7));
         }
-    }
-
-    // Places a patch whose object space is mapped so.
-    fn place_in(
-        &mut self,
-        alloc: Global,
-        request: &Request,
-        object: Result<Affine, FormFault>,
-    ) -> Result<(), Stop>
-        requires { request.now.name ≡ reqs.Patch }
-        ensures { Steps result (patch_in (plain request.now) object self.old) self.new }
-    {
-        match object {
-            Ok(object) => self.place_points(alloc, request, object, request.points()),
-            Err(fault) => Err(Stop::Fault(code_of(fault))),
-        }
+        self.place_faces(alloc, request, object, points, sizes, corners)?;
+        Ok(())
     }
 
     pub(crate) fn place_patch(&mut self, alloc: Global, request: &Request) -> Result<(), Stop>
         requires { request.now.name ≡ reqs.Patch }
         ensures { Steps result (patch_set (plain request.now) self.old) self.new }
     {
-        if self.world.is_some() {
-            let object = self.space();
-            self.place_in(alloc, request, object)
-        } else {
-            Err(Stop::Fault(StateCode::N5))
-        }
+        let (object, points) = self.located(alloc, request)?;
+        let shape = self.attributes.bases.patch_shape(request);
+        self.lay_mesh(alloc, request, &shape, object, points.as_slice())
+    }
+
+    pub(crate) fn place_mesh(&mut self, alloc: Global, request: &Request) -> Result<(), Stop>
+        requires { request.now.name ≡ reqs.PatchMesh }
+        ensures { Steps result (mesh_set (plain request.now) self.old) self.new }
+    {
+        let (object, points) = self.located(alloc, request)?;
+        let shape = self.attributes.bases.mesh_shape(request);
+        self.lay_mesh(alloc, request, &shape, object, points.as_slice())
+    }
+
+    pub(crate) fn place_polygon(&mut self, alloc: Global, request: &Request) -> Result<(), Stop>
+        requires { request.now.name ≡ reqs.Polygon }
+        ensures { Steps result (polygon_set (plain request.now) self.old) self.new }
+    {
+        let (object, points) = self.located(alloc, request)?;
+        let faces = one_face(alloc, points.len())?;
+        self.lay_faces(alloc, request, object, points.as_slice(), faces)
+    }
+
+    pub(crate) fn place_polygons(&mut self, alloc: Global, request: &Request) -> Result<(), Stop>
+        requires { request.now.name ≡ reqs.PointsPolygons }
+        ensures { Steps result (polygons_set (plain request.now) self.old) self.new }
+    {
+        let (object, points) = self.located(alloc, request)?;
+        let faces = faces_in(alloc, request, points.len())?;
+        self.lay_faces(alloc, request, object, points.as_slice(), faces)
     }
 }

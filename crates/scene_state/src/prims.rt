@@ -1,4 +1,4 @@
-ghost use Rattle.std.specs.Prelude.{◌≡◌, ◌≤◌, ◌<◌, List as Items, [], ◌∷◌, ◌++◌, length, IfOk, nat_le};
+ghost use Rattle.std.specs.Prelude.{◌≡◌, ◌≤◌, ◌<◌, List as Items, [], ◌∷◌, ◌++◌, ◌+◌, length, IfOk, nat_lt};
 ghost use Rattle.scene_state.specs.Scene.{PrimValue, most_prims};
 
 use crate::frame::Primitive;
@@ -34,11 +34,11 @@ impl Prims {
         }
     }
 
-    /// Whether a frame has no room for a further primitive.
-    pub(crate) fn is_full(&self) -> bool
-        ensures { result ≡ nat_le most_prims (length self.now) }
+    /// Whether a frame has no room for so many primitives more.
+    pub(crate) fn lack_room(&self, count: usize) -> bool
+        ensures { result ≡ nat_lt most_prims (length self.now + count) }
     {
-        self.prims.len() >= MOST_PRIMS
+        count > MOST_PRIMS - self.prims.len()
     }
 
     /// A primitive more.

@@ -3,7 +3,7 @@ ghost use Rattle.std.specs.Prelude.{◌≡◌};
 ghost use Rattle.rib_reader.specs.Reading.{plain};
 ghost use Rattle.rib_reader.specs.declared.req.Req.TheVariants as reqs;
 ghost use Rattle.scene_state.specs.State.{option_set, display_set};
-ghost use Rattle.scene_state.specs.Steps.{look_set, after};
+ghost use Rattle.scene_state.specs.Steps.{look_set, bases_set, after};
 ghost use Rattle.scene_state.specs.Answers.{Steps};
 
 use crate::fault::{StateCode, Stop};
@@ -16,6 +16,13 @@ impl State {
         ensures { look_set (plain request.now) self.old ≡ Ok self.new }
     {
         self.attributes.look = self.attributes.look.after(request);
+    }
+
+    fn set_bases(&mut self, request: &Request)
+        requires { request.now.name ≡ reqs.Basis }
+        ensures { bases_set (plain request.now) self.old ≡ Ok self.new }
+    {
+        self.attributes.bases = self.attributes.bases.after(request);
     }
 
     fn set_option(&mut self, request: &Request) -> Result<(), Stop>
@@ -90,7 +97,11 @@ impl State {
             Req::Translate => self.translate(request)?,
             Req::Scale => self.scale(request)?,
             Req::Rotate => self.rotate(request)?,
+            Req::Basis => self.set_bases(request),
             Req::Patch => self.place_patch(alloc, request)?,
+            Req::PatchMesh => self.place_mesh(alloc, request)?,
+            Req::Polygon => self.place_polygon(alloc, request)?,
+            Req::PointsPolygons => self.place_polygons(alloc, request)?,
             _ => {}
         }
         Ok(())
