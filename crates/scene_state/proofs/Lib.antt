@@ -5,3 +5,4 @@ pub mod Keeping
 pub mod Places
 pub mod FirstUse
 pub mod Order
+pub mod FrameCount
