@@ -10,12 +10,13 @@ use Rattle.rib_reader.specs.declared.params.Param.{Param}
 use Rattle.scene_state.specs.declared.uses.ShaderUse.{ShaderUse}
 use Rattle.sl_ast.specs.TreeView.{tree_of}
 use Rattle.render.specs.declared.refusal.Refusal.{Refusal}
-use Rattle.render.specs.declared.shaders.ReadShader.{ReadShader}
+use Rattle.render.specs.declared.read.ReadShader.{ReadShader}
 use Rattle.render.specs.declared.shaders.UsedShaders.{UsedShaders}
 use Rattle.fixed_math.specs.Names.{last_place}
 use Rattle.render.specs.Causes.{Cause, or_else, first_of}
 use Rattle.render.specs.Shaders.{shader_tree}
-use Rattle.render.specs.Bindings.{binding_fault, cause_at, use_refused, is_at, param_name, is_named, holding}
+use Rattle.render.specs.Bindings.{binding_fault, cause_at, use_refused, param_name}
+use Rattle.rib_reader.specs.Holding.{is_at, is_named, holding}
 use Rattle.render.specs.Reading.{IsReadOf, ArePlaced, named_use, is_among, name_of}
 use Rattle.render.specs.Answers.{Because, Clears}
 use Rattle.render.proofs.ReadAll.{because_first}
@@ -53,7 +54,7 @@ place_of_use uses shaders read places i u placed same_read same_places low is =
     (slice_get-get_or uses i u low ∙ ap (λ v. Some v) (sym is))
 
 -- a use over the tree of its shader
-pub bound_by : (files : Files) (shaders : List ReadShader) (p : ℕ) (s : ReadShader) (u : ShaderUse) (r : Result Unit Refusal) → slice_get (map name_of shaders) p ≡ Some u.name
+pub bound_by : {A : Type 0} (files : Files) (shaders : List ReadShader) (p : ℕ) (s : ReadShader) (u : ShaderUse) (r : Result A Refusal) → slice_get (map name_of shaders) p ≡ Some u.name
     → s ≡ get_or shaders p s → All (IsReadOf files) shaders → Clears r (cause_at u (binding_fault (tree_of s.tree) u)) → Clears r (use_refused u (shader_tree files u.name))
 bound_by files shaders p s u r named is all clears =
     let low : p < length shaders = within shaders p u.name named in

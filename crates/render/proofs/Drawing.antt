@@ -10,7 +10,8 @@ use Rattle.hider.specs.declared.cell.Cell.{Cell}
 use Rattle.hider.specs.declared.quad.Quad.{Quad}
 use Rattle.hider.specs.Cells.{quad_of}
 use Rattle.render.specs.Still.{quads_of, leaf_quads, prim_quads, prims_quads}
-use Rattle.scene_state.specs.Scene.{PrimValue}
+use Rattle.scene_state.specs.Scene.{PrimValue, FrameValue}
+use Rattle.render.specs.Set.{AcceptedValue}
 use Rattle.render.specs.Pictures.{decide, leaf_cells}
 
 -- one more cell
@@ -23,14 +24,15 @@ quads_of-next v f cells i c before old new lt is first next =
     next ∙ ap (λ qs. qs ++ quads_of v f (c ∷ [])) first ∙ append_assoc before (quads_of v f (take i cells)) (quads_of v f (c ∷ [])) ∙ ap (λ qs. before ++ qs) (sym split)
 
 -- one more leaf
-pub leaf-next : (v : View) (f : PrimValue) (part : Part) (p q : ℕ) (cells : List Cell) (pending rest : List Part) (old new whole : List Quad)
-    → decide v f part ≡ Dice p q → cells ≡ leaf_cells (Dice p q) f part → pending ≡ part ∷ rest → new ≡ old ++ quads_of v f cells
-    → old ++ flat_map (leaf_quads v f) pending ≡ whole → new ++ flat_map (leaf_quads v f) rest ≡ whole
+pub leaf-next : (a : AcceptedValue) (f : FrameValue) (prim : PrimValue) (part : Part) (p q : ℕ) (cells : List Cell) (pending rest : List Part) (old new whole : List Quad)
+    → decide f.camera prim part ≡ Dice p q → cells ≡ leaf_cells a f prim part (Dice p q) → pending ≡ part ∷ rest → new ≡ old ++ quads_of f.camera prim cells
+    → old ++ flat_map (leaf_quads a f prim) pending ≡ whole → new ++ flat_map (leaf_quads a f prim) rest ≡ whole
 unfolding leaf_quads
-leaf-next v f part p q cells pending rest old new whole decided made top next goes =
-    let seen : quads_of v f cells ≡ leaf_quads v f part = ap (quads_of v f) (made ∙ ap (λ d. leaf_cells d f part) (sym decided)) in
-    ap (λ qs. qs ++ flat_map (leaf_quads v f) rest) (next ∙ ap (λ qs. old ++ qs) seen) ∙ append_assoc old (leaf_quads v f part) (flat_map (leaf_quads v f) rest)
-    ∙ ap (λ ps. old ++ flat_map (leaf_quads v f) ps) (sym top) ∙ goes
+leaf-next a f prim part p q cells pending rest old new whole decided made top next goes =
+    let v = f.camera in
+    let seen : quads_of v prim cells ≡ leaf_quads a f prim part = ap (quads_of v prim) (made ∙ ap (leaf_cells a f prim part) (sym decided)) in
+    ap (λ qs. qs ++ flat_map (leaf_quads a f prim) rest) (next ∙ ap (λ qs. old ++ qs) seen) ∙ append_assoc old (leaf_quads a f prim part) (flat_map (leaf_quads a f prim) rest)
+    ∙ ap (λ ps. old ++ flat_map (leaf_quads a f prim) ps) (sym top) ∙ goes
 
 pub flat_map-append : {A B : Type 0} (g : A → List B) (xs ys : List A) → flat_map g (xs ++ ys) ≡ flat_map g xs ++ flat_map g ys
 flat_map-append g [] ys = refl
@@ -48,13 +50,13 @@ enumerate_more n (y ∷ ys) x =
     ap (λ l. (n, y) ∷ l) (enumerate_more (n + 1) ys x ∙ ap (λ (k : ℕ). enumerate_from (n + 1) ys ++ (k, x) ∷ []) e)
 
 -- one more primitive
-pub prims-next : (v : View) (fs : List PrimValue) (i : ℕ) (f : PrimValue) (old new : List Quad) → i < length fs → f ≡ get_or fs i f
-    → old ≡ prims_quads v (take i fs) → new ≡ old ++ prim_quads v i f → new ≡ prims_quads v (take (i + 1) fs)
-prims-next v fs i f old new lt is first next =
-    let more : take (i + 1) fs ≡ take i fs ++ f ∷ [] = take_more fs i f lt ∙ ap (λ d. take i fs ++ d ∷ []) (sym is) in
-    let g : (np : ℕ × PrimValue) → List Quad = λ np. prim_quads v np.0 np.1 in
-    let count : 0 + length (take i fs) ≡ i = let e = length-take i fs in omega (arith, e, lt) in
-    let numbered : enumerate_from 0 (take (i + 1) fs) ≡ enumerate_from 0 (take i fs) ++ (i, f) ∷ [] =
-    ap (enumerate_from 0) more ∙ enumerate_more 0 (take i fs) f ∙ ap (λ (k : ℕ). enumerate_from 0 (take i fs) ++ (k, f) ∷ []) count in
-    next ∙ ap (λ qs. qs ++ prim_quads v i f) first
-    ∙ sym (ap (flat_map g) numbered ∙ flat_map-append g (enumerate_from 0 (take i fs)) ((i, f) ∷ []) ∙ ap (λ qs. flat_map g (enumerate_from 0 (take i fs)) ++ qs) (append_none (prim_quads v i f)))
+pub prims-next : (a : AcceptedValue) (f : FrameValue) (ps : List PrimValue) (i : ℕ) (p : PrimValue) (old new : List Quad) → i < length ps → p ≡ get_or ps i p
+    → old ≡ prims_quads a f (take i ps) → new ≡ old ++ prim_quads a f i p → new ≡ prims_quads a f (take (i + 1) ps)
+prims-next a f ps i p old new lt is first next =
+    let more : take (i + 1) ps ≡ take i ps ++ p ∷ [] = take_more ps i p lt ∙ ap (λ d. take i ps ++ d ∷ []) (sym is) in
+    let g : (np : ℕ × PrimValue) → List Quad = λ np. prim_quads a f np.0 np.1 in
+    let count : 0 + length (take i ps) ≡ i = let e = length-take i ps in omega (arith, e, lt) in
+    let numbered : enumerate_from 0 (take (i + 1) ps) ≡ enumerate_from 0 (take i ps) ++ (i, p) ∷ [] =
+    ap (enumerate_from 0) more ∙ enumerate_more 0 (take i ps) p ∙ ap (λ (k : ℕ). enumerate_from 0 (take i ps) ++ (k, p) ∷ []) count in
+    next ∙ ap (λ qs. qs ++ prim_quads a f i p) first
+    ∙ sym (ap (flat_map g) numbered ∙ flat_map-append g (enumerate_from 0 (take i ps)) ((i, p) ∷ []) ∙ ap (λ qs. flat_map g (enumerate_from 0 (take i ps)) ++ qs) (append_none (prim_quads a f i p)))

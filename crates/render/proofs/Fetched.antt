@@ -1,6 +1,7 @@
 -- What a fetched file says of its shader, and of a scene's text.
 use Rattle.std.proofs.Common.{◌≡◌, ℕ, List, Option, Some, None, Result, Ok, Err, All, [], ◌∷◌, ◌++◌, length, ◌<◌, ◌+◌, cond, refl, sym, ap, ◌∙◌, subst, arith, length-append, false}
-use Rattle.std.specs.Prelude.{is_none, ◌≤◌}
+use Rattle.std.specs.Prelude.{◌≤◌, Vec}
+use Rattle.std.specs.declared.alloc.Global.{Global}
 use Rattle.std.proofs.lemmas.Bool.{lt-ltb, le-ltb}
 use Rattle.std.proofs.lemmas.List.Elements.{All-append, All-cons}
 use Rattle.outside.specs.Causes.{Told}
@@ -14,8 +15,7 @@ use Rattle.render.specs.Causes.{At, cause_in}
 use Rattle.render.specs.Shaders.{text_with, tree_of_parsed, tree_of_text, most_shader_bytes, file_of, shader_tree}
 use Rattle.render.specs.Verdict.{most_bytes, text_of_held}
 use Rattle.sl_parser.specs.Files.{parsed}
-use Rattle.render.specs.declared.shaders.ReadShader.{ReadShader}
-use Rattle.render.specs.declared.shaders.ShaderText.{ShaderText}
+use Rattle.render.specs.declared.read.ReadShader.{ReadShader}
 use Rattle.sl_ast.specs.TreeView.{tree_of}
 use Rattle.render.specs.Reading.{IsReadOf, GivesShaderText}
 use Rattle.render.specs.Answers.{Because}
@@ -29,16 +29,16 @@ whole_held result limit held old new bytes is empty added content =
     here ∙ ap (λ b. Some b) (sym same)
 
 -- the file's text
-pub whole_text : (result : Fetch) (held : Option Files) (name file old new : List ℕ) (t : ShaderText) → result ≡ Whole → old ≡ [] → Fetches result most_shader_bytes held file old new
-    → file ≡ file_of name → t.bytes.items ≡ new → t.stock ≡ false → Told held (λ files. GivesShaderText name (held_as files (file_of name)) (Ok t))
-whole_text result None name file old new t is empty f of bytes stock = tt
-whole_text result (Some files) name file old new t is empty f of bytes stock =
-    let here : held_as files (file_of name) ≡ Some t.bytes.items =
-    ap (held_as files) (sym of) ∙ whole_held result most_shader_bytes (held_as files file) old new f.bytes is empty f.added f.content ∙ ap (λ b. Some b) (sym bytes) in
-    (ap (λ h. text_with h name) here, ap is_none here ∙ sym stock)
+pub whole_text : (result : Fetch) (held : Option Files) (name file old : List ℕ) (text : Vec ℕ Global) → result ≡ Whole → old ≡ [] → Fetches result most_shader_bytes held file old text.items
+    → file ≡ file_of name → Told held (λ files. GivesShaderText name (held_as files (file_of name)) (Ok text))
+whole_text result None name file old text is empty f of = tt
+whole_text result (Some files) name file old text is empty f of =
+    let here : held_as files (file_of name) ≡ Some text.items =
+    ap (held_as files) (sym of) ∙ whole_held result most_shader_bytes (held_as files file) old text.items f.bytes is empty f.added f.content in
+    ap (λ h. text_with h name) here
 
 -- the stock's
-pub missing_text : (result : Fetch) (held : Option Files) (name file old new : List ℕ) (r : Result ShaderText Refusal) → result ≡ Missing → Fetches result most_shader_bytes held file old new
+pub missing_text : (result : Fetch) (held : Option Files) (name file old new : List ℕ) (r : Result (Vec ℕ Global) Refusal) → result ≡ Missing → Fetches result most_shader_bytes held file old new
     → file ≡ file_of name → GivesShaderText name None r → Told held (λ files. GivesShaderText name (held_as files (file_of name)) r)
 missing_text result None name file old new r is f of gives = tt
 missing_text result (Some files) name file old new r is f of gives =
@@ -87,13 +87,10 @@ of_text : (files : Files) (name : List ℕ) (o : Option (List ℕ)) → text_wit
 unfolding shader_tree
 of_text files name o is = ap (tree_of_text name) is
 
-pub text_read : (held : Option Files) (name : List ℕ) (t : ShaderText) (s : ReadShader) → Told held (λ files. GivesShaderText name (held_as files (file_of name)) (Ok t))
-    → s.name ≡ name → s.stock ≡ t.stock → tree_of_text name (Some t.bytes.items) ≡ Ok (tree_of s.tree) → Told held (λ files. IsReadOf files s)
-text_read None name t s gives named stock tree = tt
-text_read (Some files) name t s gives named stock tree = record {
-  tree = ap (shader_tree files) named ∙ of_text files name (Some t.bytes.items) gives.0 ∙ tree;
-  stock = ap (λ n. is_none (held_as files (file_of n))) named ∙ gives.1 ∙ sym stock;
-}
+pub text_read : (held : Option Files) (name text : List ℕ) (s : ReadShader) → Told held (λ files. text_with (held_as files (file_of name)) name ≡ Some text)
+    → s.name ≡ name → tree_of_text name (Some text) ≡ Ok (tree_of s.tree) → Told held (λ files. IsReadOf files s)
+text_read None name text s gives named tree = tt
+text_read (Some files) name text s gives named tree = record { tree = ap (shader_tree files) named ∙ of_text files name (Some text) gives ∙ tree }
 
 pub text_refused : (held : Option Files) (name : List ℕ) (r : Refusal) → Told held (λ files. Because r (cause_in (tree_of_text name (text_with (held_as files (file_of name)) name))))
     → Told held (λ files. Because r (cause_in (shader_tree files name)))
@@ -101,10 +98,10 @@ text_refused None name r because = tt
 text_refused (Some files) name r because =
     subst (λ t. Because r (cause_in t)) (sym (of_text files name (text_with (held_as files (file_of name)) name) refl)) because
 
-pub tree_refused : (held : Option Files) (name : List ℕ) (t : ShaderText) (r : Refusal) → Told held (λ files. GivesShaderText name (held_as files (file_of name)) (Ok t))
-    → Because r (cause_in (tree_of_text name (Some t.bytes.items))) → Told held (λ files. Because r (cause_in (shader_tree files name)))
-tree_refused None name t r gives because = tt
-tree_refused (Some files) name t r gives because = subst (λ q. Because r (cause_in q)) (sym (of_text files name (Some t.bytes.items) gives.0)) because
+pub tree_refused : (held : Option Files) (name text : List ℕ) (r : Refusal) → Told held (λ files. text_with (held_as files (file_of name)) name ≡ Some text)
+    → Because r (cause_in (tree_of_text name (Some text))) → Told held (λ files. Because r (cause_in (shader_tree files name)))
+tree_refused None name text r gives because = tt
+tree_refused (Some files) name text r gives because = subst (λ q. Because r (cause_in q)) (sym (of_text files name (Some text) gives)) because
 
 -- a shader more is read
 pub told_pushed : (held : Option Files) (old new : List ReadShader) (s : ReadShader) → Told held (λ files. IsReadOf files s) → new ≡ old ++ s ∷ []

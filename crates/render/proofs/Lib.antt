@@ -18,3 +18,7 @@ pub mod Bound
 pub mod Fetched
 pub mod SoFar
 pub mod Loading
+pub mod LeafParts
+pub mod BoundValues
+pub mod SetSame
+pub mod ParamCount

@@ -1,5 +1,5 @@
 -- A scene and its shaders, and the verdict.
-use Rattle.std.proofs.Common.{◌≡◌, ℕ, List, [], ◌∷◌, map, Option, Some, None, Ok, Err, All, sym, ap, ◌∙◌, subst}
+use Rattle.std.proofs.Common.{◌≡◌, ℕ, List, [], ◌∷◌, map, Option, Some, None, Ok, Err, All, refl, sym, ap, ◌∙◌, subst}
 use Rattle.outside.specs.Causes.{Told}
 use Rattle.outside.specs.Library.{Files, held_as}
 use Rattle.outside.specs.Asked.{AsksAll, AsksFront}
@@ -7,15 +7,20 @@ use Rattle.outside.proofs.Asking.{asks_front-before, asks_front-behind}
 use Rattle.scene_state.specs.Scene.{SceneValue}
 use Rattle.render.specs.declared.refusal.Refusal.{Refusal}
 use Rattle.render.specs.declared.refusal.Refusal.TheVariants.{Missing, At, ReadFault, NoMemory}
-use Rattle.render.specs.declared.shaders.ReadShader.{ReadShader}
+use Rattle.render.specs.declared.read.ReadShader.{ReadShader}
 use Rattle.render.specs.Causes.{Cause, Reads, unless, cause_in}
 use Rattle.render.specs.Command.{Command}
 use Rattle.render.specs.Shaders.{shader_names, shaders_refused, shaders_asked}
 use Rattle.render.specs.Bindings.{uses_refused}
 use Rattle.render.specs.Verdict.{text_of_held, scene_of_text, accepted, accepted_scene, asked_for_scene, asked_for_text, asked_for_command}
-use Rattle.render.specs.Reading.{name_of, IsReadOf}
-use Rattle.render.specs.Answers.{Because}
+use Rattle.displace_shade.specs.Shop.{set_value}
+use Rattle.render.specs.declared.accepted.Accepted.{Accepted}
+use Rattle.render.specs.declared.shaders.UsedShaders.{UsedShaders}
+use Rattle.render.specs.Set.{AcceptedValue, accepted_with}
+use Rattle.render.specs.Reading.{name_of, ArePlaced, IsReadOf, set_read}
+use Rattle.render.specs.Answers.{Because, accepted_in}
 use Rattle.render.proofs.ReadAll.{none_refused}
+use Rattle.render.proofs.SetSame.{set_same}
 
 abbrev pub AllRead : Option Files → List ReadShader → Type 0
 AllRead held shaders = Told held (λ files. All (IsReadOf files) shaders)
@@ -50,13 +55,13 @@ pub shaders_refuse : (held : Option Files) (text : List ℕ) (scene : SceneValue
 shaders_refuse None text scene r is because = tt
 shaders_refuse (Some files) text scene r is because =
     subst (λ q. Because r (cause_in (accepted_scene files q))) (sym is)
-    (because_unless r (shaders_refused files (shader_names scene.uses)) (unless (uses_refused files scene.uses) (Ok scene)) because)
+    (because_unless r (shaders_refused files (shader_names scene.uses)) (unless (uses_refused files scene.uses) (Ok (accepted_with files scene))) because)
 
 -- what is accepted of a scene whose shaders are read
 shaders_read : (files : Files) (text : List ℕ) (scene : SceneValue) (shaders : List ReadShader) → scene_of_text text ≡ Ok scene
-    → map name_of shaders ≡ shader_names scene.uses → All (IsReadOf files) shaders → accepted files text ≡ unless (uses_refused files scene.uses) (Ok scene)
+    → map name_of shaders ≡ shader_names scene.uses → All (IsReadOf files) shaders → accepted files text ≡ unless (uses_refused files scene.uses) (Ok (accepted_with files scene))
 shaders_read files text scene shaders is names all =
-    ap (accepted_scene files) is ∙ ap (λ o. unless o (unless (uses_refused files scene.uses) (Ok scene))) (none_refused files (shader_names scene.uses) shaders names all)
+    ap (accepted_scene files) is ∙ ap (λ o. unless o (unless (uses_refused files scene.uses) (Ok (accepted_with files scene)))) (none_refused files (shader_names scene.uses) shaders names all)
 
 pub unbound : (held : Option Files) (text : List ℕ) (scene : SceneValue) (shaders : List ReadShader) (r : Refusal)
     → scene_of_text text ≡ Ok scene → map name_of shaders ≡ shader_names scene.uses → AllRead held shaders
@@ -65,15 +70,18 @@ pub unbound : (held : Option Files) (text : List ℕ) (scene : SceneValue) (shad
 unbound None text scene shaders r is names read because = tt
 unbound (Some files) text scene shaders r is names read because =
     subst (λ q. Because r (cause_in q)) (sym (shaders_read files text scene shaders is names read))
-    (because_unless r (uses_refused files scene.uses) (Ok scene) (because files read))
+    (because_unless r (uses_refused files scene.uses) (Ok (accepted_with files scene)) (because files read))
 
-pub bound : (held : Option Files) (text : List ℕ) (scene : SceneValue) (shaders : List ReadShader)
-    → scene_of_text text ≡ Ok scene → map name_of shaders ≡ shader_names scene.uses → AllRead held shaders
-    → ((files : Files) → All (IsReadOf files) shaders → uses_refused files scene.uses ≡ None)
-    → Told held (λ files. accepted files text ≡ Ok scene)
-bound None text scene shaders is names read fits = tt
-bound (Some files) text scene shaders is names read fits =
-    shaders_read files text scene shaders is names read ∙ ap (λ o. unless o (Ok scene)) (fits files read)
+pub bound : (held : Option Files) (text : List ℕ) (scene : SceneValue) (shaders : UsedShaders) (a : Accepted)
+    → scene_of_text text ≡ Ok scene → map name_of shaders.read ≡ shader_names scene.uses → AllRead held shaders.read → ArePlaced scene.uses shaders
+    → ((files : Files) → All (IsReadOf files) shaders.read → uses_refused files scene.uses ≡ None)
+    → a.scene ≡ scene → set_value a.set ≡ set_read shaders scene.uses
+    → Told held (λ files. accepted files text ≡ Ok (accepted_in a))
+bound None text scene shaders a is names read placed fits same set = tt
+bound (Some files) text scene shaders a is names read placed fits same set =
+    let whole : accepted_in a ≡ accepted_with files scene = rw (same, set, set_same files scene.uses shaders read names placed) refl in
+    shaders_read files text scene shaders.read is names read ∙ ap (λ o. unless o (Ok (accepted_with files scene))) (fits files read)
+    ∙ ap (λ v. Ok v) (sym whole)
 
 -- the scene's name alone is asked for
 pub scene_asked : (held : Option Files) (c : Command) (o p : Option (List (List ℕ))) → AsksFront (c.name ∷ []) o p

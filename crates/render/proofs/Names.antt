@@ -1,6 +1,5 @@
 -- Names that are read, and those that are left.
-use Rattle.std.proofs.Common.{◌≡◌, ⊎_elim, ℕ, Bool, true, false, not, ◌&&◌, ◌||◌, List, [], ◌∷◌, ◌++◌, filter, cond, refl, sym, ap, ◌∙◌, arith}
-use Rattle.std.specs.List.{list_all}
+use Rattle.std.proofs.Common.{◌≡◌, ⊎_elim, ℕ, Bool, true, false, not, ◌||◌, List, [], ◌∷◌, ◌++◌, filter, cond, refl, sym, ap, ◌∙◌, arith}
 use Rattle.std.specs.Str.{bytes_eq}
 use Rattle.std.proofs.lemmas.Bool.{cases_Bool}
 use Rattle.std.proofs.lemmas.List.Folds.{list_any-append}
@@ -73,28 +72,6 @@ pub left_out : (done : List (List ℕ)) (name : List ℕ) (names : List (List �
     → left done (distinct (name ∷ names)) ≡ name ∷ left (done ++ name ∷ []) (distinct names)
 left_out done name names h =
     kept (λ m. not (is_among m done)) name (without name (distinct names)) (ap not h) ∙ ap (λ ns. name ∷ ns) (advanced done name (distinct names))
-
-all_without : (test : List ℕ → Bool) (name : List ℕ) → test name ≡ true → (names : List (List ℕ)) → list_all test (without name names) ≡ list_all test names
-all_without test name h [] = refl
-all_without test name h (n ∷ ns) =
-    let more = all_without test name h ns in
-    let q : List ℕ → Bool = λ m. not (bytes_eq m name) in
-    ⊎_elim
-    (λ (e : bytes_eq n name ≡ true).
-    let here : test n ≡ true = ap test (same_name n name e) ∙ h in
-    ap (list_all test) (dropped q n ns (ap not e)) ∙ more ∙ ap (λ b. b && list_all test ns) (sym here))
-    (λ (e : bytes_eq n name ≡ false). ap (list_all test) (kept q n ns (ap not e)) ∙ ap (λ b. test n && b) more)
-    (cases_Bool (bytes_eq n name))
-
--- what all names pass, the distinct ones do
-pub all_distinct : (test : List ℕ → Bool) (names : List (List ℕ)) → list_all test (distinct names) ≡ list_all test names
-all_distinct test [] = refl
-all_distinct test (n ∷ ns) =
-    let more = all_distinct test ns in
-    ⊎_elim
-    (λ (e : test n ≡ true). ap (λ b. test n && b) (all_without test n e (distinct ns) ∙ more))
-    (λ (e : test n ≡ false). ap (λ b. b && list_all test (without n (distinct ns))) e ∙ ap (λ b. b && list_all test ns) (sym e))
-    (cases_Bool (test n))
 
 -- each name is among the distinct ones
 any_without : (name m : List ℕ) (names : List (List ℕ)) → is_among m names ≡ true → bytes_eq name m ≡ false → is_among m (without name names) ≡ true

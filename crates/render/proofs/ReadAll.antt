@@ -1,22 +1,17 @@
 -- What is read of a row of shaders, one after the other.
-use Rattle.std.proofs.Common.{◌≡◌, ℕ, Bool, List, [], ◌∷◌, ◌++◌, map, Option, None, All, refl, sym, ap, ◌∙◌, subst, ap₂, ◌&&◌}
+use Rattle.std.proofs.Common.{◌≡◌, ℕ, List, [], ◌∷◌, ◌++◌, map, Option, None, All, refl, sym, ap, ◌∙◌, subst}
 use Rattle.std.proofs.lemmas.List.{append-nil}
 use Rattle.std.proofs.lemmas.List.Elements.{All-head, All-tail}
-use Rattle.std.specs.List.{list_all}
-use Rattle.outside.specs.Library.{Files, held_as}
+use Rattle.outside.specs.Library.{Files}
 use Rattle.outside.specs.Asked.{AsksAll, AsksFront}
 use Rattle.outside.proofs.Asking.{asks_front-all, asks_front-behind, asks_front-before}
-use Rattle.scene_state.specs.declared.uses.ShaderUse.{ShaderUse}
 use Rattle.render.specs.declared.refusal.Refusal.{Refusal}
 use Rattle.render.specs.declared.refusal.Refusal.TheVariants.{Missing, At, ReadFault, NoMemory}
-use Rattle.render.specs.declared.shaders.ReadShader.{ReadShader}
+use Rattle.render.specs.declared.read.ReadShader.{ReadShader}
 use Rattle.render.specs.Causes.{Cause, cause_in, or_else}
-use Rattle.render.specs.Shaders.{file_of, shader_tree, use_name, shader_names, shaders_refused, shaders_asked, asked_behind}
-use Rattle.std.specs.Prelude.{is_none}
-use Rattle.render.specs.Drawn.{is_stock}
-use Rattle.render.specs.Reading.{name_of, is_from_stock, IsReadOf}
+use Rattle.render.specs.Shaders.{file_of, shader_tree, shaders_refused, shaders_asked, asked_behind}
+use Rattle.render.specs.Reading.{name_of, IsReadOf}
 use Rattle.render.specs.Answers.{Because}
-use Rattle.render.proofs.Names.{all_distinct}
 
 -- the files of these shaders
 abbrev pub files_of : List ReadShader → List (List ℕ)
@@ -77,19 +72,3 @@ pub none_refused : (files : Files) (names : List (List ℕ)) (shaders : List Rea
     → shaders_refused files names ≡ None
 none_refused files names shaders parts all =
     ap (shaders_refused files) (sym parts ∙ sym (append-nil (map name_of shaders))) ∙ refused_behind files shaders [] all
-
--- whether the texts of all shaders are the stock's, of the uses and of what is read
-stock_read : (files : Files) (shaders : List ReadShader) → All (IsReadOf files) shaders
-    → list_all (λ n. is_none (held_as files (file_of n))) (map name_of shaders) ≡ list_all is_from_stock shaders
-stock_read files [] all = refl
-stock_read files (s ∷ ss) all = ap₂ (λ x y. x && y) (All-head (IsReadOf files) s ss all).stock (stock_read files ss (All-tail (IsReadOf files) s ss all))
-
-stock_used : (files : Files) (uses : List ShaderUse) → list_all (is_stock files) uses ≡ list_all (λ n. is_none (held_as files (file_of n))) (map use_name uses)
-stock_used files [] = refl
-stock_used files (u ∷ us) = ap (λ b. is_stock files u && b) (stock_used files us)
-
-pub stock_same : (files : Files) (shaders : List ReadShader) (uses : List ShaderUse) → map name_of shaders ≡ shader_names uses → All (IsReadOf files) shaders
-    → list_all is_from_stock shaders ≡ list_all (is_stock files) uses
-stock_same files shaders uses parts all =
-    let test : List ℕ → Bool = λ n. is_none (held_as files (file_of n)) in
-    sym (stock_read files shaders all) ∙ ap (list_all test) parts ∙ all_distinct test (map use_name uses) ∙ sym (stock_used files uses)

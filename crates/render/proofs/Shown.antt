@@ -25,6 +25,7 @@ use Rattle.filter_ppm.specs.Weight.{weight_at}
 use Rattle.filter_ppm.specs.Mean.{sum_of, mean_part, weighted_mean}
 use Rattle.filter_ppm.specs.Levels.{levels, header, band}
 use Rattle.render.specs.declared.whole.shown.ShownSample.{ShownSample}
+use Rattle.render.specs.Set.{AcceptedValue}
 use Rattle.render.specs.Film.{FilmValues, samples, pixel, pixels, picture}
 use Rattle.render.specs.Pictures.{decide, leaf_cells, leaf_micropolygons, prim_micropolygons, micropolygons, film_of}
 use Rattle.render.specs.Still.{StillFilm, shown, colour_at, spot_of, sample_of, shown_samples, sample_count, per_pixel, counts_for, mean_about, quads_of, leaf_quads, prim_quads, prims_quads}
@@ -125,22 +126,23 @@ seen_still : (v : View) (t : ℕ) (p : PrimValue) (ks : List Cell) → seen_all 
 seen_still v t p [] = refl
 seen_still v t p (k ∷ ks) = ap (λ l. cons_option (quad_of v p.one_sided p.flip k) l) (seen_still v t p ks)
 
-seen_leaf : (v : View) (t : ℕ) (p : PrimValue) (part : Part) → seen_all v t (leaf_micropolygons v p part) ≡ leaf_quads v p part
+seen_leaf : (a : AcceptedValue) (f : FrameValue) (t : ℕ) (p : PrimValue) (part : Part) → seen_all f.camera t (leaf_micropolygons a f p part) ≡ leaf_quads a f p part
 unfolding leaf_micropolygons leaf_quads
-seen_leaf v t p part = seen_still v t p (leaf_cells (decide v p part) p part)
+seen_leaf a f t p part = seen_still f.camera t p (leaf_cells a f p part (decide f.camera p part))
 
-seen_prim : (v : View) (t n : ℕ) (p : PrimValue) → seen_all v t (prim_micropolygons v n p) ≡ prim_quads v n p
+seen_prim : (a : AcceptedValue) (f : FrameValue) (t n : ℕ) (p : PrimValue) → seen_all f.camera t (prim_micropolygons a f n p) ≡ prim_quads a f n p
 unfolding prim_micropolygons prim_quads
-seen_prim v t n p =
-    filter_map-flat_map (seen_at v t) (leaf_micropolygons v p) (leaves (decide v p) (whole_of n))
-    ∙ flat_map_same (λ part. filter_map (seen_at v t) (leaf_micropolygons v p part)) (leaf_quads v p) (seen_leaf v t p) (leaves (decide v p) (whole_of n))
-
-pub seen_frame : (f : FrameValue) (t : ℕ) → seen_all f.camera t (micropolygons f) ≡ prims_quads f.camera f.prims
-unfolding micropolygons
-seen_frame f t =
+seen_prim a f t n p =
     let v = f.camera in
-    filter_map-flat_map (seen_at v t) (λ (np : ℕ × PrimValue). prim_micropolygons v np.0 np.1) (enumerate_from 0 f.prims)
-    ∙ flat_map_same (λ (np : ℕ × PrimValue). filter_map (seen_at v t) (prim_micropolygons v np.0 np.1)) (λ np. prim_quads v np.0 np.1) (λ np. seen_prim v t np.0 np.1) (enumerate_from 0 f.prims)
+    filter_map-flat_map (seen_at v t) (leaf_micropolygons a f p) (leaves (decide v p) (whole_of n))
+    ∙ flat_map_same (λ part. filter_map (seen_at v t) (leaf_micropolygons a f p part)) (leaf_quads a f p) (seen_leaf a f t p) (leaves (decide v p) (whole_of n))
+
+pub seen_frame : (a : AcceptedValue) (f : FrameValue) (t : ℕ) → seen_all f.camera t (micropolygons a f) ≡ prims_quads a f f.prims
+unfolding micropolygons
+seen_frame a f t =
+    let v = f.camera in
+    filter_map-flat_map (seen_at v t) (λ (np : ℕ × PrimValue). prim_micropolygons a f np.0 np.1) (enumerate_from 0 f.prims)
+    ∙ flat_map_same (λ (np : ℕ × PrimValue). filter_map (seen_at v t) (prim_micropolygons a f np.0 np.1)) (λ np. prim_quads a f np.0 np.1) (λ np. seen_prim a f t np.0 np.1) (enumerate_from 0 f.prims)
 
 -- what covers a sample is what of the micropolygons that are seen at its time covers its place
 covering_seen : (v : View) (ms : List Micropolygon) (s : Sample) → covering v ms s ≡ covering_at (seen_all v s.time ms) s.place
@@ -153,7 +155,7 @@ covering_seen v (m ∷ ms) s = by_seen (seen_at v s.time m) (covering_seen v ms 
     by_seen None e = e
     by_seen (Some q) e = ap (λ l. cons_option (covers q s.place) l) e
 
-pub colours_same : (f : FrameValue) (s : Sample) → colour_at (prims_quads f.camera f.prims) s.place ≡ composite (fragments f.camera (micropolygons f) s)
-colours_same f s =
-    ap (λ qs. colour_at qs s.place) (sym (seen_frame f s.time))
-    ∙ ap (λ fs. composite (by_depth fs)) (sym (covering_seen f.camera (micropolygons f) s))
+pub colours_same : (a : AcceptedValue) (f : FrameValue) (s : Sample) → colour_at (prims_quads a f f.prims) s.place ≡ composite (fragments f.camera (micropolygons a f) s)
+colours_same a f s =
+    ap (λ qs. colour_at qs s.place) (sym (seen_frame a f s.time))
+    ∙ ap (λ fs. composite (by_depth fs)) (sym (covering_seen f.camera (micropolygons a f) s))

@@ -8,7 +8,7 @@ use Rattle.outside.specs.Asked.{AsksAll, AsksFront}
 use Rattle.outside.proofs.Asking.{asks_all-none, asks_all-more}
 use Rattle.scene_state.specs.declared.uses.ShaderUse.{ShaderUse}
 use Rattle.render.specs.declared.refusal.Refusal.{Refusal}
-use Rattle.render.specs.declared.shaders.ReadShader.{ReadShader}
+use Rattle.render.specs.declared.read.ReadShader.{ReadShader}
 use Rattle.render.specs.Causes.{cause_in}
 use Rattle.render.specs.Shaders.{file_of, shader_tree, distinct, use_name, shader_names, shaders_refused, shaders_asked}
 use Rattle.render.specs.Reading.{name_of, is_among, with_once, file_once, IsReadOf, ReadsNext}

@@ -3,7 +3,9 @@ use Rattle.std.specs.Prelude.{◌≡◌, ℕ, List, Option, Some, None, Vec, map
 use Rattle.std.specs.declared.alloc.Global.{Global}
 use Rattle.outside.specs.Sink.{Written}
 use Rattle.outside.specs.Frames.{whole, Adds, AddsFront}
-use Rattle.scene_state.specs.Scene.{SceneValue}
+use Rattle.displace_shade.specs.Shop.{set_value}
+use Rattle.render.specs.declared.accepted.Accepted.{Accepted}
+use Rattle.render.specs.Set.{AcceptedValue}
 use Rattle.render.specs.Causes as causes
 use Rattle.render.specs.Causes.{Cause, Reads}
 use Rattle.render.specs.Verdict as verdicts
@@ -46,14 +48,13 @@ abbrev pub cause_of : verdicts.Verdict → Option Cause
 cause_of (verdicts.Refused cause) = Some cause
 cause_of _ = None
 
--- an accepted scene, or the verdict's refusal
-abbrev pub Loads : Action → Result SceneValue Refusal → verdicts.Verdict → Type 0
-Loads action (Ok scene) v = v ≡ verdicts.Accepted action scene
-Loads action (Err refusal) v = Because refusal (cause_of v)
+-- the accepted scene with its set
+abbrev pub accepted_in : Accepted → AcceptedValue
+accepted_in a = record { scene = a.scene; set = set_value a.set }
 
--- the same, and none where no file has the scene's name
-abbrev pub LoadsNamed : List ℕ → Action → Result (Option SceneValue) Refusal → verdicts.Verdict → Type 0
-LoadsNamed name action (Ok (Some scene)) v = v ≡ verdicts.Accepted action scene
+-- it is the verdict's, or the verdict's refusal; none where no file has the scene's name
+abbrev pub LoadsNamed : List ℕ → Action → Result (Option Accepted) Refusal → verdicts.Verdict → Type 0
+LoadsNamed name action (Ok (Some a)) v = v ≡ verdicts.Accepted action (accepted_in a)
 LoadsNamed name action (Ok None) v = v ≡ verdicts.Refused (causes.Missing name)
 LoadsNamed name action (Err refusal) v = Because refusal (cause_of v)
 

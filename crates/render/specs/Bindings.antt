@@ -1,19 +1,16 @@
 -- How the parameters of a shader request fit the shader that it names (RenderMan Interface 3.2, section 11.3.3).
-use Rattle.std.specs.Prelude.{ℕ, Bool, true, false, not, ◌==◌, is_none, List, [], ◌∷◌, map, slice_get, Option, Some, None, option_map, Ok, Err, if◌then◌else◌}
+use Rattle.std.specs.Prelude.{ℕ, Bool, true, false, not, is_none, List, map, slice_get, Option, Some, None, option_map, Ok, Err, if◌then◌else◌}
 use Rattle.std.specs.List.{list_any}
-use Rattle.std.specs.Str.{bytes_eq}
 use Rattle.outside.specs.Library.{Files}
 use Rattle.rib_reader.specs.declared.params.Param.{Param}
 use Rattle.rib_reader.specs.declared.params.Kind.{Kind}
 use Rattle.rib_reader.specs.declared.params.Kind.TheVariants as kinds
-use Rattle.scene_state.specs.declared.uses.ShaderKind.{ShaderKind}
-use Rattle.scene_state.specs.declared.uses.ShaderKind.TheVariants as requested
 use Rattle.scene_state.specs.declared.uses.ShaderUse.{ShaderUse}
 use Rattle.sl_ast.specs.declared.kinds.SlType.{SlType}
 use Rattle.sl_ast.specs.declared.kinds.SlType.TheVariants as types
-use Rattle.sl_ast.specs.declared.kinds.SlKind.{SlKind}
-use Rattle.sl_ast.specs.declared.kinds.SlKind.TheVariants as written
 use Rattle.sl_ast.specs.Typed.{Local, Tree}
+use Rattle.rib_reader.specs.Holding.{holding}
+use Rattle.displace_shade.specs.Sets.{is_of_kind}
 use Rattle.render.specs.declared.code.Code.{Code}
 use Rattle.render.specs.declared.code.Code.TheVariants.{B1, B2, B3}
 use Rattle.render.specs.declared.refusal.FileId.TheVariants.{Scene}
@@ -30,13 +27,6 @@ is_of_type types.Vector kinds.Vector = true
 is_of_type types.Normal kinds.Normal = true
 is_of_type types.Str kinds.Str = true
 is_of_type _ _ = false
-
-abbrev pub is_of_kind : SlKind → ShaderKind → Bool
-is_of_kind written.Surface requested.Surface = true
-is_of_kind written.Displacement requested.Displacement = true
-is_of_kind written.Light requested.Light = true
-is_of_kind written.Volume requested.Volume = true
-is_of_kind _ _ = false
 
 -- the type of the parameter that a shader declares by that name; no two have the same
 abbrev pub local_name : Local → List ℕ
@@ -65,19 +55,7 @@ is_misfit ls p = is_other p.kind (declared_type ls p.name)
 abbrev pub param_name : Param → List ℕ
 param_name p = p.name
 
--- of two parameters of one name the later one holds
-abbrev pub is_named : List ℕ → List Param → Bool
-is_named name ps = list_any (λ p. bytes_eq p.name name) ps
-
-abbrev pub holding : List Param → List Param
-holding [] = []
-holding (p ∷ ps) = if is_named p.name ps then holding ps else p ∷ holding ps
-
-abbrev pub is_at : ℕ → Option ℕ → Bool
-is_at i None = false
-is_at i (Some place) = place == i
-
--- the first fault of a request over its shader's tree, the lower code first
+-- the first fault of a request over its shader's tree, the lower code first; of two parameters of one name the later one holds
 abbrev pub binding_fault : Tree → ShaderUse → Option Code
 binding_fault tree u =
     if list_any (is_undeclared tree.params) u.params then Some B1 else

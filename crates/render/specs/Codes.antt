@@ -11,7 +11,7 @@ use Rattle.sl_parser.specs.declared.fault.SlCode.TheVariants as grammar
 use Rattle.sl_types.specs.declared.fault.TypeCode.{TypeCode}
 use Rattle.sl_types.specs.declared.fault.TypeCode.TheVariants as types
 use Rattle.render.specs.declared.code.Code.{Code}
-use Rattle.render.specs.declared.code.Code.TheVariants.{L1, L2, L3, L4, S1, S2, S3, S4, S5, N1, N2, N3, N4, N5, P1, P2, P3, T1, T2, T3, T4, T5, T6, T7, T8, T9, T10, T11, B1, B2, B3, U0, G1, G2, G3, G4, G5, M1, M2, M3, M4, M5, M6, M7, M8, M10}
+use Rattle.render.specs.declared.code.Code.TheVariants.{L1, L2, L3, L4, S1, S2, S3, S4, S5, N1, N2, N3, N4, N5, P1, P2, P3, T1, T2, T3, T4, T5, T6, T7, T8, T9, T10, T11, B1, B2, B3, G1, G2, G3, G4, G5, M1, M2, M3, M4, M5, M6, M7, M8, M9, M10}
 
 abbrev pub text_of : Code → List ℕ
 text_of L1 = codes "L1"
@@ -45,7 +45,6 @@ text_of T11 = codes "T11"
 text_of B1 = codes "B1"
 text_of B2 = codes "B2"
 text_of B3 = codes "B3"
-text_of U0 = codes "U0"
 text_of G1 = codes "G1"
 text_of G2 = codes "G2"
 text_of G3 = codes "G3"
@@ -59,6 +58,7 @@ text_of M5 = codes "M5"
 text_of M6 = codes "M6"
 text_of M7 = codes "M7"
 text_of M8 = codes "M8"
+text_of M9 = codes "M9"
 text_of M10 = codes "M10"
 
 -- 3 for syntax, nesting and what isn't built yet, 4 for types and bindings, and 5 for geometry and limits
@@ -80,7 +80,6 @@ status_of_code N5 = 3
 status_of_code P1 = 3
 status_of_code P2 = 3
 status_of_code P3 = 3
-status_of_code U0 = 3
 status_of_code T1 = 4
 status_of_code T2 = 4
 status_of_code T3 = 4
@@ -108,6 +107,7 @@ status_of_code M5 = 5
 status_of_code M6 = 5
 status_of_code M7 = 5
 status_of_code M8 = 5
+status_of_code M9 = 5
 status_of_code M10 = 5
 
 abbrev pub of_lex : LexCode → Code

@@ -6,7 +6,9 @@ pub mod Notes
 pub mod Pictures
 pub mod Shaders
 pub mod Bindings
-pub mod Drawn
+pub mod Bound
+pub mod Set
+pub mod Shopped
 pub mod Verdict
 pub mod Run
 pub mod Answers

@@ -1,20 +1,22 @@
 -- What reading shaders comes to.
-use Rattle.std.specs.Prelude.{◌≡◌, ℕ, Bool, is_none, List, [], ◌∷◌, ◌++◌, map, slice_get, Option, Some, Result, Ok, Err, All, if◌then◌else◌}
+use Rattle.std.specs.Prelude.{◌≡◌, ℕ, Bool, List, [], ◌∷◌, ◌++◌, map, slice_get, Option, Some, None, Result, Vec, Ok, Err, All, if◌then◌else◌}
 use Rattle.std.specs.List.{list_any}
 use Rattle.std.specs.Str.{bytes_eq}
-use Rattle.outside.specs.Library.{Files, held_as}
+use Rattle.std.specs.declared.alloc.Global.{Global}
+use Rattle.outside.specs.Library.{Files}
 use Rattle.scene_state.specs.declared.uses.ShaderUse.{ShaderUse}
 use Rattle.sl_ast.specs.Typed.{Tree}
 use Rattle.sl_ast.specs.TreeView.{tree_of}
+use Rattle.sl_ast.specs.declared.typed.Value.{Value}
+use Rattle.mask_codegen.specs.Compiled.{Seen}
+use Rattle.displace_shade.specs.Sets.{SetValue}
 use Rattle.render.specs.declared.refusal.Refusal.{Refusal}
-use Rattle.render.specs.declared.shaders.ReadShader.{ReadShader}
+use Rattle.render.specs.declared.read.ReadShader.{ReadShader}
 use Rattle.render.specs.declared.shaders.UsedShaders.{UsedShaders}
-use Rattle.render.specs.declared.shaders.ShaderText.{ShaderText}
-use Rattle.render.specs.declared.accept.Accepted.{Accepted}
-use Rattle.scene_state.specs.Scene.{SceneValue}
 use Rattle.render.specs.Causes.{cause_in}
 use Rattle.render.specs.Shaders.{file_of, text_with, tree_of_text, shader_tree, shaders_refused}
 use Rattle.render.specs.Bindings.{declared_names}
+use Rattle.render.specs.Bound.{bound_values}
 use Rattle.render.specs.Answers.{Because}
 
 abbrev pub name_of : ReadShader → List ℕ
@@ -23,21 +25,20 @@ name_of s = s.name
 abbrev pub tree_read : ReadShader → Tree
 tree_read s = tree_of s.tree
 
+abbrev pub tree_compiled : Seen → Tree
+tree_compiled c = tree_of c.tree
+
 abbrev pub declared_by : ReadShader → List (List ℕ)
 declared_by s = declared_names (tree_read s)
 
-abbrev pub is_from_stock : ReadShader → Bool
-is_from_stock s = s.stock
-
 -- the text of a shader whose file is held so, or why there is none
-abbrev pub GivesShaderText : List ℕ → Option (List ℕ) → Result ShaderText Refusal → Type 0
-GivesShaderText name held (Ok t) = (text_with held name ≡ Some t.bytes.items) × (is_none held ≡ t.stock)
+abbrev pub GivesShaderText : List ℕ → Option (List ℕ) → Result (Vec ℕ Global) Refusal → Type 0
+GivesShaderText name held (Ok text) = text_with held name ≡ Some text.items
 GivesShaderText name held (Err refusal) = Because refusal (cause_in (tree_of_text name (text_with held name)))
 
--- what is held gives this tree, from a file or from the stock
+-- what is held gives this tree
 pub record IsReadOf (files : Files) (s : ReadShader) : Type 0 where
   pub tree : shader_tree files s.name ≡ Ok (tree_of s.tree)
-  pub stock : is_none (held_as files (file_of s.name)) ≡ s.stock
 
 -- a shader of that name is read, or refused
 abbrev pub ReadsShader : Files → List ℕ → Result ReadShader Refusal → Type 0
@@ -71,5 +72,19 @@ with_once names name = if is_among name names then names else names ++ name ∷ 
 abbrev pub file_once : List (List ℕ) → List ℕ → List (List ℕ)
 file_once names name = if is_among name names then [] else file_of name ∷ []
 
-abbrev pub scene_in : Accepted → SceneValue
-scene_in a = a.scene
+-- what the parameters of a use are bound to, over the shader at place n of these
+abbrev pub values_with : Option ReadShader → ShaderUse → List Value
+values_with (Some s) u = bound_values (tree_read s) u
+values_with None u = []
+
+abbrev pub values_at : List ReadShader → ShaderUse → ℕ → List Value
+values_at read u n = values_with (slice_get read n) u
+
+-- and of all uses
+abbrev pub all_values : List ReadShader → List ShaderUse → List ℕ → List (List Value)
+all_values read (u ∷ us) (n ∷ ns) = values_at read u n ∷ all_values read us ns
+all_values read _ _ = []
+
+-- the set that is made of them
+abbrev pub set_read : UsedShaders → List ShaderUse → SetValue
+set_read s uses = record { trees = map tree_read s.read; of_use = s.of_use; bound = all_values s.read uses s.of_use }

@@ -29,7 +29,7 @@ draws words = draws_command (command_of words)
 abbrev pub is_accepted : Verdict → Bool
 is_accepted Usage = false
 is_accepted (Refused cause) = false
-is_accepted (Accepted action scene) = true
+is_accepted (Accepted action accepted) = true
 
 abbrev pub IsAccepted : List (List ℕ) → Files → Type 0
 IsAccepted words files = is_accepted (verdict words files) ≡ true

@@ -1,16 +1,18 @@
 -- The shaders of a scene: where their texts are found, and what is read of them.
-use Rattle.std.specs.Prelude.{ℕ, not, List, [], ◌∷◌, ◌++◌, length, filter, map, Option, Some, None, Result, Ok, Err, codes, if◌then◌else◌, nat_lt}
+use Rattle.std.specs.Prelude.{◌≤◌, ℕ, not, List, [], ◌∷◌, ◌++◌, length, filter, map, Option, Some, None, Result, Ok, Err, codes, if◌then◌else◌, nat_lt}
 use Rattle.std.specs.Str.{bytes_eq}
 use Rattle.outside.specs.Library.{Files, held_as}
 use Rattle.scene_state.specs.declared.uses.ShaderUse.{ShaderUse}
 use Rattle.stock.specs.Texts.{text_of, stock_texts}
 use Rattle.sl_ast.specs.Syntax as syntax
 use Rattle.sl_ast.specs.Typed.{Tree}
+use Rattle.sl_ast.specs.Settled.{IsSettled}
 use Rattle.sl_parser.specs.declared.fault.SlCode.{SlCode}
 use Rattle.sl_parser.specs.Files.{parsed}
 use Rattle.sl_types.specs.Found.{Found}
 use Rattle.sl_types.specs.Checked.{checked}
-use Rattle.render.specs.declared.code.Code.TheVariants.{M10}
+use Rattle.sl_ast.specs.Registers.{rows_of}
+use Rattle.render.specs.declared.code.Code.TheVariants.{M9, M10}
 use Rattle.render.specs.declared.refusal.FileId.TheVariants.{Shader}
 use Rattle.render.specs.Codes.{of_syntax, of_type}
 use Rattle.render.specs.Causes.{Cause, Missing, At, Reads, cause_in, first_of}
@@ -34,9 +36,21 @@ text_with None name = stock_text name
 abbrev pub shader_text : Files → List ℕ → Option (List ℕ)
 shader_text files name = text_with (held_as files (file_of name)) name
 
--- the typed tree of a shader's text, or its first fault: its size, its grammar, then its types
+-- the most rows of registers that the code of a shader takes
+abbrev pub most_rows : ℕ
+most_rows = 4096
+
+abbrev pub tree_in_rows : List ℕ → Tree → Reads Tree
+tree_in_rows name tree = if nat_lt most_rows (rows_of tree) then Err (At (Shader name) tree.place.line M9) else Ok tree
+
+-- a tree that can be compiled
+pub record IsCompilable (t : Tree) : Type 0 where
+  pub settled : IsSettled t
+  pub few : rows_of t ≤ most_rows
+
+-- the typed tree of a shader's text, or its first fault: its size, its grammar, its types, then the rows of its code
 abbrev pub tree_of_checked : List ℕ → Found Tree → Reads Tree
-tree_of_checked name (Ok tree) = Ok tree
+tree_of_checked name (Ok tree) = tree_in_rows name tree
 tree_of_checked name (Err (code, line)) = Err (At (Shader name) line (of_type code))
 
 abbrev pub tree_of_parsed : List ℕ → Result syntax.Shader (SlCode × ℕ) → Reads Tree

@@ -4,7 +4,7 @@ use Rattle.std.specs.List.{range_with_len, flat_map, filter_map, enumerate_from}
 use Rattle.fixed_math.specs.declared.vec3.Vec3.{Vec3}
 use Rattle.fixed_math.specs.Spots.{Spot}
 use Rattle.scene_state.specs.Settings.{OptionValues}
-use Rattle.scene_state.specs.Scene.{PrimValue}
+use Rattle.scene_state.specs.Scene.{PrimValue, FrameValue}
 use Rattle.patches.specs.Parts.{Part, whole_of}
 use Rattle.transforms.specs.declared.view.View.{View}
 use Rattle.bound_split.specs.Leaves.{leaves}
@@ -18,6 +18,7 @@ use Rattle.filter_ppm.specs.Weight.{weight_at, reach}
 use Rattle.filter_ppm.specs.Mean.{Totals, sum_of, weighted_mean}
 use Rattle.render.specs.declared.whole.shown.ShownSample.{ShownSample}
 use Rattle.render.specs.declared.whole.reach.Window.{Window}
+use Rattle.render.specs.Set.{AcceptedValue}
 use Rattle.render.specs.Film.{FilmValues}
 use Rattle.render.specs.Pictures.{decide, leaf_cells}
 
@@ -26,14 +27,14 @@ use Rattle.render.specs.Pictures.{decide, leaf_cells}
 abbrev pub quads_of : View → PrimValue → List Cell → List Quad
 quads_of v p ks = filter_map (quad_of v p.one_sided p.flip) ks
 
-unfoldable pub leaf_quads : View → PrimValue → Part → List Quad
-leaf_quads v p part = quads_of v p (leaf_cells (decide v p part) p part)
+unfoldable pub leaf_quads : AcceptedValue → FrameValue → PrimValue → Part → List Quad
+leaf_quads a f p part = quads_of f.camera p (leaf_cells a f p part (decide f.camera p part))
 
-unfoldable pub prim_quads : View → ℕ → PrimValue → List Quad
-prim_quads v n p = flat_map (leaf_quads v p) (leaves (decide v p) (whole_of n))
+unfoldable pub prim_quads : AcceptedValue → FrameValue → ℕ → PrimValue → List Quad
+prim_quads a f n p = flat_map (leaf_quads a f p) (leaves (decide f.camera p) (whole_of n))
 
-abbrev pub prims_quads : View → List PrimValue → List Quad
-prims_quads v ps = flat_map (λ np. prim_quads v np.0 np.1) (enumerate_from 0 ps)
+abbrev pub prims_quads : AcceptedValue → FrameValue → List PrimValue → List Quad
+prims_quads a f ps = flat_map (λ np. prim_quads a f np.0 np.1) (enumerate_from 0 ps)
 
 -- a frame of them
 pub record StillFilm : Type 0 where

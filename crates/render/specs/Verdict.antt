@@ -1,5 +1,5 @@
 -- What a command has to be answered.
-use Rattle.std.specs.Prelude.{ℕ, Bool, true, false, List, [], ◌∷◌, length, Option, Some, None, Result, Ok, Err, if◌then◌else◌, nat_lt}
+use Rattle.std.specs.Prelude.{ℕ, List, [], ◌∷◌, length, Option, Some, None, Result, Ok, Err, if◌then◌else◌, nat_lt}
 use Rattle.outside.specs.Library.{Files, held_as}
 use Rattle.outside.specs.Frames.{Picture}
 use Rattle.rib_lex.specs.declared.token.Token.{Token}
@@ -7,7 +7,7 @@ use Rattle.rib_lex.specs.Tokens as tokens
 use Rattle.rib_reader.specs.Reading as reading
 use Rattle.scene_state.specs.Scene.{SceneValue}
 use Rattle.scene_state.specs.Steps as steps
-use Rattle.render.specs.declared.code.Code.TheVariants.{U0, M10}
+use Rattle.render.specs.declared.code.Code.TheVariants.{M10}
 use Rattle.render.specs.declared.command.Action.{Action}
 use Rattle.render.specs.declared.command.Action.TheVariants.{Render, Check}
 use Rattle.render.specs.declared.refusal.FileId.TheVariants.{Scene}
@@ -16,7 +16,7 @@ use Rattle.render.specs.Codes.{status_of_code, of_lex, of_request, of_state}
 use Rattle.render.specs.Command.{Command, command_of}
 use Rattle.render.specs.Shaders.{shader_names, shaders_refused, shaders_asked}
 use Rattle.render.specs.Bindings.{uses_refused}
-use Rattle.render.specs.Drawn.{is_drawn}
+use Rattle.render.specs.Set.{AcceptedValue, accepted_with}
 use Rattle.render.specs.Pictures.{frames_of}
 
 -- the most bytes of a scene file
@@ -45,31 +45,25 @@ unfoldable pub scene_of_text : List ℕ → Reads SceneValue
 scene_of_text text = scene_of_tokens (tokens.tokens_of text)
 
 -- a scene is accepted where its shaders are right, by first use, and then the parameters of its shader requests
-abbrev pub accepted_scene : Files → Reads SceneValue → Reads SceneValue
-accepted_scene files (Ok scene) = unless (shaders_refused files (shader_names scene.uses)) (unless (uses_refused files scene.uses) (Ok scene))
+abbrev pub accepted_scene : Files → Reads SceneValue → Reads AcceptedValue
+accepted_scene files (Ok scene) = unless (shaders_refused files (shader_names scene.uses)) (unless (uses_refused files scene.uses) (Ok (accepted_with files scene)))
 accepted_scene files (Err cause) = Err cause
 
--- the accepted scene of a text over the files that are held
-abbrev pub accepted : Files → List ℕ → Reads SceneValue
+-- the accepted scene of a text with its shaders, over the files that are held
+abbrev pub accepted : Files → List ℕ → Reads AcceptedValue
 accepted files text = accepted_scene files (scene_of_text text)
 
 pub data Verdict : Type 0 where
   Usage : Verdict
   Refused : (cause : Cause) → Verdict
-  Accepted : (action : Action) → (scene : SceneValue) → Verdict
+  Accepted : (action : Action) → (accepted : AcceptedValue) → Verdict
 
--- to be rendered, a scene has to be one that is drawn so far
-abbrev pub verdict_if_drawn : Action → Bool → SceneValue → Verdict
-verdict_if_drawn Render true scene = Accepted Render scene
-verdict_if_drawn Render false scene = Refused (At Scene 1 U0)
-verdict_if_drawn Check drawn scene = Accepted Check scene
-
-abbrev pub verdict_of_scene : Action → Files → Reads SceneValue → Verdict
-verdict_of_scene action files (Ok scene) = verdict_if_drawn action (is_drawn files scene) scene
-verdict_of_scene action files (Err cause) = Refused cause
+abbrev pub verdict_of_scene : Action → Reads AcceptedValue → Verdict
+verdict_of_scene action (Ok accepted) = Accepted action accepted
+verdict_of_scene action (Err cause) = Refused cause
 
 abbrev pub verdict_of_text : Action → Files → Reads (List ℕ) → Verdict
-verdict_of_text action files (Ok text) = verdict_of_scene action files (accepted files text)
+verdict_of_text action files (Ok text) = verdict_of_scene action (accepted files text)
 verdict_of_text action files (Err cause) = Refused cause
 
 abbrev pub verdict_of_command : Option Command → Files → Verdict
@@ -87,11 +81,11 @@ status_of_cause (At file line code) = status_of_code code
 abbrev pub status_of : Verdict → ℕ
 status_of Usage = 2
 status_of (Refused cause) = status_of_cause cause
-status_of (Accepted action scene) = 0
+status_of (Accepted action accepted) = 0
 
 -- the frames to write: those of an accepted scene that is to be rendered
 abbrev pub pictures_of : Verdict → List Picture
-pictures_of (Accepted Render scene) = frames_of scene
+pictures_of (Accepted Render accepted) = frames_of accepted
 pictures_of _ = []
 
 -- the names to ask for: the scene's, and where it is read those of its shaders' files, up to and with the first that is refused

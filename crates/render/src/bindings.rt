@@ -4,20 +4,26 @@ ghost use Rattle.std.specs.List.{list_any};
 ghost use Rattle.outside.specs.Library.{Files};
 ghost use Rattle.sl_ast.specs.TypedView.{local_of};
 ghost use Rattle.sl_ast.specs.TreeView.{tree_of};
+ghost use Rattle.sl_ast.specs.Settled.{IsSettled};
 ghost use Rattle.render.specs.Bindings as spec;
 ghost use Rattle.fixed_math.specs.Names.{last_place};
+ghost use Rattle.rib_reader.specs.Holding.{holding, is_at};
+ghost use Rattle.displace_shade.specs.Sets.{is_of_kind, FitsUse, FitUses};
+ghost use Rattle.render.specs.Bound.{bound_values};
 ghost use Rattle.render.specs.Shaders.{shader_tree};
-ghost use Rattle.render.specs.Reading.{IsReadOf, ArePlaced, declared_by, name_of};
+ghost use Rattle.render.specs.Reading.{IsReadOf, ArePlaced, declared_by, name_of, tree_read, values_at, all_values};
 ghost use Rattle.render.specs.Answers.{Clears};
 ghost use Rattle.render.specs.declared.refusal.Refusal.TheVariants.{ReadFault};
 
 use crate::code::Code;
+use crate::read::ReadShader;
 use crate::refusal::{Refusal, in_scene};
-use crate::shaders::{ReadShader, UsedShaders};
-use fixed_math::{Names, NoMemory, Text};
+use crate::shaders::UsedShaders;
+use crate::values::{bound_values, names_of};
+use fixed_math::{List, Names, NoMemory, Text};
 use rib_reader::{Kind, Param};
 use scene_state::{ShaderKind, ShaderUse};
-use sl_ast::{SlKind, SlType, Tree};
+use sl_ast::{SlKind, SlType, Tree, Value};
 use std::alloc::Global;
 
 fn is_of_type(declared: SlType, kind: Kind) -> bool
@@ -34,8 +40,9 @@ fn is_of_type(declared: SlType, kind: Kind) -> bool
     }
 }
 
+// Whether a shader is of the kind that is asked for.
 fn is_of_kind(written: SlKind, requested: ShaderKind) -> bool
-    ensures { result ≡ spec.is_of_kind written requested }
+    ensures { result ≡ is_of_kind written requested }
 {
     match (written, requested) {
         (SlKind::Surface, ShaderKind::Surface) => true,
@@ -96,20 +103,9 @@ fn is_any_undeclared(tree: &Tree, names: &Names<'_>, params: &[Param]) -> bool
     false
 }
 
-// The names of parameters.
-fn names_of<'a>(alloc: Global, params: &'a [Param]) -> Result<Names<'a>, NoMemory>
-    ensures { IfOk result (λ n. n ≡ map spec.param_name params.now) }
-{
-    let mut names = Names::new(alloc);
-    for param in params {
-        names.push(&param.name)?;
-    }
-    Ok(names)
-}
-
 // Whether the parameter at that place is the last of its name.
 fn is_last(names: &Names<'_>, index: usize, param: &Param) -> bool
-    ensures { result ≡ spec.is_at index (last_place param.now.name names.now) }
+    ensures { result ≡ is_at index (last_place param.now.name names.now) }
 {
     match names.place_of(&param.name) {
         Some(place) => place == index,
@@ -125,7 +121,7 @@ fn is_any_misfit(
     params: &[Param],
 ) -> Result<bool, NoMemory>
     requires { declared.now ≡ spec.declared_names (tree_of tree.now) }
-    ensures { IfOk result (λ b. b ≡ list_any (spec.is_misfit (tree_of tree.now).params) (spec.holding params.now)) }
+    ensures { IfOk result (λ b. b ≡ list_any (spec.is_misfit (tree_of tree.now).params) (holding params.now)) }
 {
     let names = names_of(alloc, params)?;
     for index in 0..params.len() {
@@ -159,19 +155,22 @@ fn binding_fault(
     }
 }
 
-// Whether a request fits its shader's tree.
+// What the parameters of a request are bound to, where it fits its shader's tree.
 fn bind(
     alloc: Global,
     tree: &Tree,
     declared: &Names<'_>,
     request: &ShaderUse,
-) -> Result<(), Refusal>
-    requires { declared.now ≡ spec.declared_names (tree_of tree.now) }
+) -> Result<List<Value>, Refusal>
+    requires declared { declared.now ≡ spec.declared_names (tree_of tree.now) }
+    requires settled { IsSettled (tree_of tree.now) }
     ensures clears { Clears result (spec.cause_at request.now (spec.binding_fault (tree_of tree.now) request.now)) }
+    ensures values { IfOk result (λ vs. vs ≡ bound_values (tree_of tree.now) request.now) }
+    ensures fits { IfOk result (λ vs. FitsUse request.now vs (Some (tree_of tree.now))) }
     ensures read { IsErrOf result ReadFault → ⊥ }
 {
     match binding_fault(alloc, tree, declared, request)? {
-        None => Ok(()),
+        None => Ok(bound_values(alloc, tree, request)?),
         Some(code) => Err(in_scene(code, request.line)),
     }
 }
@@ -187,39 +186,45 @@ fn all_declared<'a>(alloc: Global, shaders: &'a [ReadShader]) -> Result<Vec<Name
     Ok(declared)
 }
 
-// Whether a request fits the shader at its place.
+// What the parameters of a request are bound to, where it fits the shader at its place.
 fn bind_at(
     alloc: Global,
     request: &ShaderUse,
     shaders: &[ReadShader],
     declared: &[Names<'_>],
     place: usize,
-) -> Result<(), Refusal>
+) -> Result<List<Value>, Refusal>
     requires place { slice_get (map name_of shaders.now) place ≡ Some request.now.name }
     requires declared { declared.now ≡ map declared_by shaders.now }
     ensures clears { (files : Files) → All (IsReadOf files) shaders.now → Clears result (spec.use_refused request.now (shader_tree files request.now.name)) }
+    ensures values { IfOk result (λ vs. vs ≡ values_at shaders.now request.now place) }
+    ensures fits { IfOk result (λ vs. FitsUse request.now vs (slice_get (map tree_read shaders.now) place)) }
     ensures read { IsErrOf result ReadFault → ⊥ }
 {
     let shader = &shaders[place];
     bind(alloc, &shader.tree, &declared[place], request)
 }
 
-/// Whether the parameters of all shader requests of a scene fit their shaders, which have been read.
+/// What the parameters of all shader requests of a scene are bound to, where they fit their shaders, which have been read.
 pub(crate) fn bind_all(
     alloc: Global,
     uses: &[ShaderUse],
     shaders: &UsedShaders,
-) -> Result<(), Refusal>
+) -> Result<Vec<List<Value>>, Refusal>
     requires { ArePlaced uses.now shaders.now }
     ensures clears { (files : Files) → All (IsReadOf files) shaders.now.read → Clears result (spec.uses_refused files uses.now) }
+    ensures values { IfOk result (λ vss. vss.items ≡ all_values shaders.now.read uses.now shaders.now.of_use) }
+    ensures fit { IfOk result (λ vss. FitUses (map tree_read shaders.now.read) uses.now shaders.now.of_use vss.items) }
     ensures read { IsErrOf result ReadFault → ⊥ }
 {
     let read = shaders.read.as_slice();
     let of_use = shaders.of_use.as_slice();
     let declared = all_declared(alloc, read)?;
+    let mut values = Vec::new(alloc);
     for index in 0..uses.len() {
-        let request = &uses[index];
-        bind_at(alloc, request, read, &declared, of_use[index])?;
+        let place = of_use[index] as usize;
+        let bound = bind_at(alloc, &uses[index], read, &declared, place)?;
+        values.push(bound)?;
     }
-    Ok(())
+    Ok(values)
 }

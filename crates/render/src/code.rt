@@ -73,8 +73,6 @@ pub enum Code {
     B2,
     /// A shader of another kind than the request's.
     B3,
-    /// Not built yet: the scene is right, and this renderer doesn't draw it so far.
-    U0,
     /// A transformation that has no inverse.
     G1,
     /// An entry of a transformation out of range.
@@ -101,6 +99,8 @@ pub enum Code {
     M7,
     /// A shader of more than 65,536 nodes with its functions in place, or of more than 256 in one another.
     M8,
+    /// A shader whose code takes more than 4,096 rows of registers.
+    M9,
     /// The scene file is longer than 16,777,216 bytes, or a shader's file than 1,048,576.
     M10,
 }
@@ -142,7 +142,6 @@ impl Code {
             Code::B1 => "B1",
             Code::B2 => "B2",
             Code::B3 => "B3",
-            Code::U0 => "U0",
             Code::G1 => "G1",
             Code::G2 => "G2",
             Code::G3 => "G3",
@@ -156,6 +155,7 @@ impl Code {
             Code::M6 => "M6",
             Code::M7 => "M7",
             Code::M8 => "M8",
+            Code::M9 => "M9",
             Code::M10 => "M10",
         }
     }
@@ -170,13 +170,13 @@ impl Code {
             Code::L1 | Code::L2 | Code::L3 | Code::L4 => 3,
             Code::S1 | Code::S2 | Code::S3 | Code::S4 | Code::S5 => 3,
             Code::N1 | Code::N2 | Code::N3 | Code::N4 | Code::N5 => 3,
-            Code::P1 | Code::P2 | Code::P3 | Code::U0 => 3,
+            Code::P1 | Code::P2 | Code::P3 => 3,
             Code::T1 | Code::T2 | Code::T3 | Code::T4 | Code::T5 | Code::T6 => 4,
             Code::T7 | Code::T8 | Code::T9 | Code::T10 | Code::T11 => 4,
             Code::B1 | Code::B2 | Code::B3 => 4,
             Code::G1 | Code::G2 | Code::G3 | Code::G4 | Code::G5 => 5,
             Code::M1 | Code::M2 | Code::M3 | Code::M4 | Code::M5 | Code::M6 | Code::M7 => 5,
-            Code::M8 | Code::M10 => 5,
+            Code::M8 | Code::M9 | Code::M10 => 5,
         }
     }
 }

@@ -1,19 +1,24 @@
 //! The renderer as one call: words and files in, pictures out.
 #![tactic(auto)]
 
-mod accept;
+mod acceptance;
+mod accepted;
 mod bindings;
 mod code;
 mod command;
 mod draw;
-mod drawn;
+mod frame_in;
 mod load;
 mod program;
+mod read;
 mod refusal;
 mod shaders;
+mod values;
 mod whole;
 mod write;
 
+pub use acceptance::accept;
+pub use accepted::Accepted;
 pub use code::Code;
 pub use program::run;
 pub use refusal::{FileId, Refusal};

@@ -1,23 +1,21 @@
 // The scene of a command, from a library.
-ghost use Rattle.std.specs.Prelude.{◌≡◌, ◌≤◌, ◌∷◌, [], IsErrOf, OnOk, IfOk, IfSome, All, Some, length, map};
+ghost use Rattle.std.specs.Prelude.{◌≡◌, ◌≤◌, ◌∷◌, [], IsErrOf, OnOk, IfOk, IfSome, Some, length};
 ghost use Rattle.outside.specs.Causes.{Rose, Told};
 ghost use Rattle.outside.specs.Library.{Files, held_as};
 ghost use Rattle.outside.specs.Asked.{AsksAll, AsksFront};
-ghost use Rattle.render.specs.Verdict.{text_of_held, verdict_if_drawn, verdict_of_command, asked_for_command};
-ghost use Rattle.render.specs.Drawn.{is_drawn};
-ghost use Rattle.render.specs.Shaders.{shader_names};
-ghost use Rattle.render.specs.Reading.{IsReadOf, name_of};
+ghost use Rattle.render.specs.Verdict.{text_of_held, verdict_of_command, asked_for_command};
+ghost use Rattle.displace_shade.specs.Sets.{Fits};
+ghost use Rattle.displace_shade.specs.Shop.{set_value};
 ghost use Rattle.render.specs.Command.{command_view};
-ghost use Rattle.render.specs.Answers.{GivesText, Loads, LoadsNamed};
+ghost use Rattle.render.specs.Answers.{GivesText, LoadsNamed};
 ghost use Rattle.render.specs.declared.refusal.Refusal.TheVariants.{ReadFault};
 
-use crate::accept::{Accepted, accept};
+use crate::acceptance::accept;
+use crate::accepted::Accepted;
 use crate::code::Code;
-use crate::command::{Action, SceneCommand};
-use crate::drawn::is_drawn;
+use crate::command::SceneCommand;
 use crate::refusal::{Refusal, in_scene};
 use outside::{Fetch, Library};
-use scene_state::Scene;
 use std::alloc::Global;
 
 /// The most bytes of a scene file.
@@ -47,42 +45,22 @@ fn fetch_text<L: Library>(
     }
 }
 
-// The scene of what is accepted, where it is only to be checked or is drawn so far.
-fn if_drawn(action: Action, accepted: Accepted) -> Result<Scene, Refusal>
-    requires { map name_of accepted.shaders.read ≡ shader_names accepted.scene.uses }
-    ensures loads { (files : Files) → All (IsReadOf files) accepted.shaders.read → Loads action result (verdict_if_drawn action (is_drawn files accepted.scene) accepted.scene) }
-    ensures read { IsErrOf result ReadFault → ⊥ }
-{
-    match action {
-        Action::Check => Ok(accepted.scene),
-        Action::Render => {
-            if is_drawn(&accepted.scene, accepted.shaders.read.as_slice()) {
-                Ok(accepted.scene)
-            } else {
-                Err(in_scene(Code::U0, 1))
-            }
-        }
-    }
-}
-
-/// The scene of a command, where it and its shaders are right, and it is only to be checked or is drawn so far; none where
-/// the library lacks it.
+/// The scene of a command with its shaders, where all is right; none where the library lacks it.
 pub(crate) fn load<L: Library>(
     alloc: Global,
     library: &mut L,
     command: &SceneCommand<'_>,
-) -> Result<Option<Scene>, Refusal>
+) -> Result<Option<Accepted>, Refusal>
     ensures held { L.held library.new ≡ L.held library.old }
     ensures asked { Told (L.held library.old) (λ files. AsksFront (asked_for_command (Some (command_view command.now)) files) (L.asked library.old) (L.asked library.new)) }
     ensures loads { Told (L.held library.old) (λ files. LoadsNamed command.now.name.now command.now.action result (verdict_of_command (Some (command_view command.now)) files)) }
+    ensures fits { IfOk result (λ o. IfSome o (λ a. Fits (set_value a.set) a.scene.uses)) }
+    ensures few { IfOk result (λ o. IfSome o (λ a. length a.scene.frames ≤ 1000)) }
     ensures later { L.faults library.old ≤ L.faults library.new }
     ensures read { IsErrOf result ReadFault → Rose (L.faults library.old) (L.faults library.new) }
 {
     match fetch_text(alloc, library, command.name)? {
         None => Ok(None),
-        Some(text) => {
-            let accepted = accept(alloc, &text, library)?;
-            Ok(Some(if_drawn(command.action, accepted)?))
-        }
+        Some(text) => Ok(Some(accept(alloc, &text, library)?)),
     }
 }

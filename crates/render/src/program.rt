@@ -15,7 +15,7 @@ ghost use Rattle.render.specs.declared.refusal.Refusal.TheVariants.{ReadFault};
 use crate::command::{Action, SceneCommand, scene_command};
 use crate::load::load;
 use crate::refusal::{FileId, Refusal};
-use crate::write::{Stop, write_frames};
+use crate::write::{Stop, write_pictures};
 use fixed_math::NoMemory;
 use outside::{FrameSink, Library, Notes};
 use std::alloc::Global;
@@ -54,14 +54,14 @@ fn obeyed<L: Library, O: FrameSink>(
     ensures read { result ≡ Refused ReadFault → Rose (L.faults library.old) (L.faults library.new) }
     ensures write { result ≡ WriteFault → Rose (O.faults frames.old) (O.faults frames.new) }
 {
-    let scene = match load(alloc, library, command) {
-        Ok(Some(scene)) => scene,
+    let accepted = match load(alloc, library, command) {
+        Ok(Some(accepted)) => accepted,
         Ok(None) => return Answer::NoScene,
         Err(refusal) => return Answer::Refused(refusal),
     };
     match command.action {
         Action::Check => Answer::Done,
-        Action::Render => match write_frames(alloc, frames, scene.frames.as_slice()) {
+        Action::Render => match write_pictures(alloc, frames, accepted) {
             Ok(()) => Answer::Done,
             Err(Stop::Stopped) => Answer::WriteFault,
             Err(Stop::NoMemory) => Answer::NoMemory,
@@ -171,7 +171,7 @@ fn status(answer: &Answer, note: &Result<Option<String>, NoMemory>) -> u8
 /// each drawn whole before it is begun; with `check` nothing is written. No frame of the sink may be open.
 ///
 /// The answer is a status: 0 done; 2 the words are no command, or they ask for help; 3 the scene or a shader has a fault of syntax,
-/// or the scene one of nesting, or it is to be rendered and has what isn't drawn so far; 4 a shader has a fault of types, or a
+/// or the scene one of nesting; 4 a shader has a fault of types, or a
 /// shader request doesn't fit its shader; 5 the scene has a fault of geometry, or it or a shader passes a limit; 6 the library lacks
 /// the scene, or a shader that the stock lacks too; 7 the library failed; 8 the sink failed; 9 want of memory. With each but 0 a
 /// line goes to the notes, which changes no status.

@@ -5,17 +5,20 @@ ghost use Rattle.outside.specs.Causes.{Rose, Told};
 ghost use Rattle.outside.specs.Library.{held_as};
 ghost use Rattle.outside.specs.Asked.{AsksAll, AsksFront};
 ghost use Rattle.sl_ast.specs.ShaderView.{shader_of};
+ghost use Rattle.sl_ast.specs.Settled.{IsSettled};
 ghost use Rattle.sl_ast.specs.TreeView.{tree_of};
 ghost use Rattle.sl_parser.specs.Files.{parsed};
 ghost use Rattle.sl_types.specs.Checked.{checked};
-ghost use Rattle.render.specs.Shaders.{file_of, stock_text, tree_of_checked, tree_of_parsed, tree_of_bytes, shader_names, shaders_asked};
+ghost use Rattle.render.specs.Shaders.{IsCompilable, file_of, stock_text, tree_in_rows, tree_of_checked, tree_of_parsed, tree_of_bytes, shader_names, shaders_asked};
 ghost use Rattle.render.specs.Answers.{Gives};
 ghost use Rattle.render.specs.Reading.{GivesShaderText, ReadsShader, ReadsNext, ReadsShaders, ArePlaced, is_among, file_once, with_once, name_of};
 ghost use Rattle.render.specs.declared.refusal.Refusal.TheVariants.{ReadFault};
 
 use crate::code::{Code, of_syntax, of_type};
+use crate::read::ReadShader;
 use crate::refusal::{Refusal, in_shader};
 use fixed_math::{List, Names, NoMemory, Text};
+use mask_codegen::rows;
 use outside::{Fetch, Library};
 use scene_state::ShaderUse;
 use sl_ast::Tree;
@@ -26,35 +29,37 @@ use std::alloc::Global;
 /// The most bytes of a shader's file.
 const MOST_BYTES: u64 = 1048576;
 
-/// A shader that is read: its name, its typed tree, and whether its text is the stock's.
-#[derive(Drop)]
-pub(crate) struct ReadShader {
-    pub name: Text,
-    pub tree: Tree,
-    pub stock: bool,
-}
+/// The most rows of registers that the code of a shader takes.
+const MOST_ROWS: u64 = 4096;
 
 /// The shaders of a scene, each once, by first use, and beside each use the place of its shader.
 #[derive(Drop)]
 pub(crate) struct UsedShaders {
     pub read: List<ReadShader>,
-    pub of_use: List<usize>,
+    pub of_use: List<u32>,
 }
 
-/// A shader's text, and whether it is the stock's.
-#[derive(Drop)]
-struct ShaderText {
-    bytes: Vec<u8>,
-    stock: bool,
+// A typed tree whose code takes no more rows than there may be.
+fn in_rows(alloc: Global, name: &Text, tree: Tree) -> Result<Tree, Refusal>
+    requires { IsSettled (tree_of tree) }
+    ensures gives { Gives tree_of result (tree_in_rows name.now (tree_of tree)) }
+    ensures compilable { IfOk result (λ t. IsCompilable (tree_of t)) }
+    ensures read { IsErrOf result ReadFault → ⊥ }
+{
+    if MOST_ROWS < rows(alloc, &tree)? {
+        return Err(in_shader(alloc, name, Code::M9, tree.place.line));
+    }
+    Ok(tree)
 }
 
 // The typed tree of an untyped one.
 fn typed(alloc: Global, name: &Text, shader: &sl_ast::Shader) -> Result<Tree, Refusal>
     ensures gives { Gives tree_of result (tree_of_checked name.now (checked (shader_of shader.now))) }
+    ensures compilable { IfOk result (λ t. IsCompilable (tree_of t)) }
     ensures read { IsErrOf result ReadFault → ⊥ }
 {
     match check(alloc, shader) {
-        Ok(tree) => Ok(tree),
+        Ok(tree) => in_rows(alloc, name, tree),
         Err(TypeFault::At { code, line }) => Err(in_shader(alloc, name, of_type(code), line)),
         Err(TypeFault::NoMemory) => Err(Refusal::NoMemory),
     }
@@ -64,6 +69,7 @@ fn typed(alloc: Global, name: &Text, shader: &sl_ast::Shader) -> Result<Tree, Re
 fn of_text(alloc: Global, name: &Text, text: &[u8]) -> Result<Tree, Refusal>
     requires { length text.now ≤ 1048576 }
     ensures gives { Gives tree_of result (tree_of_parsed name.now (parsed text.now)) }
+    ensures compilable { IfOk result (λ t. IsCompilable (tree_of t)) }
     ensures read { IsErrOf result ReadFault → ⊥ }
 {
     match parse(alloc, text) {
@@ -76,6 +82,7 @@ fn of_text(alloc: Global, name: &Text, text: &[u8]) -> Result<Tree, Refusal>
 // The typed tree of a text.
 fn of_bytes(alloc: Global, name: &Text, bytes: &[u8]) -> Result<Tree, Refusal>
     ensures gives { Gives tree_of result (tree_of_bytes name.now bytes.now) }
+    ensures compilable { IfOk result (λ t. IsCompilable (tree_of t)) }
     ensures read { IsErrOf result ReadFault → ⊥ }
 {
     if MOST_BYTES < bytes.len() as u64 {
@@ -92,16 +99,13 @@ fn stock_text(name: &str) -> Option<&'static str>
 }
 
 // The stock's text of a shader whose file isn't there.
-fn of_stock(alloc: Global, name: &Text, file: Text) -> Result<ShaderText, Refusal>
+fn of_stock(alloc: Global, name: &Text, file: Text) -> Result<Vec<u8>, Refusal>
     requires { file ≡ file_of name.now }
     ensures gives { GivesShaderText name.now None result }
     ensures read { IsErrOf result ReadFault → ⊥ }
 {
     match stock_text(name.as_str()) {
-        Some(text) => Ok(ShaderText {
-            bytes: Vec::from_slice(alloc, text.as_bytes())?,
-            stock: true,
-        }),
+        Some(text) => Ok(Vec::from_slice(alloc, text.as_bytes())?),
         None => Err(Refusal::Missing(file)),
     }
 }
@@ -117,11 +121,7 @@ fn file_of(alloc: Global, name: &Text) -> Result<Text, NoMemory>
 }
 
 // The text of a shader: its file's, or the stock's.
-fn fetch_text<L: Library>(
-    alloc: Global,
-    library: &mut L,
-    name: &Text,
-) -> Result<ShaderText, Refusal>
+fn fetch_text<L: Library>(alloc: Global, library: &mut L, name: &Text) -> Result<Vec<u8>, Refusal>
     ensures held { L.held library.new ≡ L.held library.old }
     ensures asked { AsksFront (file_of name.now ∷ []) (L.asked library.old) (L.asked library.new) }
     ensures asked_all { OnOk result (AsksAll (file_of name.now ∷ []) (L.asked library.old) (L.asked library.new)) }
@@ -132,10 +132,7 @@ fn fetch_text<L: Library>(
     let file = file_of(alloc, name)?;
     let mut bytes = Vec::new(alloc);
     match library.fetch(file.as_str(), MOST_BYTES, &mut bytes) {
-        Fetch::Whole => Ok(ShaderText {
-            bytes,
-            stock: false,
-        }),
+        Fetch::Whole => Ok(bytes),
         Fetch::Missing => of_stock(alloc, name, file),
         Fetch::TooLong => Err(in_shader(alloc, name, Code::M10, 1)),
         Fetch::Failed => Err(Refusal::ReadFault),
@@ -158,11 +155,10 @@ fn read_shader<L: Library>(
     ensures read { IsErrOf result ReadFault → Rose (L.faults library.old) (L.faults library.new) }
 {
     let text = fetch_text(alloc, library, name)?;
-    let tree = of_bytes(alloc, name, &text.bytes)?;
+    let tree = of_bytes(alloc, name, &text)?;
     Ok(ReadShader {
         name: name.copied(alloc)?,
         tree,
-        stock: text.stock,
     })
 }
 
@@ -220,6 +216,16 @@ fn read_once<'a, L: Library>(
     }
 }
 
+// A place as a set of shaders holds it. Where there is none of so great a number, want of memory.
+fn numbered(place: usize) -> Result<u32, NoMemory>
+    ensures { IfOk result (λ n. n ≡ place) }
+{
+    match u32::try_from(place) {
+        Ok(number) => Ok(number),
+        Err(_) => Err(NoMemory),
+    }
+}
+
 /// Reads the shaders of a scene by first use, each once, up to the first that is refused.
 pub(crate) fn read_shaders<L: Library>(
     alloc: Global,
@@ -239,7 +245,8 @@ pub(crate) fn read_shaders<L: Library>(
     let mut of_use = Vec::new(alloc);
     for shader in uses {
         let place = read_once(alloc, library, &mut names, &mut shaders, &shader.name)?;
-        of_use.push(place)?;
+        let number = numbered(place)?;
+        of_use.push(number)?;
     }
     Ok(UsedShaders {
         read: List(shaders),

@@ -1,13 +1,20 @@
 // Pictures to a sink.
-ghost use Rattle.std.specs.Prelude.{◌≡◌, ◌≢◌, ◌≤◌, ◌∷◌, [], ◌++◌, true, false, map, OnOk, OnErr, IsErrOf, Err};
+ghost use Rattle.std.specs.Prelude.{◌≡◌, ◌≢◌, ◌≤◌, ◌+◌, ◌^◌, ◌∷◌, [], ◌++◌, true, false, length, map, OnOk, OnErr, IsErrOf, Err};
 ghost use Rattle.outside.specs.Causes.{HasCause, Rose};
 ghost use Rattle.outside.specs.Frames.{Adds, AddsPart, AddsFront, whole, PutsAll, PutsFront};
-ghost use Rattle.render.specs.Pictures.{picture_of};
+ghost use Rattle.displace_shade.specs.Sets.{Fits};
+ghost use Rattle.displace_shade.specs.Shop.{set_value};
+ghost use Rattle.render.specs.Pictures.{picture_of, frames_of};
+ghost use Rattle.render.specs.Shopped.{shaded_by};
+ghost use Rattle.render.specs.Answers.{accepted_in};
 ghost use Rattle.render.specs.declared.write.Stop.TheVariants.{Stopped};
 
+use crate::accepted::Accepted;
 use crate::draw::{Drawn, draw};
+use crate::frame_in::FrameIn;
+use displace_shade::Shop;
 use outside::{Failed, FrameSink, put_all};
-use scene_state::Frame;
+use scene_state::{Frame, Scene};
 use std::alloc::Global;
 
 /// Why not all frames were written.
@@ -43,39 +50,92 @@ fn write_picture<O: FrameSink>(frames: &mut O, name: &str, drawn: &Drawn) -> Res
     frames.end()
 }
 
+// The name of a frame's picture.
+fn name_of(frame: &Frame) -> &str
+    ensures { result.now ≡ frame.now.name }
+{
+    frame.name.as_str()
+}
+
 // Draws a frame whole, and then writes it.
-fn write_frame<O: FrameSink>(alloc: Global, sink: &mut O, frame: &Frame) -> Result<(), Stop>
-    requires { O.is_open sink.old ≡ false }
+fn write_frame<O: FrameSink>(
+    alloc: Global,
+    sink: &mut O,
+    shop: &mut Shop,
+    shown: &FrameIn<'_>,
+) -> Result<(), Stop>
+    requires closed { O.is_open sink.old ≡ false }
+    requires fits { Fits (set_value shop.old.set) shown.now.scene.now.uses }
+    requires count { shop.old.count + 2 ^ 32 ≤ 2 ^ 62 }
     ensures closed { result ≢ Err Stopped → O.is_open sink.new ≡ false }
-    ensures ok { OnOk result (Adds (whole (picture_of frame.now) ∷ []) (O.written sink.old) (O.written sink.new)) }
-    ensures err { OnErr result (AddsPart (picture_of frame.now) (O.written sink.old) (O.written sink.new)) }
+    ensures ok { OnOk result (Adds (whole (picture_of (shaded_by shown.now.scene.now shop.old) shown.now.frame.now) ∷ []) (O.written sink.old) (O.written sink.new)) }
+    ensures err { OnErr result (AddsPart (picture_of (shaded_by shown.now.scene.now shop.old) shown.now.frame.now) (O.written sink.old) (O.written sink.new)) }
     ensures later { O.faults sink.old ≤ O.faults sink.new }
     ensures failed { IsErrOf result Stopped → Rose (O.faults sink.old) (O.faults sink.new) }
+    ensures set { OnOk result (shop.new.set ≡ shop.old.set) }
+    ensures count { OnOk result (shop.new.count ≤ shop.old.count + 2 ^ 32) }
 {
-    let Ok(drawn) = draw(alloc, frame) else {
+    let Ok(drawn) = draw(alloc, shop, shown) else {
         return Err(Stop::NoMemory);
     };
-    match write_picture(sink, frame.name.as_str(), &drawn) {
+    match write_picture(sink, name_of(shown.frame), &drawn) {
         Ok(()) => Ok(()),
         Err(_) => Err(Stop::Stopped),
     }
 }
 
-/// Writes frames in order, each drawn whole before it is begun.
-pub(crate) fn write_frames<O: FrameSink>(
+// The frames of a scene.
+fn frames_in(scene: &Scene) -> &[Frame]
+    ensures { result.now ≡ scene.now.frames }
+{
+    scene.frames.as_slice()
+}
+
+// Writes the frames of a scene in order, each drawn whole before it is begun.
+fn write_frames<O: FrameSink>(
     alloc: Global,
     sink: &mut O,
-    frames: &[Frame],
+    shop: &mut Shop,
+    scene: &Scene,
 ) -> Result<(), Stop>
-    requires { O.is_open sink.old ≡ false }
+    requires closed { O.is_open sink.old ≡ false }
+    requires fits { Fits (set_value shop.old.set) scene.now.uses }
+    requires few { length scene.now.frames ≤ 1000 }
+    requires count { shop.old.count ≡ 0 }
     ensures closed { result ≢ Err Stopped → O.is_open sink.new ≡ false }
-    ensures ok { OnOk result (Adds (map whole (map picture_of frames.now)) (O.written sink.old) (O.written sink.new)) }
-    ensures err { OnErr result (AddsFront (map picture_of frames.now) (O.written sink.old) (O.written sink.new)) }
+    ensures ok { OnOk result (Adds (map whole (frames_of (shaded_by scene.now shop.old))) (O.written sink.old) (O.written sink.new)) }
+    ensures err { OnErr result (AddsFront (frames_of (shaded_by scene.now shop.old)) (O.written sink.old) (O.written sink.new)) }
     ensures later { O.faults sink.old ≤ O.faults sink.new }
     ensures failed { IsErrOf result Stopped → Rose (O.faults sink.old) (O.faults sink.new) }
 {
-    for frame in frames {
-        write_frame(alloc, sink, frame)?;
+    let frames = frames_in(scene);
+    for index in 0..frames.len() {
+        let shown = FrameIn {
+            scene,
+            index,
+            frame: &frames[index],
+        };
+        write_frame(alloc, sink, shop, &shown)?;
     }
     Ok(())
+}
+
+/// Writes the pictures of an accepted scene in order, each drawn whole before it is begun.
+pub(crate) fn write_pictures<O: FrameSink>(
+    alloc: Global,
+    sink: &mut O,
+    accepted: Accepted,
+) -> Result<(), Stop>
+    requires closed { O.is_open sink.old ≡ false }
+    requires fits { Fits (set_value accepted.set) accepted.scene.uses }
+    requires few { length accepted.scene.frames ≤ 1000 }
+    ensures closed { result ≢ Err Stopped → O.is_open sink.new ≡ false }
+    ensures ok { OnOk result (Adds (map whole (frames_of (accepted_in accepted))) (O.written sink.old) (O.written sink.new)) }
+    ensures err { OnErr result (AddsFront (frames_of (accepted_in accepted)) (O.written sink.old) (O.written sink.new)) }
+    ensures later { O.faults sink.old ≤ O.faults sink.new }
+    ensures failed { IsErrOf result Stopped → Rose (O.faults sink.old) (O.faults sink.new) }
+{
+    let scene = accepted.scene;
+    let mut shop = Shop::new(alloc, accepted.set);
+    write_frames(alloc, sink, &mut shop, &scene)
 }

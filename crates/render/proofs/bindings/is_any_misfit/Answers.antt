@@ -1,7 +1,8 @@
 use Rattle.std.proofs.Common.{inl, inr, sym, ◌∙◌}
 use Rattle.std.specs.List.{list_any}
 use Rattle.sl_ast.specs.TreeView.{tree_of}
-use Rattle.render.specs.Bindings.{is_misfit, holding}
+use Rattle.render.specs.Bindings.{is_misfit}
+use Rattle.rib_reader.specs.Holding.{holding}
 use Rattle.render.proofs.Bound.{holding_next, holding_found, at_names}
 use Rattle.render.proofs.bindings.is_any_misfit.Goals as goal
 use Rattle.render.proofs.bindings.is_any_misfit.Goals.{else-is_misfit-via-then-is_misfit+else-is_last, else-is_misfit-via-else-is_misfit}

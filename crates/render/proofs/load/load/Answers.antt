@@ -11,24 +11,16 @@ pub returns-in_err-fetch_text-clause-asked : goal.returns-in_err-fetch_text-clau
 returns-in_err-fetch_text-clause-asked g c =
     scene_asked (g.L.Library.held c.args.library.now) (command_view c.args.command.now) _ _ c.fetch_text.ensures.asked
 
-pub returns-in_err-accepted-in-Some-clause-asked : goal.returns-in_err-accepted-in-Some-clause-asked
-returns-in_err-accepted-in-Some-clause-asked g c =
+pub returns-in_err-accept-in-Some-clause-asked : goal.returns-in_err-accept-in-Some-clause-asked
+returns-in_err-accept-in-Some-clause-asked g c =
     text_asked_too (g.L.Library.held c.args.library.now) (g.L.Library.held c.fetch_text.new.library) (command_view c.args.command.now) c.in-Some.text.items c.deref.result.now
     (g.L.Library.asked c.args.library.now) (g.L.Library.asked c.fetch_text.new.library) (g.L.Library.asked c.accept.new.library) c.fetch_text.ensures.held c.deref.ensures.value
     (subst (λ t. Told (g.L.Library.held c.args.library.now) (λ files. GivesText c.args.command.now.name.now (Ok t) (text_of_held c.args.command.now.name.now (held_as files c.args.command.now.name.now))))
     c.in-Some.is c.in_ok-fetch_text.ensures.gives)
     c.in_ok-fetch_text.ensures.asked_all c.accept.ensures.asked
 
-pub returns-in_err-if_drawn-in-Some-clause-asked : goal.returns-in_err-if_drawn-in-Some-clause-asked
-returns-in_err-if_drawn-in-Some-clause-asked g c =
-    text_asked_too (g.L.Library.held c.args.library.now) (g.L.Library.held c.fetch_text.new.library) (command_view c.args.command.now) c.in-Some.text.items c.deref.result.now
-    (g.L.Library.asked c.args.library.now) (g.L.Library.asked c.fetch_text.new.library) (g.L.Library.asked c.accept.new.library) c.fetch_text.ensures.held c.deref.ensures.value
-    (subst (λ t. Told (g.L.Library.held c.args.library.now) (λ files. GivesText c.args.command.now.name.now (Ok t) (text_of_held c.args.command.now.name.now (held_as files c.args.command.now.name.now))))
-    c.in-Some.is c.in_ok-fetch_text.ensures.gives)
-    c.in_ok-fetch_text.ensures.asked_all c.accept.ensures.asked
-
-pub returns-in_ok-if_drawn-in-Some-clause-asked : goal.returns-in_ok-if_drawn-in-Some-clause-asked
-returns-in_ok-if_drawn-in-Some-clause-asked g c =
+pub returns-in_ok-accept-in-Some-clause-asked : goal.returns-in_ok-accept-in-Some-clause-asked
+returns-in_ok-accept-in-Some-clause-asked g c =
     text_asked_too (g.L.Library.held c.args.library.now) (g.L.Library.held c.fetch_text.new.library) (command_view c.args.command.now) c.in-Some.text.items c.deref.result.now
     (g.L.Library.asked c.args.library.now) (g.L.Library.asked c.fetch_text.new.library) (g.L.Library.asked c.accept.new.library) c.fetch_text.ensures.held c.deref.ensures.value
     (subst (λ t. Told (g.L.Library.held c.args.library.now) (λ files. GivesText c.args.command.now.name.now (Ok t) (text_of_held c.args.command.now.name.now (held_as files c.args.command.now.name.now))))

@@ -1,8 +1,8 @@
-use Rattle.std.proofs.Common.{refl, ap, ◌∙◌, sym, subst, Ok, Err, ◌≡◌}
+use Rattle.std.proofs.Common.{ap, ◌∙◌, sym, subst, Ok, Err, ◌≡◌}
 use Rattle.std.proofs.lemmas.Result.{err_from_is_err_and}
 use Rattle.outside.specs.Causes.{Told}
 use Rattle.sl_ast.specs.TreeView.{tree_of}
-use Rattle.render.specs.declared.shaders.ReadShader.{ReadShader}
+use Rattle.render.specs.declared.read.ReadShader.{ReadShader}
 use Rattle.render.specs.Causes.{cause_in}
 use Rattle.render.specs.Shaders.{tree_of_bytes}
 use Rattle.render.specs.Reading.{ReadsShader}
@@ -23,12 +23,12 @@ returns-in_err-tree-clause-reads g c =
     let held = g.L.Library.held c.args.library.now in
     let r = c.in_err-tree.field-0.0 in
     subst (λ q. Told held (λ files. ReadsShader files c.args.name.now q)) (sym (p.1 ∙ ap (λ s. Err s) p.2))
-    (tree_refused held c.args.name.now c.in_ok-text.text r c.in_ok-text.ensures.gives
+    (tree_refused held c.args.name.now c.in_ok-text.text.items r c.in_ok-text.ensures.gives
     (subst (λ b. Because r (cause_in (tree_of_bytes c.args.name.now b))) c.deref.ensures.value c.in_err-tree.ensures.gives))
 
 pub returns-clause-reads : goal.returns-clause-reads
 returns-clause-reads g c =
     let held = g.L.Library.held c.args.library.now in
-    let s : ReadShader = record { name = c.in_ok-copied.field-0; tree = c.in_ok-tree.tree; stock = c.in_ok-text.text.stock } in
-    text_read held c.args.name.now c.in_ok-text.text s c.in_ok-text.ensures.gives c.in_ok-copied.ensures refl
+    let s : ReadShader = record { name = c.in_ok-copied.field-0; tree = c.in_ok-tree.tree; compilable = c.result-2-1.given.0 } in
+    text_read held c.args.name.now c.in_ok-text.text.items s c.in_ok-text.ensures.gives c.in_ok-copied.ensures
     (subst (λ b. tree_of_bytes c.args.name.now b ≡ Ok (tree_of c.in_ok-tree.tree)) c.deref.ensures.value c.in_ok-tree.ensures.gives)

@@ -1,11 +1,14 @@
-use Rattle.std.proofs.Common.{◌≡◌, ◌≤◌, false, map, take}
+use Rattle.std.proofs.Common.{◌≡◌, ◌≤◌, ◌*◌, ◌^◌, false, map, take}
 use Rattle.outside.specs.Frames.{whole, Adds}
 use Rattle.render.specs.Pictures.{picture_of}
+use Rattle.render.specs.Shopped.{shaded_by}
 use Rattle.render.proofs.write.write_frames.Given as goal
 
-abbrev pub invariant-loop-frame : goal.invariant-loop-frame
-invariant-loop-frame g l = record {
+abbrev pub invariant-loop-index : goal.invariant-loop-index
+invariant-loop-index g l = record {
   closed : g.O.FrameSink.is_open l.sink ≡ false;
-  added : Adds (map whole (map picture_of (take l.frame-index l.frames))) (g.O.FrameSink.written l.initial.sink) (g.O.FrameSink.written l.sink);
+  added : Adds (map whole (map (picture_of (shaded_by l.scene l.initial.shop)) (take l.index l.frames))) (g.O.FrameSink.written l.initial.sink) (g.O.FrameSink.written l.sink);
   later : g.O.FrameSink.faults l.initial.sink ≤ g.O.FrameSink.faults l.sink;
+  set : l.shop.set ≡ l.initial.shop.set;
+  count : l.shop.count ≤ 2 ^ 32 * l.index;
 }

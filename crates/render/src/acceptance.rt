@@ -9,30 +9,33 @@ ghost use Rattle.render.specs.Verdict.{scene_of_state, scene_of_requests, scene_
 ghost use Rattle.outside.specs.Library.{Files};
 ghost use Rattle.render.specs.Shaders.{shader_names, shaders_asked};
 ghost use Rattle.render.specs.Bindings.{uses_refused};
-ghost use Rattle.render.specs.Reading.{IsReadOf, ReadsShaders, ArePlaced, name_of, scene_in};
-ghost use Rattle.render.specs.Answers.{Clears, Gives, as_it_is};
+ghost use Rattle.displace_shade.specs.Sets.{Fits, FitUses};
+ghost use Rattle.displace_shade.specs.Shop.{set_value};
+ghost use Rattle.render.specs.Reading.{IsReadOf, ReadsShaders, ArePlaced, name_of, tree_read, tree_compiled, all_values};
+ghost use Rattle.render.specs.Answers.{Clears, Gives, as_it_is, accepted_in};
 ghost use Rattle.render.specs.declared.refusal.Refusal.TheVariants.{ReadFault};
 
+use crate::accepted::Accepted;
 use crate::bindings::bind_all;
 use crate::code::{of_lex, of_request, of_state};
+use crate::read::ReadShader;
 use crate::refusal::{Refusal, in_scene};
 use crate::shaders::{UsedShaders, read_shaders};
+use displace_shade::ShaderSet;
+use fixed_math::{List, NoMemory};
+use mask_codegen::{CodeFault, Compiled, compile};
 use outside::Library;
 use rib_lex::{LexFault, Token, tokens};
 use rib_reader::{Request, RibFault, requests};
 use scene_state::{Scene, StateFault, scene};
+use sl_ast::Value;
 use std::alloc::Global;
 
-/// A scene that is right, with its shaders, which its shader requests fit.
-#[derive(Drop)]
-pub(crate) struct Accepted {
-    pub scene: Scene,
-    pub shaders: UsedShaders,
-}
-
 // The scene of requests.
+#[tactic(auto, using(scene_state::proofs::FrameCount::few_frames))]
 fn of_requests(alloc: Global, requests: &[Request]) -> Result<Scene, Refusal>
     ensures gives { Gives as_it_is result (scene_of_state (scene_of (map plain requests.now))) }
+    ensures few { IfOk result (λ s. length s.frames ≤ 1000) }
     ensures read { IsErrOf result ReadFault → ⊥ }
 {
     match scene(alloc, requests) {
@@ -45,6 +48,7 @@ fn of_requests(alloc: Global, requests: &[Request]) -> Result<Scene, Refusal>
 // The scene of tokens.
 fn of_tokens(alloc: Global, tokens: &[Token]) -> Result<Scene, Refusal>
     ensures gives { Gives as_it_is result (scene_of_requests (requests_of tokens.now)) }
+    ensures few { IfOk result (λ s. length s.frames ≤ 1000) }
     ensures read { IsErrOf result ReadFault → ⊥ }
 {
     match requests(alloc, tokens) {
@@ -59,6 +63,7 @@ fn of_tokens(alloc: Global, tokens: &[Token]) -> Result<Scene, Refusal>
 fn read_scene(alloc: Global, text: &[u8]) -> Result<Scene, Refusal>
     requires { length text.now ≤ 16777216 }
     ensures gives { Gives as_it_is result (scene_of_text text.now) }
+    ensures few { IfOk result (λ s. length s.frames ≤ 1000) }
     ensures read { IsErrOf result ReadFault → ⊥ }
 {
     match tokens(alloc, text) {
@@ -85,35 +90,75 @@ fn read_used<L: Library>(
     read_shaders(alloc, library, scene.uses.as_slice())
 }
 
-// Whether the parameters of a scene's shader requests fit their shaders.
-fn bind_used(alloc: Global, scene: &Scene, shaders: &UsedShaders) -> Result<(), Refusal>
+// What the parameters of a scene's shader requests are bound to, where they fit their shaders.
+fn bind_used(
+    alloc: Global,
+    scene: &Scene,
+    shaders: &UsedShaders,
+) -> Result<Vec<List<Value>>, Refusal>
     requires { ArePlaced scene.now.uses shaders.now }
     ensures clears { (files : Files) → All (IsReadOf files) shaders.now.read → Clears result (uses_refused files scene.now.uses) }
+    ensures values { IfOk result (λ vss. vss.items ≡ all_values shaders.now.read scene.now.uses shaders.now.of_use) }
+    ensures fit { IfOk result (λ vss. FitUses (map tree_read shaders.now.read) scene.now.uses shaders.now.of_use vss.items) }
     ensures read { IsErrOf result ReadFault → ⊥ }
 {
     bind_all(alloc, scene.uses.as_slice(), shaders)
 }
 
-/// The accepted scene of a text of at most 16,777,216 bytes, whose shaders are asked of the library by first use, each once:
-/// the file `x.sl` of the shader x, or the stock's text where there is no such file. Or the first fault: of the scene, of its
-/// shaders by first use, then of the parameters of its shader requests.
-pub(crate) fn accept<L: Library>(
+// The code of a shader that is read.
+fn compiled(alloc: Global, shader: ReadShader) -> Result<Compiled, NoMemory>
+    ensures { IfOk result (λ c. tree_compiled c ≡ tree_read shader) }
+{
+    match compile(alloc, shader.tree) {
+        Ok(compiled) => Ok(compiled),
+        Err(CodeFault::M9) => unreachable!(),
+        Err(CodeFault::NoMemory) => Err(NoMemory),
+    }
+}
+
+// The codes of all shaders that are read.
+fn all_compiled(alloc: Global, shaders: Vec<ReadShader>) -> Result<Vec<Compiled>, NoMemory>
+    ensures { IfOk result (λ cs. map tree_compiled cs.items ≡ map tree_read shaders.items) }
+{
+    let mut codes = Vec::new(alloc);
+    for shader in shaders {
+        codes.push(compiled(alloc, shader)?)?;
+    }
+    Ok(codes)
+}
+
+// The set of shaders with what their uses' parameters are bound to.
+fn set_of(
     alloc: Global,
-    text: &[u8],
-    library: &mut L,
-) -> Result<Accepted, Refusal>
+    shaders: UsedShaders,
+    bound: Vec<List<Value>>,
+) -> Result<ShaderSet, NoMemory>
+    ensures { IfOk result (λ s. set_value s ≡ record { trees = map tree_read shaders.read; of_use = shaders.of_use; bound = bound.items }) }
+{
+    Ok(ShaderSet {
+        compiled: List(all_compiled(alloc, shaders.read.0)?),
+        of_use: shaders.of_use,
+        bound: List(bound),
+    })
+}
+
+/// The accepted scene of a text of at most 16,777,216 bytes with its shaders, which are asked of the library by first use, each
+/// once: the file `x.sl` of the shader x, or the stock's text where there is no such file. Or the first fault: of the scene, of its
+/// shaders by first use, then of the parameters of its shader requests (RenderMan Interface 3.2, section 11.3.3). The set of
+/// shaders fits the scene, which has at most 1,000 frames.
+pub fn accept<L: Library>(alloc: Global, text: &[u8], library: &mut L) -> Result<Accepted, Refusal>
     requires { length text.now ≤ 16777216 }
     ensures held { L.held library.new ≡ L.held library.old }
     ensures asked { Told (L.held library.old) (λ files. AsksFront (asked_for_scene files (scene_of_text text.now)) (L.asked library.old) (L.asked library.new)) }
-    ensures gives { Told (L.held library.old) (λ files. Gives scene_in result (accepted files text.now)) }
-    ensures shaders { Told (L.held library.old) (λ files. IfOk result (λ a. All (IsReadOf files) a.shaders.read)) }
-    ensures names { IfOk result (λ a. map name_of a.shaders.read ≡ shader_names a.scene.uses) }
-    ensures placed { IfOk result (λ a. ArePlaced a.scene.uses a.shaders) }
+    ensures gives { Told (L.held library.old) (λ files. Gives accepted_in result (accepted files text.now)) }
+    ensures fits { IfOk result (λ a. Fits (set_value a.set) a.scene.uses) }
+    ensures few { IfOk result (λ a. length a.scene.frames ≤ 1000) }
     ensures later { L.faults library.old ≤ L.faults library.new }
     ensures read { IsErrOf result ReadFault → Rose (L.faults library.old) (L.faults library.new) }
 {
     let scene = read_scene(alloc, text)?;
     let shaders = read_used(alloc, library, &scene)?;
-    bind_used(alloc, &scene, &shaders)?;
-    Ok(Accepted { scene, shaders })
+    let bound = bind_used(alloc, &scene, &shaders)?;
+    let set = set_of(alloc, shaders, bound)?;
+    Ok(Accepted { scene, set })
 }

@@ -1,0 +1,13 @@
+ghost use Rattle.sl_ast.specs.TreeView.{tree_of};
+ghost use Rattle.render.specs.Shaders.{IsCompilable};
+
+use fixed_math::Text;
+use sl_ast::Tree;
+
+/// A shader that is read: its name, and its typed tree, which can be compiled.
+#[derive(Drop)]
+pub(crate) struct ReadShader {
+    pub name: Text,
+    pub tree: Tree,
+    pub ghost compilable: { IsCompilable (tree_of tree) },
+}
