@@ -1,5 +1,5 @@
 -- What the parameters of requests are bound to, by the shaders that are read.
-use Rattle.std.proofs.Common.{◌≡◌, ℕ, zero, suc, ◌+◌, ◌<◌, ◌≤◌, Bool, true, false, List, [], ◌∷◌, ◌++◌, length, get_or, map, take, drop, drop-cons, Option, Some, None, cond, refl, sym, ap, ◌∙◌, subst, arith, add-one}
+use Rattle.std.proofs.Common.{◌≡◌, ℕ, zero, suc, ◌+◌, ◌<◌, ◌≤◌, Bool, true, false, List, [], ◌∷◌, ◌++◌, length, get_or, map, take, drop, Option, Some, None, cond, refl, sym, ap, ◌∙◌, subst, arith, add-one}
 use Rattle.std.specs.Prelude.{slice_get}
 use Rattle.std.specs.List.{list_any, range_with_len}
 use Rattle.std.specs.Option.{option_map, option_or}
@@ -16,17 +16,16 @@ use Rattle.sl_ast.specs.declared.kinds.SlType.TheVariants as types
 use Rattle.sl_ast.specs.declared.typed.Value.{Value}
 use Rattle.sl_ast.specs.Typed.{Local, Tree}
 use Rattle.builtins.specs.Shapes.{shape}
-use Rattle.builtins.specs.Values.{shape_of, as_kind, as_shape}
+use Rattle.builtins.specs.Values.{shape_of, as_shape}
 use Rattle.builtins.specs.declared.shape.Shape.{Shape}
 use Rattle.builtins.specs.declared.shape.Shape.TheVariants as shapes
-use Rattle.sl_meaning.specs.Defaults.{default_of, no_local}
+use Rattle.sl_meaning.specs.Defaults.{no_local}
 use Rattle.fixed_math.specs.Names.{last_place}
 use Rattle.displace_shade.specs.Sets.{is_of_kind, AreValuesOf, FitsUse, FitUses}
 use Rattle.render.specs.declared.read.ReadShader.{ReadShader}
 use Rattle.render.specs.Bindings.{param_name, binding_fault, is_undeclared, is_misfit}
-use Rattle.render.specs.declared.code.Code.{Code}
 use Rattle.render.specs.declared.code.Code.TheVariants.{B1, B2, B3}
-use Rattle.render.specs.Bound.{given_value, given_or, default_in, default_spaces, param_at, bound_value, bound_values}
+use Rattle.render.specs.Bound.{given_value, given_or, default_in, param_at, bound_value, bound_values}
 use Rattle.render.specs.Reading.{tree_read, values_with, values_at, all_values}
 
 -- ---- the last of a name

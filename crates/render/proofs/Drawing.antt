@@ -1,5 +1,5 @@
 -- How the micropolygons of a frame are gathered.
-use Rattle.std.proofs.Common.{◌≡◌, arith, suc, refl, sym, ◌∙◌, ap, ℕ, ◌+◌, ◌<◌, Bool, List, [], ◌∷◌, ◌++◌, length, take, get_or, append_assoc}
+use Rattle.std.proofs.Common.{◌≡◌, arith, suc, refl, sym, ◌∙◌, ap, ℕ, ◌+◌, ◌<◌, List, [], ◌∷◌, ◌++◌, ◌≤◌, ◌*◌, length, take, get_or, append_assoc, length-append}
 use Rattle.std.proofs.lemmas.List.{take_more, length-take}
 use Rattle.std.proofs.lemmas.List.Elements.{filter_map-append}
 use Rattle.std.specs.List.{flat_map, enumerate_from}
@@ -12,7 +12,8 @@ use Rattle.hider.specs.Cells.{quad_of}
 use Rattle.render.specs.Still.{quads_of, leaf_quads, prim_quads, prims_quads}
 use Rattle.scene_state.specs.Scene.{PrimValue, FrameValue}
 use Rattle.render.specs.Set.{AcceptedValue}
-use Rattle.render.specs.Pictures.{decide, leaf_cells}
+use Rattle.render.specs.Pictures.{decide, leaf_cells, prim_leaves}
+use Rattle.render.proofs.LeafParts.{few_leaves}
 
 -- one more cell
 pub quads_of-next : (v : View) (f : PrimValue) (cells : List Cell) (i : ℕ) (c : Cell) (before old new : List Quad) → i < length cells → c ≡ get_or cells i c
@@ -49,14 +50,42 @@ enumerate_more n (y ∷ ys) x =
     let e : (n + 1) + length ys ≡ n + suc (length ys) = omega arith in
     ap (λ l. (n, y) ∷ l) (enumerate_more (n + 1) ys x ∙ ap (λ (k : ℕ). enumerate_from (n + 1) ys ++ (k, x) ∷ []) e)
 
+-- what numbered items give, and one more
+numbered-next : {A B : Type 0} (g : ℕ × A → List B) (xs : List A) (i : ℕ) (x : A) → i < length xs → x ≡ get_or xs i x
+    → flat_map g (enumerate_from 0 (take (i + 1) xs)) ≡ flat_map g (enumerate_from 0 (take i xs)) ++ g (i, x)
+numbered-next g xs i x lt is =
+    let more : take (i + 1) xs ≡ take i xs ++ x ∷ [] = take_more xs i x lt ∙ ap (λ d. take i xs ++ d ∷ []) (sym is) in
+    let count : 0 + length (take i xs) ≡ i = let e = length-take i xs in omega (arith, e, lt) in
+    let numbered : enumerate_from 0 (take (i + 1) xs) ≡ enumerate_from 0 (take i xs) ++ (i, x) ∷ [] =
+    ap (enumerate_from 0) more ∙ enumerate_more 0 (take i xs) x ∙ ap (λ (k : ℕ). enumerate_from 0 (take i xs) ++ (k, x) ∷ []) count in
+    ap (flat_map g) numbered ∙ flat_map-append g (enumerate_from 0 (take i xs)) ((i, x) ∷ []) ∙ ap (λ ys. flat_map g (enumerate_from 0 (take i xs)) ++ ys) (append_none (g (i, x)))
+
 -- one more primitive
 pub prims-next : (a : AcceptedValue) (f : FrameValue) (ps : List PrimValue) (i : ℕ) (p : PrimValue) (old new : List Quad) → i < length ps → p ≡ get_or ps i p
     → old ≡ prims_quads a f (take i ps) → new ≡ old ++ prim_quads a f i p → new ≡ prims_quads a f (take (i + 1) ps)
 prims-next a f ps i p old new lt is first next =
-    let more : take (i + 1) ps ≡ take i ps ++ p ∷ [] = take_more ps i p lt ∙ ap (λ d. take i ps ++ d ∷ []) (sym is) in
     let g : (np : ℕ × PrimValue) → List Quad = λ np. prim_quads a f np.0 np.1 in
-    let count : 0 + length (take i ps) ≡ i = let e = length-take i ps in omega (arith, e, lt) in
-    let numbered : enumerate_from 0 (take (i + 1) ps) ≡ enumerate_from 0 (take i ps) ++ (i, p) ∷ [] =
-    ap (enumerate_from 0) more ∙ enumerate_more 0 (take i ps) p ∙ ap (λ (k : ℕ). enumerate_from 0 (take i ps) ++ (k, p) ∷ []) count in
-    next ∙ ap (λ qs. qs ++ prim_quads a f i p) first
-    ∙ sym (ap (flat_map g) numbered ∙ flat_map-append g (enumerate_from 0 (take i ps)) ((i, p) ∷ []) ∙ ap (λ qs. flat_map g (enumerate_from 0 (take i ps)) ++ qs) (append_none (prim_quads a f i p)))
+    next ∙ ap (λ qs. qs ++ prim_quads a f i p) first ∙ sym (numbered-next g ps i p lt is)
+
+-- the leaves of some first primitives
+abbrev pub leaves_of : FrameValue → List PrimValue → List Part
+leaves_of f ps = flat_map (λ np. prim_leaves f np.0 np.1) (enumerate_from 0 ps)
+
+-- those of one more primitive
+leaves-next : (f : FrameValue) (ps : List PrimValue) (i : ℕ) (p : PrimValue) → i < length ps → p ≡ get_or ps i p
+    → length (leaves_of f (take (i + 1) ps)) ≡ length (leaves_of f (take i ps)) + length (prim_leaves f i p)
+leaves-next f ps i p lt is =
+    let g : (np : ℕ × PrimValue) → List Part = λ np. prim_leaves f np.0 np.1 in
+    ap (λ (ls : List Part). length ls) (numbered-next g ps i p lt is) ∙ length-append (leaves_of f (take i ps)) (prim_leaves f i p)
+
+pub counts-next : (f : FrameValue) (ps : List PrimValue) (i : ℕ) (p : PrimValue) (first old new : ℕ) → i < length ps → p ≡ get_or ps i p
+    → old ≡ first + length (leaves_of f (take i ps)) → new ≡ old + length (prim_leaves f i p) → new ≡ first + length (leaves_of f (take (i + 1) ps))
+counts-next f ps i p first old new lt is before more = let sum = leaves-next f ps i p lt is in omega (arith, sum, before, more)
+
+-- no primitive has more than 65,536 leaves
+pub few-next : (f : FrameValue) (ps : List PrimValue) (i : ℕ) (p : PrimValue) → i < length ps → p ≡ get_or ps i p
+    → length (leaves_of f (take i ps)) ≤ 65536 * i → length (leaves_of f (take (i + 1) ps)) ≤ 65536 * (i + 1)
+few-next f ps i p lt is before =
+    let sum = leaves-next f ps i p lt is in
+    let few = few_leaves i (decide f.camera p) in
+    omega (arith, sum, few, before)

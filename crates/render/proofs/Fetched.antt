@@ -1,5 +1,5 @@
 -- What a fetched file says of its shader, and of a scene's text.
-use Rattle.std.proofs.Common.{◌≡◌, ℕ, List, Option, Some, None, Result, Ok, Err, All, [], ◌∷◌, ◌++◌, length, ◌<◌, ◌+◌, cond, refl, sym, ap, ◌∙◌, subst, arith, length-append, false}
+use Rattle.std.proofs.Common.{◌≡◌, ℕ, List, Option, Some, None, Result, Ok, Err, All, [], ◌∷◌, ◌++◌, length, ◌<◌, ◌+◌, cond, refl, sym, ap, ◌∙◌, subst, arith, length-append}
 use Rattle.std.specs.Prelude.{◌≤◌, Vec}
 use Rattle.std.specs.declared.alloc.Global.{Global}
 use Rattle.std.proofs.lemmas.Bool.{lt-ltb, le-ltb}

@@ -1,5 +1,5 @@
 -- The leaves of a primitive: all are parts of it, and there are at most 65,536.
-use Rattle.std.proofs.Common.{◌≡◌, ℕ, zero, suc, ◌+◌, ◌*◌, ◌-◌, ◌^◌, ◌≤◌, List, [], ◌∷◌, ◌++◌, length, refl, ap, sym, ◌∙◌, subst, arith, length-append}
+use Rattle.std.proofs.Common.{◌≡◌, ℕ, zero, suc, ◌+◌, ◌^◌, ◌≤◌, List, [], ◌∷◌, ◌++◌, length, refl, arith, length-append}
 use Rattle.patches.specs.Parts.{Part, whole_of, low_u, high_u, low_v, high_v}
 use Rattle.bound_split.specs.declared.splits.Decision.{Decision}
 use Rattle.bound_split.specs.declared.splits.Decision.TheVariants.{SplitU, SplitV, Dice}

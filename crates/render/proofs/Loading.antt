@@ -1,7 +1,8 @@
 -- A scene and its shaders, and the verdict.
-use Rattle.std.proofs.Common.{◌≡◌, ℕ, List, [], ◌∷◌, map, Option, Some, None, Ok, Err, All, refl, sym, ap, ◌∙◌, subst}
+use Rattle.std.proofs.Common.{◌≡◌, ℕ, List, ◌++◌, map, Option, Some, None, Ok, Err, All, refl, sym, ap, ◌∙◌, subst, Vec}
+use Rattle.std.specs.declared.alloc.Global.{Global}
 use Rattle.outside.specs.Causes.{Told}
-use Rattle.outside.specs.Library.{Files, held_as}
+use Rattle.outside.specs.Library.{Files}
 use Rattle.outside.specs.Asked.{AsksAll, AsksFront}
 use Rattle.outside.proofs.Asking.{asks_front-before, asks_front-behind}
 use Rattle.scene_state.specs.Scene.{SceneValue}
@@ -9,16 +10,18 @@ use Rattle.render.specs.declared.refusal.Refusal.{Refusal}
 use Rattle.render.specs.declared.refusal.Refusal.TheVariants.{Missing, At, ReadFault, NoMemory}
 use Rattle.render.specs.declared.read.ReadShader.{ReadShader}
 use Rattle.render.specs.Causes.{Cause, Reads, unless, cause_in}
-use Rattle.render.specs.Command.{Command}
+use Rattle.stock.specs.Demo.{demo}
+use Rattle.render.specs.Command.{Source, Demo, Command}
+use Rattle.render.specs.Notes.{scene_name}
 use Rattle.render.specs.Shaders.{shader_names, shaders_refused, shaders_asked}
 use Rattle.render.specs.Bindings.{uses_refused}
-use Rattle.render.specs.Verdict.{text_of_held, scene_of_text, accepted, accepted_scene, asked_for_scene, asked_for_text, asked_for_command}
+use Rattle.render.specs.Verdict.{text_of_source, names_of_source, scene_of_text, accepted, accepted_scene, asked_for_scene, asked_for_text, asked_for_command}
 use Rattle.displace_shade.specs.Shop.{set_value}
 use Rattle.render.specs.declared.accepted.Accepted.{Accepted}
 use Rattle.render.specs.declared.shaders.UsedShaders.{UsedShaders}
-use Rattle.render.specs.Set.{AcceptedValue, accepted_with}
+use Rattle.render.specs.Set.{accepted_with}
 use Rattle.render.specs.Reading.{name_of, ArePlaced, IsReadOf, set_read}
-use Rattle.render.specs.Answers.{Because, accepted_in}
+use Rattle.render.specs.Answers.{Because, GivesText, accepted_in}
 use Rattle.render.proofs.ReadAll.{none_refused}
 use Rattle.render.proofs.SetSame.{set_same}
 
@@ -83,26 +86,32 @@ bound (Some files) text scene shaders a is names read placed fits same set =
     shaders_read files text scene shaders.read is names read ∙ ap (λ o. unless o (Ok (accepted_with files scene))) (fits files read)
     ∙ ap (λ v. Ok v) (sym whole)
 
--- the scene's name alone is asked for
-pub scene_asked : (held : Option Files) (c : Command) (o p : Option (List (List ℕ))) → AsksFront (c.name ∷ []) o p
+-- the scene's file alone is asked for
+pub scene_asked : (held : Option Files) (c : Command) (o p : Option (List (List ℕ))) → AsksFront (names_of_source c.source) o p
     → Told held (λ files. AsksFront (asked_for_command (Some c) files) o p)
 scene_asked None c o p one = tt
-scene_asked (Some files) c o p one = asks_front-before (c.name ∷ []) (asked_for_text files (text_of_held c.name (held_as files c.name))) o p one
+scene_asked (Some files) c o p one = asks_front-before (names_of_source c.source) (asked_for_text files (text_of_source files c.source)) o p one
 
 -- and those of its shaders' files behind it
 pub shaders_asked_too : (held held_then : Option Files) (c : Command) (text : List ℕ) (o p q : Option (List (List ℕ))) → held_then ≡ held
-    → Told held (λ files. text_of_held c.name (held_as files c.name) ≡ Ok text) → AsksAll (c.name ∷ []) o p
+    → Told held (λ files. text_of_source files c.source ≡ Ok text) → AsksAll (names_of_source c.source) o p
     → Told held_then (λ files. AsksFront (asked_for_scene files (scene_of_text text)) p q) → Told held (λ files. AsksFront (asked_for_command (Some c) files) o q)
 shaders_asked_too None held_then c text o p q same is one others = tt
 shaders_asked_too (Some files) held_then c text o p q same is one others =
     let told : Told (Some files) (λ fs. AsksFront (asked_for_scene fs (scene_of_text text)) p q) =
     subst (λ h. Told h (λ fs. AsksFront (asked_for_scene fs (scene_of_text text)) p q)) same others in
-    subst (λ r. AsksFront (c.name ∷ asked_for_text files r) o q) (sym is) (asks_front-behind (c.name ∷ []) (asked_for_scene files (scene_of_text text)) o p q one told)
+    subst (λ r. AsksFront (names_of_source c.source ++ asked_for_text files r) o q) (sym is) (asks_front-behind (names_of_source c.source) (asked_for_scene files (scene_of_text text)) o p q one told)
 
 -- the same, where the text is read through a reference
 pub text_asked_too : (held held_then : Option Files) (c : Command) (text seen : List ℕ) (o p q : Option (List (List ℕ))) → held_then ≡ held → seen ≡ text
-    → Told held (λ files. text_of_held c.name (held_as files c.name) ≡ Ok text) → AsksAll (c.name ∷ []) o p
+    → Told held (λ files. text_of_source files c.source ≡ Ok text) → AsksAll (names_of_source c.source) o p
     → Told held_then (λ files. AsksFront (asked_for_scene files (scene_of_text seen)) p q) → Told held (λ files. AsksFront (asked_for_command (Some c) files) o q)
 text_asked_too held held_then c text seen o p q same reads is one others =
     shaders_asked_too held held_then c text o p q same is one
     (subst (λ b. Told held_then (λ files. AsksFront (asked_for_scene files (scene_of_text b)) p q)) reads others)
+
+-- the text of the demonstration scene is read whatever is held
+pub demo_read : (held : Option Files) (source : Source) (count : ℕ) (text : Vec ℕ Global) → source ≡ Demo count → text.items ≡ demo count
+    → Told held (λ files. GivesText (scene_name source) (Ok (Some text)) (text_of_source files source))
+demo_read None source count text is reads = tt
+demo_read (Some files) source count text is reads = ap (text_of_source files) is ∙ ap (λ (t : List ℕ). Ok t) (sym reads)

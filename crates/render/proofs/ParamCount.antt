@@ -1,5 +1,5 @@
 -- Each parameter of a well-typed tree is a node.
-use Rattle.std.proofs.Common.{◌≡◌, ℕ, suc, ◌+◌, ◌≤◌, Bool, true, false, ◌&&◌, List, [], ◌∷◌, ◌++◌, length, map, ap, sym, ◌∙◌, refl, arith, length-append}
+use Rattle.std.proofs.Common.{◌≡◌, ◌≤◌, Bool, true, false, ◌&&◌, List, [], ◌∷◌, length, refl, arith, length-append}
 use Rattle.std.proofs.lemmas.List.{length-map}
 use Rattle.sl_ast.specs.Typed as T
 use Rattle.sl_ast.specs.Typed.{numbers, numbers_defaults, numbers_stmts, numbers_tree}

@@ -1,13 +1,8 @@
 -- Samples of pixels beyond the filter's reach don't count.
-use Rattle.std.proofs.Common.{◌≡◌, ℕ, ◌+◌, ◌-◌, ◌*◌, ◌/◌, ◌%◌, ◌<◌, ◌≤◌, arith, refl, ◌∙◌, false, min}
-use Rattle.std.specs.Prelude.{ℤ, pos, neg_ℤ, ◌≤ℤ◌, ◌<ℤ◌, ◌-ℤ◌, ◌*ℤ◌}
-use Rattle.std.proofs.lemmas.Int.{ints}
+use Rattle.std.proofs.Common.{◌≡◌, ℕ, ◌+◌, ◌-◌, ◌*◌, ◌/◌, ◌%◌, ◌<◌, ◌≤◌, arith, refl, ◌∙◌, min}
 use Rattle.std.proofs.Math.Nat.{mod-lt, mul_comm, mul-le-mul_right}
-use Rattle.fixed_math.specs.Spots.{Spot}
-use Rattle.hider.specs.Samples.{sample_at}
-use Rattle.hider.proofs.Pixels.{IsInPixel, sample_inside}
-use Rattle.scene_state.specs.Settings.{OptionValues}
-use Rattle.filter_ppm.specs.Weight.{counts, weight, weight_at, reach}
+use Rattle.hider.proofs.Pixels.{sample_inside}
+use Rattle.filter_ppm.specs.Weight.{weight_at, reach}
 use Rattle.render.specs.Still.{StillFilm, sample_of, sample_count, spot_of, per_pixel, counts_for}
 use Rattle.render.specs.Still.{IsWindow}
 use Rattle.render.specs.declared.whole.reach.Window.{Window}

@@ -1,10 +1,9 @@
 -- The set that is made of the shaders that are read is that of the files that are held.
-use Rattle.std.proofs.Common.{◌≡◌, ⊎_elim, ℕ, zero, suc, ◌+◌, ◌<◌, Bool, true, false, not, ◌||◌, List, [], ◌∷◌, ◌++◌, filter, length, get_or, map, filter_map, Option, Some, None, Ok, Err, All, cond, refl, sym, ap, ◌∙◌, subst, arith}
+use Rattle.std.proofs.Common.{◌≡◌, ℕ, zero, suc, Bool, true, false, not, ◌||◌, List, [], ◌∷◌, filter, map, Option, Some, None, Ok, All, cond, refl, sym, ap, ◌∙◌, subst}
 use Rattle.std.specs.Prelude.{slice_get}
 use Rattle.std.specs.List.{cons_option}
 use Rattle.std.specs.Option.{option_map, option_or}
 use Rattle.std.specs.Str.{bytes_eq}
-use Rattle.std.proofs.lemmas.Bool.{cases_Bool}
 use Rattle.std.proofs.lemmas.List.Elements.{All-head, All-tail}
 use Rattle.outside.specs.Library.{Files}
 use Rattle.scene_state.specs.declared.uses.ShaderUse.{ShaderUse}
@@ -17,7 +16,7 @@ use Rattle.render.specs.declared.shaders.UsedShaders.{UsedShaders}
 use Rattle.render.specs.Shaders.{shader_tree, without, distinct, use_name, shader_names}
 use Rattle.render.specs.Set.{tree_in, trees_of, place_or, place_in, values_in, set_of}
 use Rattle.render.specs.Reading.{name_of, tree_read, named_use, is_among, IsReadOf, ArePlaced, values_with, values_at, all_values, set_read}
-use Rattle.render.proofs.Names.{same_name, itself}
+use Rattle.render.proofs.Names.{itself}
 use Rattle.render.proofs.Places.{among_placed}
 
 -- ---- names that stand once each

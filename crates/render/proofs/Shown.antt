@@ -1,12 +1,11 @@
 -- What the plain program computes is the picture.
 use Rattle.std.proofs.Common.{◌≡◌, ℕ, ◌+◌, ◌-◌, ◌*◌, ◌/◌, ◌%◌, arith, refl, sym, ◌∙◌, ap, List, [], ◌∷◌, ◌++◌, map}
-use Rattle.std.specs.Prelude.{ℤ, pos, ◌+ℤ◌, ◌*ℤ◌, Option, Some, None}
+use Rattle.std.specs.Prelude.{ℤ, ◌+ℤ◌, ◌*ℤ◌, Option, Some, None}
 use Rattle.std.specs.List.{range_with_len, flat_map, filter_map, cons_option, enumerate_from}
 use Rattle.std.specs.Option.{option_and_then}
 use Rattle.std.proofs.lemmas.List.Elements.{filter_map-append}
-use Rattle.fixed_math.specs.Axes.{part_of}
 use Rattle.fixed_math.specs.declared.vec3.Vec3.{Vec3}
-use Rattle.fixed_math.specs.Spots.{Spot, PixelRect, whole_frame, pixel_count, pixel_x, pixel_y}
+use Rattle.fixed_math.specs.Spots.{Spot, whole_frame, pixel_count, pixel_x, pixel_y}
 use Rattle.patches.specs.Parts.{Part, whole_of}
 use Rattle.bound_split.specs.Leaves.{leaves}
 use Rattle.scene_state.specs.Settings.{OptionValues}
@@ -15,21 +14,18 @@ use Rattle.transforms.specs.declared.view.View.{View}
 use Rattle.hider.specs.declared.cell.Cell.{Cell}
 use Rattle.hider.specs.declared.quad.Quad.{Quad}
 use Rattle.hider.specs.declared.sample.Sample.{Sample}
-use Rattle.hider.specs.declared.fragment.Fragment.{Fragment}
 use Rattle.hider.specs.Cells.{Micropolygon, still, quad_of, seen_at}
 use Rattle.hider.specs.Coverage.{covers}
-use Rattle.hider.specs.Fragments.{fragment_of, covering, fragments, covering_at, fragments_at, by_depth}
+use Rattle.hider.specs.Fragments.{fragment_of, covering, fragments, covering_at, by_depth}
 use Rattle.hider.specs.Composite.{composite}
-use Rattle.hider.specs.Samples.{sample_at, sample_in}
+use Rattle.hider.specs.Samples.{sample_in}
 use Rattle.filter_ppm.specs.Weight.{weight_at}
-use Rattle.filter_ppm.specs.Mean.{sum_of, mean_part, weighted_mean}
+use Rattle.filter_ppm.specs.Mean.{sum_of, weighted_mean}
 use Rattle.filter_ppm.specs.Levels.{levels, header, band}
-use Rattle.render.specs.declared.whole.shown.ShownSample.{ShownSample}
 use Rattle.render.specs.Set.{AcceptedValue}
-use Rattle.render.specs.Film.{FilmValues, samples, pixel, pixels, picture}
-use Rattle.render.specs.Pictures.{decide, leaf_cells, leaf_micropolygons, prim_micropolygons, micropolygons, film_of}
+use Rattle.render.specs.Film.{samples, pixel, picture}
+use Rattle.render.specs.Pictures.{decide, leaf_cells, leaf_micropolygons, prim_micropolygons, micropolygons}
 use Rattle.render.specs.Still.{StillFilm, shown, colour_at, spot_of, sample_of, shown_samples, sample_count, per_pixel, counts_for, mean_about, quads_of, leaf_quads, prim_quads, prims_quads}
-use Rattle.render.proofs.Drawing.{flat_map-append}
 
 -- ---- lists
 pub map_same : {A B : Type 0} (f g : A → B) → ((x : A) → f x ≡ g x) → (xs : List A) → map f xs ≡ map g xs

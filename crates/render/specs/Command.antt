@@ -1,5 +1,6 @@
 -- The words of the command, as clap reads them.
-use Rattle.std.specs.Prelude.{ℕ, Bool, List, [], ◌∷◌, codes, Option, Some, None, true, false, option_and_then, if◌then◌else◌}
+use Rattle.std.specs.Prelude.{ℕ, Bool, List, [], ◌∷◌, codes, Option, Some, None, true, false, ◌&&◌, nat_le, option_and_then, if◌then◌else◌}
+use Rattle.std.specs.List.{list_all}
 use Rattle.std.specs.Str.Parse.{digits_value, without_leading_plus}
 use Rattle.std.specs.Str.{bytes_eq}
 use Rattle.clap.specs.Faults.{fault_of}
@@ -9,6 +10,8 @@ use Rattle.clap.specs.Walk.{Text, Row, Rule, first_of, is_empty}
 use Rattle.clap.specs.declared.builder.action.ArgAction.TheVariants.{SetTrue}
 use Rattle.render.specs.declared.command.Action.{Action}
 use Rattle.render.specs.declared.command.RunOptions.{RunOptions}
+use Rattle.render.specs.declared.command.Source as code
+use Rattle.render.specs.declared.command.Source.TheVariants as sources
 use Rattle.render.specs.declared.command.SceneCommand.{SceneCommand}
 use Rattle.render.specs.declared.command.Action.TheVariants.{Render, Check}
 use Rattle.clap.specs.declared.builder.value_parser.ValueParser.TheVariants.{Unsigned}
@@ -32,9 +35,6 @@ stats_rule = record (new_rule (codes "stats")) { long = Some (codes "stats"); ac
 abbrev pub reyes : App
 reyes = with_rule (with_rule (with_rule (with_rule (with_rule (new_app (codes "reyes")) action_rule) name_rule) bucket_rule) grid_points_rule) stats_rule
 
-abbrev pub action_named : Text → Option Action
-action_named action = if bytes_eq action (codes "render") then Some Render else if bytes_eq action (codes "check") then Some Check else None
-
 -- the number that a text writes, where it is one in this range
 abbrev pub number_in : ℕ → ℕ → Text → Option ℕ
 number_in low high text = if is_unsigned_in low high text then Some (digits_value 10 (without_leading_plus text)) else None
@@ -53,22 +53,45 @@ abbrev pub options_for : Option Text → Option Text → Option Text → Option 
 options_for bucket grid_points stats =
     options_with (option_and_then (number_in 4 64) bucket) (option_and_then (number_in 289 1000000) grid_points) (is_set stats)
 
--- what a command asks for: what is to be done, the name of the scene, and how
+-- where a scene comes from: the file of a name, or the demonstration scene with so many patches
+pub data Source : Type 0 where
+  File : (name : List ℕ) → Source
+  Demo : (count : ℕ) → Source
+
+-- what a command asks for: what is to be done, with which scene, and how
 pub record Command : Type 0 where
   pub action : Action
-  pub name : List ℕ
+  pub source : Source
   pub options : RunOptions
 
-abbrev pub command_with : Option Action → Text → RunOptions → Option Command
-command_with None name options = None
-command_with (Some action) name options = Some (record { action = action; name = name; options = options })
+abbrev pub file_command : Action → Text → RunOptions → Command
+file_command action name options = record { action = action; source = File name; options = options }
 
--- the command, where the action is one that is built
+-- a number of patches is a row of digits
+abbrev pub is_digit : ℕ → Bool
+is_digit b = nat_le 48 b && nat_le b 57
+
+abbrev pub patches_named : Text → Option ℕ
+patches_named text = if list_all is_digit text then number_in 1 1000 text else None
+
+-- the demonstration scene is drawn, and a note tells what was done
+abbrev pub demo_command : Option ℕ → RunOptions → Option Command
+demo_command None options = None
+demo_command (Some count) options = Some (record { action = Render; source = Demo count; options = record options { stats = true } })
+
+-- the command of an action
+abbrev pub command_named : Text → Text → RunOptions → Option Command
+command_named action name options =
+    if bytes_eq action (codes "render") then Some (file_command Render name options)
+    else if bytes_eq action (codes "check") then Some (file_command Check name options)
+    else if bytes_eq action (codes "demo") then demo_command (patches_named name) options
+    else None
+
 abbrev pub command_for : Option Text → Option Text → Option RunOptions → Option Command
 command_for None name options = None
 command_for (Some action) None options = None
 command_for (Some action) (Some name) None = None
-command_for (Some action) (Some name) (Some options) = command_with (action_named action) name options
+command_for (Some action) (Some name) (Some options) = command_named action name options
 
 abbrev pub command_in : List Row → Option Command
 command_in rows =
@@ -80,5 +103,9 @@ abbrev pub command_of : List Text → Option Command
 command_of words = if is_empty (fault_of reyes words) then command_in (matches_of reyes words) else None
 
 -- the command as code has it
+abbrev pub source_view : code.Source → Source
+source_view (sources.File name) = File name.now
+source_view (sources.Demo patches) = Demo patches.count
+
 abbrev pub command_view : SceneCommand → Command
-command_view c = record { action = c.action; name = c.name.now; options = c.options }
+command_view c = record { action = c.action; source = source_view c.source; options = c.options }

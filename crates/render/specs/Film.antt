@@ -1,5 +1,5 @@
 -- The picture of a frame, whole.
-use Rattle.std.specs.Prelude.{ℕ, ◌*◌, List, ◌++◌, map}
+use Rattle.std.specs.Prelude.{ℕ, List, ◌++◌, map}
 use Rattle.std.specs.List.{range_with_len}
 use Rattle.fixed_math.specs.declared.vec3.Vec3.{Vec3}
 use Rattle.fixed_math.specs.Spots.{PixelRect, whole_frame, pixel_count, pixel_x, pixel_y}

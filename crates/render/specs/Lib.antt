@@ -9,6 +9,7 @@ pub mod Bindings
 pub mod Bound
 pub mod Set
 pub mod Shopped
+pub mod Summary
 pub mod Verdict
 pub mod Run
 pub mod Answers

@@ -4,6 +4,7 @@ use Rattle.render.specs.declared.refusal.FileId.{FileId}
 use Rattle.render.specs.declared.refusal.FileId.TheVariants.{Scene, Shader}
 use Rattle.render.specs.Codes.{text_of}
 use Rattle.render.specs.Causes.{Cause, Missing, At}
+use Rattle.render.specs.Command.{Source, File, Demo}
 use Rattle.render.specs.Shaders.{file_of}
 
 -- a file's name in notes, where the scene has this name
@@ -13,6 +14,11 @@ name_in_notes scene (Shader name) = file_of name
 
 abbrev pub fault_line : List ℕ → ℕ → List ℕ → List ℕ
 fault_line file line code = file ++ (codes ":" ++ (decimal line ++ (codes ": " ++ (code ++ codes "\n"))))
+
+-- the name of a command's scene in notes
+abbrev pub scene_name : Source → List ℕ
+scene_name (File name) = name
+scene_name (Demo count) = codes "demo"
 
 -- the line of the notes, where the scene has this name
 abbrev pub note_of : List ℕ → Cause → List ℕ

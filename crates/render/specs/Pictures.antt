@@ -40,11 +40,18 @@ leaf_cells a f prim part (Dice p q) = diced_cells a f prim part p q
 unfoldable pub leaf_micropolygons : AcceptedValue → FrameValue → PrimValue → Part → List Micropolygon
 leaf_micropolygons a f prim part = map (still prim.one_sided prim.flip) (leaf_cells a f prim part (decide f.camera prim part))
 
--- those of primitive n of a frame: of its leaves, one after another
-unfoldable pub prim_micropolygons : AcceptedValue → FrameValue → ℕ → PrimValue → List Micropolygon
-prim_micropolygons a f n prim = flat_map (leaf_micropolygons a f prim) (leaves (decide f.camera prim) (whole_of n))
+-- the leaves of primitive n of a frame, and of all its primitives, each with its number among them
+abbrev pub prim_leaves : FrameValue → ℕ → PrimValue → List Part
+prim_leaves f n prim = leaves (decide f.camera prim) (whole_of n)
 
--- those of a frame: of its primitives, each with its number among them
+abbrev pub frame_leaves : FrameValue → List Part
+frame_leaves f = flat_map (λ np. prim_leaves f np.0 np.1) (enumerate_from 0 f.prims)
+
+-- the micropolygons of primitive n: of its leaves, one after another
+unfoldable pub prim_micropolygons : AcceptedValue → FrameValue → ℕ → PrimValue → List Micropolygon
+prim_micropolygons a f n prim = flat_map (leaf_micropolygons a f prim) (prim_leaves f n prim)
+
+-- those of a frame
 unfoldable pub micropolygons : AcceptedValue → FrameValue → List Micropolygon
 micropolygons a f = flat_map (λ np. prim_micropolygons a f np.0 np.1) (enumerate_from 0 f.prims)
 

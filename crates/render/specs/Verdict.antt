@@ -1,5 +1,5 @@
 -- What a command has to be answered.
-use Rattle.std.specs.Prelude.{ℕ, List, [], ◌∷◌, length, Option, Some, None, Result, Ok, Err, if◌then◌else◌, nat_lt}
+use Rattle.std.specs.Prelude.{ℕ, List, [], ◌∷◌, ◌++◌, length, Option, Some, None, Result, Ok, Err, if◌then◌else◌, nat_lt}
 use Rattle.outside.specs.Library.{Files, held_as}
 use Rattle.outside.specs.Frames.{Picture}
 use Rattle.rib_lex.specs.declared.token.Token.{Token}
@@ -7,13 +7,14 @@ use Rattle.rib_lex.specs.Tokens as tokens
 use Rattle.rib_reader.specs.Reading as reading
 use Rattle.scene_state.specs.Scene.{SceneValue}
 use Rattle.scene_state.specs.Steps as steps
+use Rattle.stock.specs.Demo.{demo}
 use Rattle.render.specs.declared.code.Code.TheVariants.{M10}
 use Rattle.render.specs.declared.command.Action.{Action}
-use Rattle.render.specs.declared.command.Action.TheVariants.{Render, Check}
+use Rattle.render.specs.declared.command.Action.TheVariants.{Render}
 use Rattle.render.specs.declared.refusal.FileId.TheVariants.{Scene}
 use Rattle.render.specs.Causes.{Cause, Missing, At, Reads, unless}
 use Rattle.render.specs.Codes.{status_of_code, of_lex, of_request, of_state}
-use Rattle.render.specs.Command.{Command, command_of}
+use Rattle.render.specs.Command.{Source, File, Demo, Command, command_of}
 use Rattle.render.specs.Shaders.{shader_names, shaders_refused, shaders_asked}
 use Rattle.render.specs.Bindings.{uses_refused}
 use Rattle.render.specs.Set.{AcceptedValue, accepted_with}
@@ -66,9 +67,14 @@ abbrev pub verdict_of_text : Action → Files → Reads (List ℕ) → Verdict
 verdict_of_text action files (Ok text) = verdict_of_scene action (accepted files text)
 verdict_of_text action files (Err cause) = Refused cause
 
+-- the text of a command's scene, or why it isn't read
+abbrev pub text_of_source : Files → Source → Reads (List ℕ)
+text_of_source files (File name) = text_of_held name (held_as files name)
+text_of_source files (Demo count) = Ok (demo count)
+
 abbrev pub verdict_of_command : Option Command → Files → Verdict
 verdict_of_command None files = Usage
-verdict_of_command (Some c) files = verdict_of_text c.action files (text_of_held c.name (held_as files c.name))
+verdict_of_command (Some c) files = verdict_of_text c.action files (text_of_source files c.source)
 
 -- the verdict of a command's words over the files that are held
 abbrev pub verdict : List (List ℕ) → Files → Verdict
@@ -88,7 +94,7 @@ abbrev pub pictures_of : Verdict → List Picture
 pictures_of (Accepted Render accepted) = frames_of accepted
 pictures_of _ = []
 
--- the names to ask for: the scene's, and where it is read those of its shaders' files, up to and with the first that is refused
+-- the names to ask for: that of the scene's file, and where the scene is read those of its shaders' files, up to and with the first that is refused
 abbrev pub asked_for_scene : Files → Reads SceneValue → List (List ℕ)
 asked_for_scene files (Ok scene) = shaders_asked files (shader_names scene.uses)
 asked_for_scene files (Err cause) = []
@@ -97,9 +103,13 @@ abbrev pub asked_for_text : Files → Reads (List ℕ) → List (List ℕ)
 asked_for_text files (Ok text) = asked_for_scene files (scene_of_text text)
 asked_for_text files (Err cause) = []
 
+abbrev pub names_of_source : Source → List (List ℕ)
+names_of_source (File name) = name ∷ []
+names_of_source (Demo count) = []
+
 abbrev pub asked_for_command : Option Command → Files → List (List ℕ)
 asked_for_command None files = []
-asked_for_command (Some c) files = c.name ∷ asked_for_text files (text_of_held c.name (held_as files c.name))
+asked_for_command (Some c) files = names_of_source c.source ++ asked_for_text files (text_of_source files c.source)
 
 abbrev pub asked_of : List (List ℕ) → Files → List (List ℕ)
 asked_of words files = asked_for_command (command_of words) files

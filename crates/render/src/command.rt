@@ -1,11 +1,13 @@
 // The words of the command.
-ghost use Rattle.std.specs.Prelude.{◌≡◌, false, IfOk, option_map, codes};
+ghost use Rattle.std.specs.Prelude.{◌≡◌, ◌≤◌, false, IfOk, IfSome, option_map, codes};
+ghost use Rattle.std.specs.List.{list_all};
 ghost use Rattle.clap.specs.Matches.{found_of, first_value};
 ghost use Rattle.clap.specs.Simple.{app_of};
 ghost use Rattle.clap.specs.Walk.{rule_of};
-ghost use Rattle.render.specs.Command.{reyes, action_rule, name_rule, bucket_rule, grid_points_rule, stats_rule, action_named, number_in, is_set, options_for, command_for, command_of, command_view};
+ghost use Rattle.render.specs.Command.{reyes, action_rule, name_rule, bucket_rule, grid_points_rule, stats_rule, number_in, is_set, is_digit, patches_named, demo_command, file_command, options_for, command_named, command_for, command_of, command_view};
 ghost use Rattle.render.specs.Texts.{texts};
 
+use crate::patch_count::PatchCount;
 use clap::builder::ValueParser;
 use clap::error::ErrorKind;
 use clap::{Arg, ArgAction, ArgMatches, Command};
@@ -28,16 +30,24 @@ pub(crate) struct RunOptions {
     pub bucket: u32,
     /// The most points of the grids that are held shaded at one time, 289 to 1,000,000.
     pub grid_points: u32,
-    /// Whether a note tells what was done.
+    /// Whether a note tells of each frame how much was done.
     pub stats: bool,
 }
 
+/// Where a scene comes from.
+#[derive(Drop)]
+pub(crate) enum Source<'a> {
+    /// The file of this name.
+    File(&'a str),
+    /// The demonstration scene.
+    Demo(PatchCount),
+}
+
 /// What a command asks for.
-#[derive(Debug, Clone, Copy)]
+#[derive(Drop)]
 pub(crate) struct SceneCommand<'a> {
     pub action: Action,
-    /// The scene's name.
-    pub name: &'a str,
+    pub source: Source<'a>,
     pub options: RunOptions,
 }
 
@@ -98,21 +108,10 @@ fn command<'a>(alloc: Global) -> Result<Command<'a>, AllocError>
         .arg(stats_arg(alloc))
 }
 
-fn action_named(action: &str) -> Option<Action>
-    ensures { result ≡ action_named action.now }
-{
-    if action == "render" {
-        Some(Action::Render)
-    } else if action == "check" {
-        Some(Action::Check)
-    } else {
-        None
-    }
-}
-
 // The number that a text writes, where it is one in this range.
 fn number_in(low: u32, high: u32, text: &str) -> Option<u32>
-    ensures { result ≡ number_in low high text.now }
+    ensures number { result ≡ number_in low high text.now }
+    ensures within { IfSome result (λ n. (low ≤ n) × (n ≤ high)) }
 {
     match text.parse::<u32>() {
         Ok(number) if low <= number && number <= high => Some(number),
@@ -140,7 +139,71 @@ fn options_found(matches: &ArgMatches<'_>) -> Option<RunOptions>
     })
 }
 
-// The command among the words that clap found, where the action is one that is built.
+fn is_digit(byte: u8) -> bool
+    ensures { result ≡ is_digit byte }
+{
+    byte.is_ascii_digit()
+}
+
+fn are_digits(bytes: &[u8]) -> bool
+    ensures { result ≡ list_all is_digit bytes.now }
+{
+    bytes.iter().all(|byte| is_digit(*byte))
+}
+
+// The number of patches that a row of digits writes.
+fn patches_named(name: &str) -> Option<PatchCount>
+    ensures { option_map (λ p. p.count) result ≡ patches_named name.now }
+{
+    if !are_digits(name.as_bytes()) {
+        return None;
+    }
+    let count = number_in(1, 1000, name)?;
+    Some(PatchCount { count })
+}
+
+// The command for the demonstration scene, of which a note tells what was done.
+fn demo_command<'a>(name: &str, options: RunOptions) -> Option<SceneCommand<'a>>
+    ensures { option_map command_view result ≡ demo_command (patches_named name.now) options }
+{
+    let patches = patches_named(name)?;
+    Some(SceneCommand {
+        action: Action::Render,
+        source: Source::Demo(patches),
+        options: RunOptions {
+            stats: true,
+            ..options
+        },
+    })
+}
+
+// The command for a scene in a file.
+fn file_command(action: Action, name: &str, options: RunOptions) -> SceneCommand<'_>
+    ensures { command_view result ≡ file_command action name.now options }
+{
+    SceneCommand {
+        action,
+        source: Source::File(name),
+        options,
+    }
+}
+
+// The command of that action, where there is such an action.
+fn command_named<'a>(action: &str, name: &'a str, options: RunOptions) -> Option<SceneCommand<'a>>
+    ensures { option_map command_view result ≡ command_named action.now name.now options }
+{
+    if action == "render" {
+        Some(file_command(Action::Render, name, options))
+    } else if action == "check" {
+        Some(file_command(Action::Check, name, options))
+    } else if action == "demo" {
+        demo_command(name, options)
+    } else {
+        None
+    }
+}
+
+// The command among the words that clap found.
 fn command_found<'a>(matches: &ArgMatches<'a>) -> Option<SceneCommand<'a>>
     ensures { option_map command_view result ≡ command_for (first_value (found_of matches.now) (codes "action")) (first_value (found_of matches.now) (codes "name"))
         (options_for (first_value (found_of matches.now) (codes "bucket")) (first_value (found_of matches.now) (codes "grid-points")) (first_value (found_of matches.now) (codes "stats"))) }
@@ -148,12 +211,7 @@ fn command_found<'a>(matches: &ArgMatches<'a>) -> Option<SceneCommand<'a>>
     let action = matches.get_str("action")?;
     let name = matches.get_str("name")?;
     let options = options_found(matches)?;
-    let action = action_named(action)?;
-    Some(SceneCommand {
-        action,
-        name,
-        options,
-    })
+    command_named(action, name, options)
 }
 
 /// What a command asks for, where its words are in order.

@@ -5,7 +5,7 @@ ghost use Rattle.bound_split.specs.declared.splits.Decision.TheVariants.{Dice};
 ghost use Rattle.displace_shade.specs.Sets.{Fits};
 ghost use Rattle.displace_shade.specs.Shop.{set_value};
 ghost use Rattle.displace_shade.specs.Diced.{grid_value};
-ghost use Rattle.render.specs.Pictures.{decide, grid_cells, diced_cells, picture_bytes};
+ghost use Rattle.render.specs.Pictures.{decide, prim_leaves, frame_leaves, grid_cells, diced_cells, picture_bytes};
 ghost use Rattle.render.specs.Still.{quads_of, prim_quads, prims_quads};
 ghost use Rattle.render.specs.Set.{AcceptedValue};
 ghost use Rattle.render.specs.Shopped.{shaded_by};
@@ -23,11 +23,13 @@ use patches::Piece;
 use scene_state::{Frame, Prim};
 use std::alloc::Global;
 
-/// The bytes of a picture: its header, and its pixels by rows.
+/// A picture: the bytes of its header and those of its pixels by rows.
 #[derive(Drop)]
 pub(crate) struct Drawn {
     pub(crate) header: Vec<u8>,
     pub(crate) band: Vec<u8>,
+    /// How many grids were shaded for it.
+    pub(crate) shadings: u64,
 }
 
 // The micropolygons of a shaded grid.
@@ -68,12 +70,7 @@ fn cells_in(
 }
 
 // Appends what the camera sees of a micropolygon of a primitive.
-fn push_quad(
-    frame: &Frame,
-    prim: &Prim,
-    cell: &Cell,
-    quads: &mut Vec<Quad>,
-) -> Result<(), NoMemory>
+fn push_quad(frame: &Frame, prim: &Prim, cell: &Cell, quads: &mut Vec<Quad>) -> Result<(), NoMemory>
     ensures { IfOk result (λ _. quads.new.items ≡ quads.old.items ++ quads_of frame.now.camera prim.now (cell.now ∷ [])) }
 {
     if let Some(quad) = quad_of(&frame.camera, cell, prim.one_sided, prim.flip) {
@@ -121,7 +118,7 @@ fn push_prim(
     requires count { shop.old.count + 65536 ≤ 2 ^ 62 }
     ensures quads { IfOk result (λ _. quads.new.items ≡ quads.old.items ++ prim_quads (shaded_by shown.now.scene.now shop.old) shown.now.frame.now number prim.now) }
     ensures set { OnOk result (shop.new.set ≡ shop.old.set) }
-    ensures count { OnOk result (shop.new.count ≤ shop.old.count + 65536) }
+    ensures count { OnOk result (shop.new.count ≡ shop.old.count + length (prim_leaves shown.now.frame.now number prim.now)) }
 {
     let mut walk = Walk::new(Piece::whole(number));
     while let Some(leaf) = next_leaf(&mut walk, shown.frame, prim) {
@@ -145,6 +142,7 @@ fn quads_in(alloc: Global, shop: &mut Shop, shown: &FrameIn<'_>) -> Result<Vec<Q
     requires count { shop.old.count + 2 ^ 32 ≤ 2 ^ 62 }
     ensures quads { IfOk result (λ quads. quads.items ≡ prims_quads (shaded_by shown.now.scene.now shop.old) shown.now.frame.now shown.now.frame.now.prims) }
     ensures set { OnOk result (shop.new.set ≡ shop.old.set) }
+    ensures leaves { OnOk result (shop.new.count ≡ shop.old.count + length (frame_leaves shown.now.frame.now)) }
     ensures count { OnOk result (shop.new.count ≤ shop.old.count + 2 ^ 32) }
 {
     let prims = prims_of(shown.frame);
@@ -164,8 +162,9 @@ fn quads_in(alloc: Global, shop: &mut Shop, shown: &FrameIn<'_>) -> Result<Vec<Q
 
 // The picture of a frame whose micropolygons are these.
 #[tactic(auto, unfolding(crate::specs::Pictures::picture_bytes))]
-fn picture(alloc: Global, frame: &Frame, quads: Vec<Quad>) -> Result<Drawn, NoMemory>
-    ensures { IfOk result (λ d. (a : AcceptedValue) → quads.items ≡ prims_quads a frame.now frame.now.prims → d.header.items ++ d.band.items ≡ picture_bytes a frame.now) }
+fn picture(alloc: Global, frame: &Frame, quads: Vec<Quad>, shadings: u64) -> Result<Drawn, NoMemory>
+    ensures shadings { IfOk result (λ d. d.shadings ≡ shadings) }
+    ensures bytes { IfOk result (λ d. (a : AcceptedValue) → quads.items ≡ prims_quads a frame.now frame.now.prims → d.header.items ++ d.band.items ≡ picture_bytes a frame.now) }
 {
     let view = frame.camera.view();
     let (width, height) = (view.width, view.height);
@@ -182,6 +181,7 @@ fn picture(alloc: Global, frame: &Frame, quads: Vec<Quad>) -> Result<Drawn, NoMe
     Ok(Drawn {
         header: header(alloc, width, height, &film.options)?,
         band: band_bytes(alloc, &film.options, &pixels)?,
+        shadings,
     })
 }
 
@@ -189,10 +189,13 @@ fn picture(alloc: Global, frame: &Frame, quads: Vec<Quad>) -> Result<Drawn, NoMe
 pub(crate) fn draw(alloc: Global, shop: &mut Shop, shown: &FrameIn<'_>) -> Result<Drawn, NoMemory>
     requires fits { Fits (set_value shop.old.set) shown.now.scene.now.uses }
     requires count { shop.old.count + 2 ^ 32 ≤ 2 ^ 62 }
+    ensures shadings { IfOk result (λ d. d.shadings ≡ length (frame_leaves shown.now.frame.now)) }
     ensures picture { IfOk result (λ d. d.header.items ++ d.band.items ≡ picture_bytes (shaded_by shown.now.scene.now shop.old) shown.now.frame.now) }
     ensures set { OnOk result (shop.new.set ≡ shop.old.set) }
     ensures count { OnOk result (shop.new.count ≤ shop.old.count + 2 ^ 32) }
 {
+    let before = shop.count();
     let quads = quads_in(alloc, shop, shown)?;
-    picture(alloc, shown.frame, quads)
+    let shadings = shop.count() - before;
+    picture(alloc, shown.frame, quads, shadings)
 }

@@ -9,6 +9,7 @@ mod command;
 mod draw;
 mod frame_in;
 mod load;
+mod patch_count;
 mod program;
 mod read;
 mod refusal;

@@ -3,20 +3,22 @@ ghost use Rattle.std.specs.Prelude.{◌≡◌, ◌≤◌, ◌∷◌, [], IsErrOf
 ghost use Rattle.outside.specs.Causes.{Rose, Told};
 ghost use Rattle.outside.specs.Library.{Files, held_as};
 ghost use Rattle.outside.specs.Asked.{AsksAll, AsksFront};
-ghost use Rattle.render.specs.Verdict.{text_of_held, verdict_of_command, asked_for_command};
+ghost use Rattle.render.specs.Verdict.{text_of_held, text_of_source, names_of_source, verdict_of_command, asked_for_command};
 ghost use Rattle.displace_shade.specs.Sets.{Fits};
 ghost use Rattle.displace_shade.specs.Shop.{set_value};
-ghost use Rattle.render.specs.Command.{command_view};
+ghost use Rattle.render.specs.Command.{source_view, command_view};
+ghost use Rattle.render.specs.Notes.{scene_name};
 ghost use Rattle.render.specs.Answers.{GivesText, LoadsNamed};
 ghost use Rattle.render.specs.declared.refusal.Refusal.TheVariants.{ReadFault};
 
 use crate::acceptance::accept;
 use crate::accepted::Accepted;
 use crate::code::Code;
-use crate::command::SceneCommand;
+use crate::command::{SceneCommand, Source};
 use crate::refusal::{Refusal, in_scene};
 use outside::{Fetch, Library};
 use std::alloc::Global;
+use stock::demo;
 
 /// The most bytes of a scene file.
 pub const MOST_BYTES: u64 = 16777216;
@@ -45,6 +47,26 @@ fn fetch_text<L: Library>(
     }
 }
 
+// The text of a scene, or none where the library lacks it.
+fn text_of<L: Library>(
+    alloc: Global,
+    library: &mut L,
+    source: &Source<'_>,
+) -> Result<Option<Vec<u8>>, Refusal>
+    ensures size { IfOk result (λ t. IfSome t (λ text. length text.items ≤ 16777216)) }
+    ensures held { L.held library.new ≡ L.held library.old }
+    ensures asked { AsksFront (names_of_source (source_view source.now)) (L.asked library.old) (L.asked library.new) }
+    ensures asked_all { OnOk result (AsksAll (names_of_source (source_view source.now)) (L.asked library.old) (L.asked library.new)) }
+    ensures gives { Told (L.held library.old) (λ files. GivesText (scene_name (source_view source.now)) result (text_of_source files (source_view source.now))) }
+    ensures later { L.faults library.old ≤ L.faults library.new }
+    ensures read { IsErrOf result ReadFault → Rose (L.faults library.old) (L.faults library.new) }
+{
+    match source {
+        Source::File(name) => fetch_text(alloc, library, name),
+        Source::Demo(patches) => Ok(Some(demo(alloc, patches.count)?)),
+    }
+}
+
 /// The scene of a command with its shaders, where all is right; none where the library lacks it.
 pub(crate) fn load<L: Library>(
     alloc: Global,
@@ -53,13 +75,13 @@ pub(crate) fn load<L: Library>(
 ) -> Result<Option<Accepted>, Refusal>
     ensures held { L.held library.new ≡ L.held library.old }
     ensures asked { Told (L.held library.old) (λ files. AsksFront (asked_for_command (Some (command_view command.now)) files) (L.asked library.old) (L.asked library.new)) }
-    ensures loads { Told (L.held library.old) (λ files. LoadsNamed command.now.name.now command.now.action result (verdict_of_command (Some (command_view command.now)) files)) }
+    ensures loads { Told (L.held library.old) (λ files. LoadsNamed (scene_name (source_view command.now.source)) command.now.action result (verdict_of_command (Some (command_view command.now)) files)) }
     ensures fits { IfOk result (λ o. IfSome o (λ a. Fits (set_value a.set) a.scene.uses)) }
     ensures few { IfOk result (λ o. IfSome o (λ a. length a.scene.frames ≤ 1000)) }
     ensures later { L.faults library.old ≤ L.faults library.new }
     ensures read { IsErrOf result ReadFault → Rose (L.faults library.old) (L.faults library.new) }
 {
-    match fetch_text(alloc, library, command.name)? {
+    match text_of(alloc, library, &command.source)? {
         None => Ok(None),
         Some(text) => Ok(Some(accept(alloc, &text, library)?)),
     }

@@ -4,15 +4,15 @@ ghost use Rattle.outside.specs.Causes.{Rose, Told};
 ghost use Rattle.outside.specs.Asked.{AsksFront};
 ghost use Rattle.render.specs.Texts.{texts};
 ghost use Rattle.render.specs.Run.{IsUsage, draws, draws_action, IsAccepted, HasStatus, AnswersVerdict, IsRefused, AddsFrames, AddsFirstFrames, AsksFirstNames};
-ghost use Rattle.render.specs.Command.{command_view};
+ghost use Rattle.render.specs.Command.{source_view, command_view};
 ghost use Rattle.render.specs.Verdict.{verdict, verdict_of_command, asked_for_command};
 ghost use Rattle.render.specs.Causes.{Cause};
-ghost use Rattle.render.specs.Notes.{name_in_notes, fault_line, note_of};
+ghost use Rattle.render.specs.Notes.{scene_name, name_in_notes, fault_line, note_of};
 ghost use Rattle.render.specs.Answers.{Agrees, ComesBefore, number_of, cause_told};
 ghost use Rattle.render.specs.declared.program.Answer.TheVariants.{Usage, Refused, WriteFault, NoMemory as OutOfMemory};
 ghost use Rattle.render.specs.declared.refusal.Refusal.TheVariants.{ReadFault};
 
-use crate::command::{Action, SceneCommand, scene_command};
+use crate::command::{Action, SceneCommand, Source, scene_command};
 use crate::load::load;
 use crate::refusal::{FileId, Refusal};
 use crate::write::{Stop, write_pictures};
@@ -34,15 +34,16 @@ enum Answer {
 }
 
 // Carries out a command.
-fn obeyed<L: Library, O: FrameSink>(
+fn obeyed<L: Library, O: FrameSink, N: Notes>(
     alloc: Global,
     command: &SceneCommand<'_>,
     library: &mut L,
     frames: &mut O,
+    notes: &mut N,
 ) -> Answer
     requires { O.is_open frames.old ≡ false }
     ensures command { result ≢ Usage }
-    ensures verdict { Told (L.held library.old) (λ files. Agrees command.now.name.now result (verdict_of_command (Some (command_view command.now)) files) (O.written frames.old) (O.written frames.new)) }
+    ensures verdict { Told (L.held library.old) (λ files. Agrees (scene_name (source_view command.now.source)) result (verdict_of_command (Some (command_view command.now)) files) (O.written frames.old) (O.written frames.new)) }
     ensures before { ComesBefore result → O.written frames.new ≡ O.written frames.old }
     ensures closed { result ≢ WriteFault → O.is_open frames.new ≡ false }
     ensures unwritten { draws_action command.now.action ≡ false → O.written frames.new ≡ O.written frames.old }
@@ -61,7 +62,13 @@ fn obeyed<L: Library, O: FrameSink>(
     };
     match command.action {
         Action::Check => Answer::Done,
-        Action::Render => match write_pictures(alloc, frames, accepted) {
+        Action::Render => match write_pictures(
+            alloc,
+            frames,
+            notes,
+            accepted,
+            command.options.stats,
+        ) {
             Ok(()) => Answer::Done,
             Err(Stop::Stopped) => Answer::WriteFault,
             Err(Stop::NoMemory) => Answer::NoMemory,
@@ -69,12 +76,23 @@ fn obeyed<L: Library, O: FrameSink>(
     }
 }
 
+// The name of a command's scene in notes.
+fn scene_name<'a>(source: &Source<'a>) -> &'a str
+    ensures { result.now ≡ scene_name (source_view source.now) }
+{
+    match source {
+        Source::File(name) => name,
+        Source::Demo(_) => "demo",
+    }
+}
+
 // All but the note: what the words come to, and the scene's name.
-fn answered<'a, L: Library, O: FrameSink>(
+fn answered<'a, L: Library, O: FrameSink, N: Notes>(
     alloc: Global,
     words: &'a [&'a str],
     library: &mut L,
     frames: &mut O,
+    notes: &mut N,
 ) -> (Answer, &'a str)
     requires { O.is_open frames.old ≡ false }
     ensures usage { result.0 ≡ Usage → IsUsage (texts words.now) }
@@ -92,7 +110,10 @@ fn answered<'a, L: Library, O: FrameSink>(
     ensures write { result.0 ≡ WriteFault → Rose (O.faults frames.old) (O.faults frames.new) }
 {
     match scene_command(alloc, words) {
-        Ok(Some(command)) => (obeyed(alloc, &command, library, frames), command.name),
+        Ok(Some(command)) => (
+            obeyed(alloc, &command, library, frames, notes),
+            scene_name(&command.source),
+        ),
         Ok(None) => (Answer::Usage, ""),
         Err(_) => (Answer::NoMemory, ""),
     }
@@ -165,10 +186,12 @@ fn status(answer: &Answer, note: &Result<Option<String>, NoMemory>) -> u8
 }
 
 /// Runs a command: its words are `reyes ACTION NAME [--bucket B] [--grid-points G] [--stats]` as `clap` reads them, where the
-/// action is `render` or `check` and NAME names a scene file; B is 4 to 64 and G is 289 to 1,000,000, and the three options have
-/// no effect yet. The scene is asked of the library and read to its end, and then each shader x that a primitive of it uses, once,
-/// by first use: the file `x.sl`, or the stock text of x where there is no such file. With `render` the frames then go to the sink,
-/// each drawn whole before it is begun; with `check` nothing is written. No frame of the sink may be open.
+/// action is `render` or `check` and NAME names a scene file, or it is `demo` and NAME is a row of digits, the number of patches
+/// of the demonstration scene, 1 to 1,000; B is 4 to 64 and G is 289 to 1,000,000, and these two have no effect yet. The scene's
+/// file is asked of the library and read to its end, and then each shader x that a primitive of it uses, once, by first use: the
+/// file `x.sl`, or the stock text of x where there is no such file. With `render` and `demo` the frames then go to the sink, each
+/// drawn whole before it is begun; with `check` nothing is written. No frame of the sink may be open. With `--stats`, and always
+/// with `demo`, a line of the notes tells of each frame behind its end how many grids were shaded for it.
 ///
 /// The answer is a status: 0 done; 2 the words are no command, or they ask for help; 3 the scene or a shader has a fault of syntax,
 /// or the scene one of nesting; 4 a shader has a fault of types, or a
@@ -217,7 +240,7 @@ pub fn run<'a, L: Library, O: FrameSink, N: Notes>(
     ensures library_later { L.faults library.old ≤ L.faults library.new }
     ensures sink_later { O.faults frames.old ≤ O.faults frames.new }
 {
-    let (answer, scene) = answered(alloc, words, library, frames);
+    let (answer, scene) = answered(alloc, words, library, frames, notes);
     let note = note(alloc, scene, &answer);
     tell(notes, &note);
     status(&answer, &note)

@@ -1,10 +1,11 @@
 // Pictures to a sink.
-ghost use Rattle.std.specs.Prelude.{◌≡◌, ◌≢◌, ◌≤◌, ◌+◌, ◌^◌, ◌∷◌, [], ◌++◌, true, false, length, map, OnOk, OnErr, IsErrOf, Err};
+ghost use Rattle.std.specs.Prelude.{◌≡◌, ◌≢◌, ◌≤◌, ◌+◌, ◌^◌, ◌∷◌, [], ◌++◌, true, false, length, map, option_map, string_bytes, IfOk, OnOk, OnErr, IsErrOf, Err};
 ghost use Rattle.outside.specs.Causes.{HasCause, Rose};
 ghost use Rattle.outside.specs.Frames.{Adds, AddsPart, AddsFront, whole, PutsAll, PutsFront};
 ghost use Rattle.displace_shade.specs.Sets.{Fits};
 ghost use Rattle.displace_shade.specs.Shop.{set_value};
-ghost use Rattle.render.specs.Pictures.{picture_of, frames_of};
+ghost use Rattle.render.specs.Pictures.{picture_bytes, picture_of, frames_of};
+ghost use Rattle.render.specs.Summary.{summary_line, summary_of};
 ghost use Rattle.render.specs.Shopped.{shaded_by};
 ghost use Rattle.render.specs.Answers.{accepted_in};
 ghost use Rattle.render.specs.declared.write.Stop.TheVariants.{Stopped};
@@ -13,7 +14,8 @@ use crate::accepted::Accepted;
 use crate::draw::{Drawn, draw};
 use crate::frame_in::FrameIn;
 use displace_shade::Shop;
-use outside::{Failed, FrameSink, put_all};
+use fixed_math::NoMemory;
+use outside::{Failed, FrameSink, Notes, put_all};
 use scene_state::{Frame, Scene};
 use std::alloc::Global;
 
@@ -57,12 +59,51 @@ fn name_of(frame: &Frame) -> &str
     frame.name.as_str()
 }
 
-// Draws a frame whole, and then writes it.
-fn write_frame<O: FrameSink>(
+// The line that tells how many grids were shaded for a frame, and in how many epochs.
+fn summary(alloc: Global, name: &str, shadings: u64, epochs: u64) -> Result<String, NoMemory>
+    ensures { IfOk result (λ t. string_bytes t ≡ summary_line name.now shadings epochs) }
+{
+    Ok(format!(in alloc; "{name}: {shadings} shadings, {epochs} epochs\n")?)
+}
+
+// A frame drawn whole, and the line that tells of it, where one is wanted.
+fn finished(
     alloc: Global,
-    sink: &mut O,
     shop: &mut Shop,
     shown: &FrameIn<'_>,
+    stats: bool,
+) -> Result<(Drawn, Option<String>), NoMemory>
+    requires fits { Fits (set_value shop.old.set) shown.now.scene.now.uses }
+    requires count { shop.old.count + 2 ^ 32 ≤ 2 ^ 62 }
+    ensures picture { IfOk result (λ d. d.0.header.items ++ d.0.band.items ≡ picture_bytes (shaded_by shown.now.scene.now shop.old) shown.now.frame.now) }
+    ensures summary { IfOk result (λ d. option_map string_bytes d.1 ≡ summary_of stats shown.now.frame.now) }
+    ensures set { OnOk result (shop.new.set ≡ shop.old.set) }
+    ensures count { OnOk result (shop.new.count ≤ shop.old.count + 2 ^ 32) }
+{
+    let drawn = draw(alloc, shop, shown)?;
+    if stats {
+        let line = summary(alloc, name_of(shown.frame), drawn.shadings, 1)?;
+        Ok((drawn, Some(line)))
+    } else {
+        Ok((drawn, None))
+    }
+}
+
+// Gives the line of a summary to the user.
+fn tell<N: Notes>(notes: &mut N, line: &Option<String>) {
+    if let Some(text) = line {
+        let _ = notes.line(text.as_bytes());
+    }
+}
+
+// Draws a frame whole, and then writes it and tells of it.
+fn write_frame<O: FrameSink, N: Notes>(
+    alloc: Global,
+    sink: &mut O,
+    notes: &mut N,
+    shop: &mut Shop,
+    shown: &FrameIn<'_>,
+    stats: bool,
 ) -> Result<(), Stop>
     requires closed { O.is_open sink.old ≡ false }
     requires fits { Fits (set_value shop.old.set) shown.now.scene.now.uses }
@@ -75,13 +116,14 @@ fn write_frame<O: FrameSink>(
     ensures set { OnOk result (shop.new.set ≡ shop.old.set) }
     ensures count { OnOk result (shop.new.count ≤ shop.old.count + 2 ^ 32) }
 {
-    let Ok(drawn) = draw(alloc, shop, shown) else {
+    let Ok((drawn, line)) = finished(alloc, shop, shown, stats) else {
         return Err(Stop::NoMemory);
     };
-    match write_picture(sink, name_of(shown.frame), &drawn) {
-        Ok(()) => Ok(()),
-        Err(_) => Err(Stop::Stopped),
-    }
+    let Ok(()) = write_picture(sink, name_of(shown.frame), &drawn) else {
+        return Err(Stop::Stopped);
+    };
+    tell(notes, &line);
+    Ok(())
 }
 
 // The frames of a scene.
@@ -92,11 +134,13 @@ fn frames_in(scene: &Scene) -> &[Frame]
 }
 
 // Writes the frames of a scene in order, each drawn whole before it is begun.
-fn write_frames<O: FrameSink>(
+fn write_frames<O: FrameSink, N: Notes>(
     alloc: Global,
     sink: &mut O,
+    notes: &mut N,
     shop: &mut Shop,
     scene: &Scene,
+    stats: bool,
 ) -> Result<(), Stop>
     requires closed { O.is_open sink.old ≡ false }
     requires fits { Fits (set_value shop.old.set) scene.now.uses }
@@ -115,16 +159,19 @@ fn write_frames<O: FrameSink>(
             index,
             frame: &frames[index],
         };
-        write_frame(alloc, sink, shop, &shown)?;
+        write_frame(alloc, sink, notes, shop, &shown, stats)?;
     }
     Ok(())
 }
 
-/// Writes the pictures of an accepted scene in order, each drawn whole before it is begun.
-pub(crate) fn write_pictures<O: FrameSink>(
+/// Writes the pictures of an accepted scene in order, each drawn whole before it is begun. Where it is wanted, a line of the notes
+/// tells of each behind its end.
+pub(crate) fn write_pictures<O: FrameSink, N: Notes>(
     alloc: Global,
     sink: &mut O,
+    notes: &mut N,
     accepted: Accepted,
+    stats: bool,
 ) -> Result<(), Stop>
     requires closed { O.is_open sink.old ≡ false }
     requires fits { Fits (set_value accepted.set) accepted.scene.uses }
@@ -137,5 +184,5 @@ pub(crate) fn write_pictures<O: FrameSink>(
 {
     let scene = accepted.scene;
     let mut shop = Shop::new(alloc, accepted.set);
-    write_frames(alloc, sink, &mut shop, &scene)
+    write_frames(alloc, sink, notes, &mut shop, &scene, stats)
 }

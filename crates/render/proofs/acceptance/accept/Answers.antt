@@ -4,7 +4,7 @@ use Rattle.outside.specs.Causes.{Told}
 use Rattle.displace_shade.specs.Sets.{SetValue, Fits}
 use Rattle.render.specs.declared.accepted.Accepted.{Accepted}
 use Rattle.render.specs.Verdict.{accepted}
-use Rattle.render.specs.Reading.{tree_read, set_read}
+use Rattle.render.specs.Reading.{tree_read}
 use Rattle.render.specs.Answers.{Gives, accepted_in}
 use Rattle.render.proofs.Loading.{read_asked, unbound, bound}
 use Rattle.render.proofs.acceptance.accept.Goals as goal

@@ -1,4 +1,4 @@
-use Rattle.std.proofs.Common.{◌≡◌, ◌≤◌, ℕ, List, length, map, get_or, ap, ◌∙◌, sym, subst, Err, All, refl, arith}
+use Rattle.std.proofs.Common.{◌≡◌, ℕ, List, length, map, get_or, ap, ◌∙◌, sym, subst, Err, All, arith}
 use Rattle.std.proofs.lemmas.Result.{err_from_is_err_and}
 use Rattle.render.specs.Bindings.{uses_refused}
 use Rattle.std.specs.Prelude.{slice_get}

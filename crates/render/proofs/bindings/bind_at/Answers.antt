@@ -1,6 +1,4 @@
-use Rattle.std.proofs.Common.{ap, sym}
 use Rattle.render.proofs.Bound.{bound_by}
-use Rattle.render.proofs.BoundValues.{at_place, fit_place}
 use Rattle.render.proofs.Places.{within}
 use Rattle.render.proofs.bindings.bind_at.Goals as goal
 

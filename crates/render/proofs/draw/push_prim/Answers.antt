@@ -1,4 +1,4 @@
-use Rattle.std.proofs.Common.{◌≡◌, ◌≤◌, ◌+◌, ◌++◌, ◌∷◌, [], refl, ap, sym, ◌∙◌, subst, List, length, arith}
+use Rattle.std.proofs.Common.{◌≡◌, ◌+◌, ◌++◌, ◌∷◌, [], refl, ap, sym, ◌∙◌, subst, List, length, arith}
 use Rattle.std.specs.Prelude.{slice_get}
 use Rattle.patches.specs.Parts.{Part, whole_of}
 use Rattle.bound_split.specs.Leaves.{leaves, pending}
@@ -23,7 +23,7 @@ loop-leaf-init c =
       quads = rw (c.new-walk.ensures.value, c.whole.ensures) refl;
       parts = subst (PartsOf n) (sym all) (leaves_are_parts n d);
       set = refl;
-      count = let few = few_leaves n d in let same = ap length all in omega (arith, few, same);
+      count = ap (λ ps. c.args.shop.now.count + length ps) all;
     }
 
 pub cells_in-requires-clause-fits : goal.cells_in-requires-clause-fits
@@ -38,7 +38,8 @@ cells_in-requires-clause-there c =
 pub cells_in-requires-clause-count : goal.cells_in-requires-clause-count
 cells_in-requires-clause-count c =
     let some = ap length c.in-Some.ensures.leaf in
-    omega (arith, some, c.loop-leaf.invariant.count, c.requires.count)
+    let few = few_leaves c.args.number (decide c.args.shown.now.frame.now.camera c.args.prim.now) in
+    omega (arith, some, few, c.loop-leaf.invariant.count, c.requires.count)
 
 pub loop-leaf-preserved : goal.loop-leaf-preserved
 loop-leaf-preserved c =

@@ -1,7 +1,7 @@
-use Rattle.std.proofs.Common.{◌≡◌, ◌≤◌, ◌+◌, ◌++◌, length}
+use Rattle.std.proofs.Common.{◌≡◌, ◌+◌, ◌++◌, length}
 use Rattle.std.specs.List.{flat_map}
 use Rattle.bound_split.specs.Leaves.{pending}
-use Rattle.render.specs.Pictures.{decide}
+use Rattle.render.specs.Pictures.{decide, prim_leaves}
 use Rattle.render.specs.Shopped.{shaded_by}
 use Rattle.render.specs.Still.{leaf_quads, prim_quads}
 use Rattle.render.proofs.LeafParts.{PartsOf}
@@ -15,7 +15,7 @@ invariant-loop-leaf l =
       quads : l.quads.items ++ flat_map (leaf_quads a f l.prim) (pending (decide f.camera l.prim) l.walk) ≡ l.initial.quads.items ++ prim_quads a f l.number l.prim;
       parts : PartsOf l.number (pending (decide f.camera l.prim) l.walk);
       set : l.shop.set ≡ l.initial.shop.set;
-      count : l.shop.count + length (pending (decide f.camera l.prim) l.walk) ≤ l.initial.shop.count + 65536;
+      count : l.shop.count + length (pending (decide f.camera l.prim) l.walk) ≡ l.initial.shop.count + length (prim_leaves f l.number l.prim);
     }
 
 abbrev pub decreases-loop-leaf : goal.decreases-loop-leaf

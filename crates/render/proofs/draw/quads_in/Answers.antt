@@ -1,14 +1,13 @@
-use Rattle.std.proofs.Common.{◌≡◌, ◌≤◌, ◌<◌, ◌+◌, ◌*◌, ◌++◌, Some, ap, sym, ◌∙◌, subst, List, length, take, arith}
+use Rattle.std.proofs.Common.{◌<◌, ◌++◌, Some, ap, sym, ◌∙◌, subst, List, length, arith}
 use Rattle.std.specs.Prelude.{slice_get}
 use Rattle.std.proofs.lemmas.Option.{slice_get-get_or}
-use Rattle.hider.specs.declared.quad.Quad.{Quad}
 use Rattle.scene_state.specs.Scene.{PrimValue}
 use Rattle.displace_shade.specs.Sets.{Fits}
 use Rattle.displace_shade.specs.Shop.{set_value}
 use Rattle.displace_shade.specs.declared.set.ShaderSet.{ShaderSet}
 use Rattle.render.specs.Shopped.{shaded_by}
-use Rattle.render.specs.Still.{prim_quads, prims_quads}
-use Rattle.render.proofs.Drawing.{prims-next}
+use Rattle.render.specs.Still.{prim_quads}
+use Rattle.render.proofs.Drawing.{prims-next, counts-next, few-next}
 use Rattle.render.proofs.draw.quads_in.Goals as goal
 
 pub push_prim-requires-clause-fits : goal.push_prim-requires-clause-fits
@@ -24,7 +23,7 @@ push_prim-requires-clause-there c =
 pub push_prim-requires-clause-count : goal.push_prim-requires-clause-count
 push_prim-requires-clause-count c =
     let low : c.loop-number.number < length c.prims_of-prims.result.now = c.loop-number-test.true in
-    omega (arith, low, c.prims_of-prims.ensures.few, c.loop-number.invariant.count, c.requires.count)
+    omega (arith, low, c.prims_of-prims.ensures.few, c.loop-number.invariant.count, c.loop-number.invariant.few, c.requires.count)
 
 pub loop-number-preserved : goal.loop-number-preserved
 loop-number-preserved c =
@@ -40,5 +39,7 @@ loop-number-preserved c =
       quads = prims-next a f c.prims_of-prims.result.now n p old c.push_prim.new.quads.items
           c.loop-number-test.true c.index-prims-number.is c.loop-number.invariant.quads grown;
       set = c.in_ok-push_prim.ensures.set ∙ c.loop-number.invariant.set;
-      count = omega (arith, c.loop-number.invariant.count, c.in_ok-push_prim.ensures.count);
+      count = counts-next f c.prims_of-prims.result.now n p c.args.shop.now.count c.loop-number.shop.count c.push_prim.new.shop.count
+          c.loop-number-test.true c.index-prims-number.is c.loop-number.invariant.count c.in_ok-push_prim.ensures.count;
+      few = few-next f c.prims_of-prims.result.now n p c.loop-number-test.true c.index-prims-number.is c.loop-number.invariant.few;
     }

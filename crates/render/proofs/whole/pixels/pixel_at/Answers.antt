@@ -1,8 +1,8 @@
-use Rattle.std.proofs.Common.{◌≡◌, ◌∙◌, ap, sym, ◌/◌, ◌%◌, ℕ, List}
+use Rattle.std.proofs.Common.{◌∙◌, ap, ◌/◌, ◌%◌, ℕ, List}
 use Rattle.scene_state.specs.Settings.{OptionValues}
 use Rattle.filter_ppm.specs.Levels.{levels}
 use Rattle.render.specs.Film.{pixel}
-use Rattle.render.specs.Still.{StillFilm, shown, mean_about}
+use Rattle.render.specs.Still.{StillFilm, mean_about}
 use Rattle.render.specs.declared.whole.shown.ShownSample.{ShownSample}
 use Rattle.render.proofs.Shown.{means_same}
 use Rattle.render.proofs.whole.pixels.pixel_at.Goals as goal
