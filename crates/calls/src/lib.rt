@@ -7,6 +7,12 @@ mod files;
 #[cfg(test)]
 mod numbers;
 #[cfg(test)]
+mod operations;
+#[cfg(test)]
+mod operations_on_numbers;
+#[cfg(test)]
+mod operations_on_triples;
+#[cfg(test)]
 mod scene_text;
 #[cfg(test)]
 mod surfaces;
