@@ -3,6 +3,8 @@
 #![tactic(auto)]
 
 #[cfg(test)]
+mod compiled;
+#[cfg(test)]
 mod files;
 #[cfg(test)]
 mod numbers;
@@ -16,3 +18,5 @@ mod operations_on_triples;
 mod scene_text;
 #[cfg(test)]
 mod surfaces;
+#[cfg(test)]
+mod tour;
