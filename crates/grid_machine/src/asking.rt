@@ -35,17 +35,6 @@ fn answer(ambient: bool, lit: bool, direction: &Vec3, colour: &Vec3) -> Answer
     }
 }
 
-impl Answers {
-    // No light.
-    fn none() -> Answers
-        ensures { length result.at ≡ 289 }
-    {
-        Answers {
-            at: [Answer::Unlit; 289],
-        }
-    }
-}
-
 impl Machine<'_> {
     // What a light's code has left at each place.
     fn left(&self, ambient: bool) -> Answers
@@ -88,7 +77,8 @@ impl Machine<'_> {
         self.assign_all(registers, values);
         self.set_triples(19, points);
         let places = self.registers.frame.places;
-        run_block(code.nodes.as_slice(), self, &mut Dark { places }, 65536);
+        let mut dark = Dark { places, many: 0 };
+        run_block(code.nodes.as_slice(), self, &mut dark, 65536);
         self.left(code.ambient)
     }
 }

@@ -1,12 +1,12 @@
 // Lights as code asks them.
-ghost use Rattle.std.specs.Prelude.{◌≡◌, ℕ, ◌<◌, [], length, get_or};
+ghost use Rattle.std.specs.Prelude.{◌≡◌, ℕ, ◌<◌, length, get_or, replicate};
 ghost use Rattle.fixed_math.specs.Axes.{origin};
 ghost use Rattle.fixed_math.specs.declared.vec3.Vec3.{Vec3};
 ghost use Rattle.grid_machine.specs.declared.answers.Answer.TheVariants as answers;
 ghost use Rattle.grid_machine.specs.Asked.{Lighting, unasked};
 ghost use Rattle.grid_machine.specs.Seen.{light_of};
 
-use crate::answers::{Answer, Answers};
+use crate::answers::Answers;
 use crate::points::Points;
 
 /// Lights that are asked at all places of a grid at once.
@@ -24,22 +24,21 @@ pub trait Illumination {
         ensures each { (q : ℕ → Vec3) → ((i : ℕ) → i < (lighting self.old).places → q i ≡ get_or points.now.at i origin) → (i : ℕ) → i < (lighting self.old).places → light_of (get_or result.at i answers.Unlit) ≡ get_or (lighting self.old).lights n unasked q i };
 }
 
-/// No lights.
+/// So many lights, none of which is lit anywhere: with none at all, the lights of code that no light reaches.
 #[derive(Drop)]
 pub struct Dark {
     pub places: usize,
+    pub many: usize,
 }
 
 impl Illumination for Dark {
-    ghost lighting = { λ d. record { places = d.places; lights = [] } };
+    ghost lighting = { λ d. record { places = d.places; lights = replicate d.many unasked } };
 
     fn count(&self) -> usize {
-        0
+        self.many
     }
 
     fn ask(&mut self, _n: usize, _points: &Points) -> Answers {
-        Answers {
-            at: [Answer::Unlit; 289],
-        }
+        Answers::none()
     }
 }
