@@ -1,24 +1,31 @@
 -- A scene has at most 1,000 frames.
-use Rattle.std.proofs.Common.{◌≡◌, ℕ, ℤ, ◌<◌, ◌≤◌, Bool, true, false, List, [], ◌∷◌, ◌++◌, length, Option, Some, None, Result, Ok, Err, cond, refl, subst, arith, length-append}
+use Rattle.std.proofs.Common.{◌≡◌, ℕ, ℤ, ◌+◌, ◌*◌, ◌<◌, ◌≤◌, Bool, true, false, List, [], ◌∷◌, ◌++◌, length, take, drop, sum_by, Option, Some, None, Result, Ok, Err, cond, refl, subst, arith, length-append}
 use Rattle.std.specs.Prelude.{if◌then◌else◌, nat_le, ◌==◌, is_some}
 use Rattle.rib_reader.specs.declared.req.Req.{Req}
 use Rattle.rib_reader.specs.declared.req.Req.TheVariants as reqs
 use Rattle.rib_reader.specs.Reading.{Read}
 use Rattle.rib_reader.specs.Rules.{word_at, raw_at, whole_at, numbers_at}
-use Rattle.rib_reader.specs.Lists.{points_in}
 use Rattle.patches.specs.declared.patch.Patch.{Patch}
+use Rattle.mesh_basis.specs.declared.shape.Shape.{Shape}
+use Rattle.mesh_basis.specs.declared.counts.Counts.{Counts}
+use Rattle.mesh_basis.specs.Ranges.{are_in_range}
+use Rattle.mesh_basis.specs.Counts.{counts_of}
+use Rattle.mesh_basis.specs.Meshes.{patches_in}
+use Rattle.mesh_basis.specs.Polygons.{piece_count, pieces_of, flat_normal}
 use Rattle.transforms.specs.Map.{Map, before_of}
 use Rattle.transforms.specs.Field.{camera_of}
 use Rattle.transforms.specs.declared.view.View.{View}
 use Rattle.transforms.specs.declared.fault.FormFault.{FormFault}
 use Rattle.fixed_math.specs.declared.vec3.Vec3.{Vec3}
-use Rattle.scene_state.specs.Scene.{SceneValue, most_prims}
+use Rattle.scene_state.specs.Scene.{SceneValue}
 use Rattle.scene_state.specs.Choices.{ChoiceValues, chosen, view_of}
-use Rattle.scene_state.specs.State.{most_blocks, most_frames, most_lights, with_frame, name_or, moved, scaled, turned, of_rows, Stepped, first_state, closed, opened, innermost, frame_ended, attributes_ended, transform_ended, world_with, frame_made, frame_of, world_ended, with_choices, option_set, display_set, with_current, with_before, space_of, use_of, next_shader, with_shader, light_added, light_made, illuminated_by, light_named, is_bicubic, control_points, patch_made, patch_in_range, patch_with, patch_of_numbers, patch_in, patch_set}
+use Rattle.scene_state.specs.State.{most_blocks, most_frames, most_lights, with_frame, name_or, moved, scaled, turned, of_rows, Stepped, first_state, closed, opened, innermost, frame_ended, attributes_ended, transform_ended, world_with, frame_made, frame_of, world_ended, with_choices, option_set, display_set, with_current, with_before, space_of, use_of, next_shader, with_shader, light_added, light_made, illuminated_by, light_named, patch_place, with_prim, with_patches, is_past, mesh_from, mesh_counted, mesh_laid, face_points, with_face, with_faces, faces_laid, Located, located, laid, polygon_set, polygons_set}
+use Rattle.scene_state.specs.Bases.{patch_shape, mesh_shape}
+use Rattle.scene_state.specs.Faces.{FaceValues, one_face, faces_in}
 use Rattle.scene_state.specs.Shaders.{with_request}
 use Rattle.scene_state.specs.Steps.{with_surface, with_displacement, with_atmosphere, step, after, and_then, Placed, state_from, ended, last_line, scene_of}
 use Rattle.scene_state.specs.declared.fault.StateCode.{StateCode}
-use Rattle.scene_state.specs.declared.fault.StateCode.TheVariants.{N1, N2, N4, N5, M1, M2, M3, M4}
+use Rattle.scene_state.specs.declared.fault.StateCode.TheVariants.{N1, N2, N4, M1, M2, M3, M4, M7}
 use Rattle.scene_state.specs.declared.uses.ShaderKind.{ShaderKind}
 use Rattle.scene_state.specs.declared.uses.ShaderKind.TheVariants as kinds
 use Rattle.scene_state.specs.declared.attributes.Attributes.{Attributes}
@@ -118,25 +125,47 @@ few_illuminated : (o : Option ℕ) (on : Option ℤ) (s : State) → Few s → F
 few_illuminated None on s g = tt
 few_illuminated (Some k) on s g = g
 
-few_in_range : (r : Read) (object : Map) (o : Option Patch) (s : State) → Few s → FewStep (patch_in_range r object o s)
-few_in_range r object None s g = tt
-few_in_range r object (Some patch) s g = g
+-- patches that are placed one after another
+few_patches : (r : Read) (object : Map) (flat : Option Vec3) (c : Option Counts) (k : ℕ) (ps : List Patch) (s : State) → Few s → Few (with_patches r object flat c k ps s)
+unfolding with_patches
+few_patches r object flat c k [] s g = g
+few_patches r object flat c k (p ∷ ps) s g = few_patches r object flat c (k + 1) ps (with_prim r object flat (patch_place c k) p s) g
 
-few_patch_with : (r : Read) (object : Map) (o : Option (List Vec3)) (s : State) → Few s → FewStep (patch_with r object o s)
-few_patch_with r object None s g = tt
-few_patch_with r object (Some ps) s g =
-    either (nat_le most_prims (length s.prims)) (Err M3) (patch_in_range r object (patch_made (is_bicubic r) object ps) s) tt (few_in_range r object (patch_made (is_bicubic r) object ps) s g)
+few_mesh_from : (r : Read) (object : Map) (c : Counts) (k : ℕ) (o : Option (List Patch)) (s : State) → Few s → FewStep (mesh_from r object c k o s)
+few_mesh_from r object c k None s g = tt
+few_mesh_from r object c k (Some ps) s g = few_patches r object None (Some c) k ps s g
 
-few_numbers : (r : Read) (object : Map) (o : Option (List ℤ)) (s : State) → Few s → FewStep (patch_of_numbers r object o s)
-few_numbers r object None s g = tt
-few_numbers r object (Some xs) s g = few_patch_with r object (control_points (is_bicubic r) xs) s g
+few_counted : (r : Read) (object : Map) (shape : Shape) (ps : List Vec3) (o : Option Counts) (s : State) → Few s → FewStep (mesh_counted r object shape ps o s)
+few_counted r object shape ps None s g = tt
+few_counted r object shape ps (Some c) s g =
+    either (is_past (c.along_u * c.along_v) s) (Err M3) (mesh_from r object c 0 (patches_in ps shape c) s) tt (few_mesh_from r object c 0 (patches_in ps shape c) s g)
 
-few_patch_in : (r : Read) (m : Result Map FormFault) (s : State) → Few s → FewStep (patch_in r m s)
-few_patch_in r (Err e) s g = tt
-few_patch_in r (Ok object) s g = few_numbers r object (points_in r.params) s g
+-- and faces
+few_faces : (r : Read) (object : Map) (ps : List Vec3) (sizes corners : List ℕ) (s : State) → Few s → Few (with_faces r object ps sizes corners s)
+unfolding with_faces
+few_faces r object ps [] corners s g = g
+few_faces r object ps (n ∷ ns) corners s g =
+    let face = face_points ps (take n corners) in
+    few_faces r object ps ns (drop n corners) (with_face r object face s) (few_patches r object (Some (flat_normal face)) None 0 (pieces_of face) s g)
 
-few_patch : (r : Read) (s : State) → Few s → FewStep (patch_set r s)
-few_patch r s g = either (is_some s.world) (patch_in r (space_of s) s) (Err N5) (few_patch_in r (space_of s) s g) tt
+few_faces_laid : (r : Read) (object : Map) (ps : List Vec3) (o : Option FaceValues) (s : State) → Few s → FewStep (faces_laid r object ps o s)
+few_faces_laid r object ps None s g = tt
+few_faces_laid r object ps (Some f) s g =
+    either (is_past (sum_by piece_count f.sizes) s) (Err M3) (if are_in_range ps then Ok (with_faces r object ps f.sizes f.corners s) else Err M7) tt
+    (either (are_in_range ps) (Ok (with_faces r object ps f.sizes f.corners s)) (Err M7) (few_faces r object ps f.sizes f.corners s g) tt)
+
+few_laid : (form : Map → List Vec3 → State → Stepped) (at : Located) (s : State) → ((object : Map) (ps : List Vec3) → FewStep (form object ps s)) → FewStep (laid form at s)
+few_laid form (Err code) s few = tt
+few_laid form (Ok at) s few = few at.0 at.1
+
+few_shape : (r : Read) (shape : Shape) (s : State) → Few s → FewStep (laid (mesh_laid r shape) (located r s) s)
+few_shape r shape s g = few_laid (mesh_laid r shape) (located r s) s (λ object ps. few_counted r object shape ps (counts_of shape (length ps)) s g)
+
+few_polygon : (r : Read) (s : State) → Few s → FewStep (polygon_set r s)
+few_polygon r s g = few_laid (λ object ps. faces_laid r object ps (one_face (length ps))) (located r s) s (λ object ps. few_faces_laid r object ps (one_face (length ps)) s g)
+
+few_polygons : (r : Read) (s : State) → Few s → FewStep (polygons_set r s)
+few_polygons r s g = few_laid (λ object ps. faces_laid r object ps (faces_in (length ps) r.args)) (located r s) s (λ object ps. few_faces_laid r object ps (faces_in (length ps) r.args) s g)
 
 few_step : (name : Req) (r : Read) (s : State) → Few s → FewStep (step name r s)
 few_step reqs.FrameBegin r s g =
@@ -180,10 +209,10 @@ few_step reqs.Scale r s g = few_before (scaled (raw_at r.args 0) (raw_at r.args 
 few_step reqs.Rotate r s g = few_before (turned (raw_at r.args 0) (raw_at r.args 1) (raw_at r.args 2) (raw_at r.args 3)) s g
 few_step reqs.Transform r s g = few_current (of_rows (numbers_at r.args 0)) s g
 few_step reqs.ConcatTransform r s g = few_before (of_rows (numbers_at r.args 0)) s g
-few_step reqs.Patch r s g = few_patch r s g
-few_step reqs.PatchMesh r s g = g
-few_step reqs.Polygon r s g = g
-few_step reqs.PointsPolygons r s g = g
+few_step reqs.Patch r s g = few_shape r (patch_shape r.args s.attributes.bases) s g
+few_step reqs.PatchMesh r s g = few_shape r (mesh_shape r.args s.attributes.bases) s g
+few_step reqs.Polygon r s g = few_polygon r s g
+few_step reqs.PointsPolygons r s g = few_polygons r s g
 few_step reqs.Version r s g = g
 few_step reqs.ErrorHandler r s g = g
 few_step reqs.Hider r s g = g
