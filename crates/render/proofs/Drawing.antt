@@ -1,39 +1,22 @@
--- How the micropolygons of a frame are gathered.
-use Rattle.std.proofs.Common.{◌≡◌, arith, suc, refl, sym, ◌∙◌, ap, ℕ, ◌+◌, ◌<◌, List, [], ◌∷◌, ◌++◌, ◌≤◌, ◌*◌, length, take, get_or, append_assoc, length-append}
+-- How the micropolygons of a frame are hidden in a tile, leaf by leaf.
+use Rattle.std.proofs.Common.{◌≡◌, arith, suc, refl, sym, ◌∙◌, ap, subst, map, Bool, ℕ, ◌+◌, ◌<◌, List, [], ◌∷◌, ◌++◌, ◌≤◌, ◌*◌, length, take, get_or, append_assoc, length-append}
 use Rattle.std.proofs.lemmas.List.{take_more, length-take}
-use Rattle.std.proofs.lemmas.List.Elements.{filter_map-append}
 use Rattle.std.specs.List.{flat_map, enumerate_from}
 use Rattle.patches.specs.Parts.{Part}
 use Rattle.transforms.specs.declared.view.View.{View}
-use Rattle.bound_split.specs.declared.splits.Decision.TheVariants.{Dice}
-use Rattle.hider.specs.declared.cell.Cell.{Cell}
-use Rattle.hider.specs.declared.quad.Quad.{Quad}
-use Rattle.hider.specs.Cells.{quad_of}
-use Rattle.render.specs.Still.{quads_of, leaf_quads, prim_quads, prims_quads}
+use Rattle.fixed_math.specs.declared.vec3.Vec3.{Vec3}
+use Rattle.hider.specs.declared.fragment.Fragment.{Fragment}
+use Rattle.hider.specs.declared.sample.Sample.{Sample}
+use Rattle.hider.specs.Cells.{Micropolygon, still, cells_of}
+use Rattle.hider.specs.CellValues.{grid_values, micropolygons_of}
+use Rattle.hider.specs.Fragments.{fragments}
+use Rattle.hider.specs.Tiles.{TileValue, Shows, with_covering}
+use Rattle.hider.proofs.Frames.{shows_grid}
 use Rattle.scene_state.specs.Scene.{PrimValue, FrameValue}
 use Rattle.render.specs.Set.{AcceptedValue}
-use Rattle.render.specs.Pictures.{decide, leaf_cells, prim_leaves}
+use Rattle.render.specs.Pictures.{decide, prim_leaves, prim_micropolygons}
+use Rattle.render.specs.Sampled.{ShowsMore, prims_micropolygons}
 use Rattle.render.proofs.LeafParts.{few_leaves}
-
--- one more cell
-pub quads_of-next : (v : View) (f : PrimValue) (cells : List Cell) (i : ℕ) (c : Cell) (before old new : List Quad) → i < length cells → c ≡ get_or cells i c
-    → old ≡ before ++ quads_of v f (take i cells) → new ≡ old ++ quads_of v f (c ∷ []) → new ≡ before ++ quads_of v f (take (i + 1) cells)
-quads_of-next v f cells i c before old new lt is first next =
-    let more : take (i + 1) cells ≡ take i cells ++ c ∷ [] = take_more cells i c lt ∙ ap (λ d. take i cells ++ d ∷ []) (sym is) in
-    let split : quads_of v f (take (i + 1) cells) ≡ quads_of v f (take i cells) ++ quads_of v f (c ∷ []) =
-    ap (quads_of v f) more ∙ filter_map-append (quad_of v f.one_sided f.flip) (take i cells) (c ∷ []) in
-    next ∙ ap (λ qs. qs ++ quads_of v f (c ∷ [])) first ∙ append_assoc before (quads_of v f (take i cells)) (quads_of v f (c ∷ [])) ∙ ap (λ qs. before ++ qs) (sym split)
-
--- one more leaf
-pub leaf-next : (a : AcceptedValue) (f : FrameValue) (prim : PrimValue) (part : Part) (p q : ℕ) (cells : List Cell) (pending rest : List Part) (old new whole : List Quad)
-    → decide f.camera prim part ≡ Dice p q → cells ≡ leaf_cells a f prim part (Dice p q) → pending ≡ part ∷ rest → new ≡ old ++ quads_of f.camera prim cells
-    → old ++ flat_map (leaf_quads a f prim) pending ≡ whole → new ++ flat_map (leaf_quads a f prim) rest ≡ whole
-unfolding leaf_quads
-leaf-next a f prim part p q cells pending rest old new whole decided made top next goes =
-    let v = f.camera in
-    let seen : quads_of v prim cells ≡ leaf_quads a f prim part = ap (quads_of v prim) (made ∙ ap (leaf_cells a f prim part) (sym decided)) in
-    ap (λ qs. qs ++ flat_map (leaf_quads a f prim) rest) (next ∙ ap (λ qs. old ++ qs) seen) ∙ append_assoc old (leaf_quads a f prim part) (flat_map (leaf_quads a f prim) rest)
-    ∙ ap (λ ps. old ++ flat_map (leaf_quads a f prim) ps) (sym top) ∙ goes
 
 pub flat_map-append : {A B : Type 0} (g : A → List B) (xs ys : List A) → flat_map g (xs ++ ys) ≡ flat_map g xs ++ flat_map g ys
 flat_map-append g [] ys = refl
@@ -60,12 +43,57 @@ numbered-next g xs i x lt is =
     ap (enumerate_from 0) more ∙ enumerate_more 0 (take i xs) x ∙ ap (λ (k : ℕ). enumerate_from 0 (take i xs) ++ (k, x) ∷ []) count in
     ap (flat_map g) numbered ∙ flat_map-append g (enumerate_from 0 (take i xs)) ((i, x) ∷ []) ∙ ap (λ ys. flat_map g (enumerate_from 0 (take i xs)) ++ ys) (append_none (g (i, x)))
 
+-- ---- what a tile shows more and more of
+shows_none : (v : View) (t : TileValue) → ShowsMore v [] t t
+shows_none v t = λ ms h. subst (λ l. Shows t (fragments v l)) (sym (append_none ms)) h
+
+shows_then : (v : View) (ks ns : List Micropolygon) (a b c : TileValue) → ShowsMore v ks a b → ShowsMore v ns b c → ShowsMore v (ks ++ ns) a c
+shows_then v ks ns a b c h k = λ ms s. subst (λ l. Shows c (fragments v l)) (append_assoc ms ks ns) (k (ms ++ ks) (h ms s))
+
+-- a grid is hidden
+pub grid_hidden : (old new : TileValue) (v w : View) (one_sided one_sided' flip flip' : Bool) (columns rows : ℕ) (points colours opacities : List Vec3)
+    → v ≡ w → one_sided ≡ one_sided' → flip ≡ flip'
+    → ((f : Sample → List Fragment) → Shows old f → Shows new (with_covering v (micropolygons_of (grid_values columns rows points colours opacities) one_sided flip) f))
+    → ShowsMore w (map (still one_sided' flip') (cells_of columns rows points colours opacities)) old new
+grid_hidden old new v w one_sided one_sided' flip flip' columns rows points colours opacities ev es ef h =
+    let cells = cells_of columns rows points colours opacities in
+    let more : ShowsMore v (map (still one_sided flip) cells) old new =
+    λ ms s. shows_grid new v ms columns rows points colours opacities one_sided flip (h (fragments v ms) s) in
+    subst (λ u. ShowsMore u (map (still one_sided' flip') cells) old new) ev
+    (subst (λ b. ShowsMore v (map (still b flip') cells) old new) es (subst (λ b. ShowsMore v (map (still one_sided b) cells) old new) ef more))
+
+-- some of the whole is hidden, and what the pending parts give is left
+pub record Hides (v : View) (leaf : Part → List Micropolygon) (pending : List Part) (whole : List Micropolygon) (first now : TileValue) : Type 0 where
+  pub done : List Micropolygon
+  pub shows : ShowsMore v done first now
+  pub rest : done ++ flat_map leaf pending ≡ whole
+
+pub hides_begun : (v : View) (leaf : Part → List Micropolygon) (pending all : List Part) (t : TileValue) → pending ≡ all → Hides v leaf pending (flat_map leaf all) t t
+hides_begun v leaf pending all t e = record { done = []; shows = shows_none v t; rest = ap (flat_map leaf) e }
+
+-- one more leaf
+pub hides_next : (v : View) (leaf : Part → List Micropolygon) (part : Part) (pending rest : List Part) (whole : List Micropolygon) (first old new : TileValue)
+    → Hides v leaf pending whole first old → pending ≡ part ∷ rest → ShowsMore v (leaf part) old new → Hides v leaf rest whole first new
+hides_next v leaf part pending rest whole first old new h top more = record {
+  done = h.done ++ leaf part;
+  shows = shows_then v h.done (leaf part) first old new h.shows more;
+  rest = append_assoc h.done (leaf part) (flat_map leaf rest) ∙ ap (λ ps. h.done ++ flat_map leaf ps) (sym top) ∙ h.rest;
+}
+
+-- no leaf is left
+pub hides_all : (v : View) (leaf : Part → List Micropolygon) (pending : List Part) (whole : List Micropolygon) (first now : TileValue)
+    → Hides v leaf pending whole first now → pending ≡ [] → ShowsMore v whole first now
+hides_all v leaf pending whole first now h none =
+    let all : h.done ≡ whole = sym (append_none h.done) ∙ ap (λ ps. h.done ++ flat_map leaf ps) (sym none) ∙ h.rest in
+    subst (λ l. ShowsMore v l first now) all h.shows
+
 -- one more primitive
-pub prims-next : (a : AcceptedValue) (f : FrameValue) (ps : List PrimValue) (i : ℕ) (p : PrimValue) (old new : List Quad) → i < length ps → p ≡ get_or ps i p
-    → old ≡ prims_quads a f (take i ps) → new ≡ old ++ prim_quads a f i p → new ≡ prims_quads a f (take (i + 1) ps)
-prims-next a f ps i p old new lt is first next =
-    let g : (np : ℕ × PrimValue) → List Quad = λ np. prim_quads a f np.0 np.1 in
-    next ∙ ap (λ qs. qs ++ prim_quads a f i p) first ∙ sym (numbered-next g ps i p lt is)
+pub prims-next : (a : AcceptedValue) (f : FrameValue) (ps : List PrimValue) (i : ℕ) (p : PrimValue) (old new : TileValue) → i < length ps → p ≡ get_or ps i p
+    → Shows old (fragments f.camera (prims_micropolygons a f (take i ps))) → ShowsMore f.camera (prim_micropolygons a f i p) old new
+    → Shows new (fragments f.camera (prims_micropolygons a f (take (i + 1) ps)))
+prims-next a f ps i p old new lt is before more =
+    let g : (np : ℕ × PrimValue) → List Micropolygon = λ np. prim_micropolygons a f np.0 np.1 in
+    subst (λ l. Shows new (fragments f.camera l)) (sym (numbered-next g ps i p lt is)) (more (prims_micropolygons a f (take i ps)) before)
 
 -- the leaves of some first primitives
 abbrev pub leaves_of : FrameValue → List PrimValue → List Part

@@ -4,8 +4,6 @@ pub mod Completing
 pub mod Grids
 pub mod Sweeps
 pub mod Reaches
-pub mod InRows
-pub mod Rows
 pub mod Drawing
 pub mod Shown
 pub mod Within

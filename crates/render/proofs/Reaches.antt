@@ -3,16 +3,16 @@ use Rattle.std.proofs.Common.{◌≡◌, ℕ, ◌+◌, ◌-◌, ◌*◌, ◌/◌
 use Rattle.std.proofs.Math.Nat.{mod-lt, mul_comm, mul-le-mul_right}
 use Rattle.hider.proofs.Pixels.{sample_inside}
 use Rattle.filter_ppm.specs.Weight.{weight_at, reach}
-use Rattle.render.specs.Still.{StillFilm, sample_of, sample_count, spot_of, per_pixel, counts_for}
-use Rattle.render.specs.Still.{IsWindow}
+use Rattle.render.specs.Film.{FilmValues}
+use Rattle.render.specs.Sampled.{format_of, sample_of, sample_count, sample_number, per_pixel, counts_for, IsWindow}
 use Rattle.render.specs.declared.whole.reach.Window.{Window}
 use Rattle.render.proofs.Grids.{before_pixel, part_inside, part_length}
 use Rattle.filter_ppm.proofs.Filters.{far_left, far_right, no_weight_x, no_weight_y}
 use Rattle.render.proofs.Sweeps.{Vanishes, IsPart}
 
-pub vanishes : (f : StillFilm) (x y : ℕ) → 0 < per_pixel f.options → 0 < f.width →
+pub vanishes : (f : FilmValues) (x y : ℕ) → 0 < per_pixel f.options → 0 < f.width →
     Vanishes (counts_for f.options x y) f (x - reach f.options.wx) (min (x + reach f.options.wx + 1) f.width) (y - reach f.options.wy) (min (y + reach f.options.wy + 1) f.height)
-unfolding weight_at sample_of spot_of
+unfolding weight_at sample_of sample_number
 vanishes f x y some wide = record {
   before = λ n h.
       let p = n / per_pixel f.options in let px = p % f.width in let py = p / f.width in
@@ -37,13 +37,13 @@ vanishes f x y some wide = record {
 }
 
 -- ---- the window of a pixel
-pub window_vanishes : (f : StillFilm) (x y : ℕ) (w : Window) → IsWindow f x y w → x < f.width → Vanishes (counts_for f.options x y) f w.left w.right w.top w.bottom
+pub window_vanishes : (f : FilmValues) (x y : ℕ) (w : Window) → IsWindow (format_of f) x y w → x < f.width → Vanishes (counts_for f.options x y) f w.left w.right w.top w.bottom
 window_vanishes f x y w i h =
     let some = i.some_samples in
     let same = i.per_pixel in
     rw (i.left, i.right, i.top, i.bottom) (vanishes f x y (omega (arith, some, same)) (omega (arith, h)))
 
-pub window_part : (f : StillFilm) (x y : ℕ) (w : Window) → IsWindow f x y w → x < f.width → y < f.height → IsPart f w.left w.right w.bottom
+pub window_part : (f : FilmValues) (x y : ℕ) (w : Window) → IsWindow (format_of f) x y w → x < f.width → y < f.height → IsPart f w.left w.right w.bottom
 window_part f x y w i hx hy =
     let some = i.some_samples in
     let same = i.per_pixel in
@@ -59,14 +59,14 @@ window_part f x y w i hx hy =
     }
 
 -- the first and the last sample of a row of the window
-pub record AreEnds (f : StillFilm) (w : Window) (row start end : ℕ) : Type 0 where
+pub record AreEnds (f : FilmValues) (w : Window) (row start end : ℕ) : Type 0 where
   pub start_is : start ≡ (row * f.width + w.left) * per_pixel f.options
   pub end_is : end ≡ (row * f.width + w.right) * per_pixel f.options
   pub order : start ≤ end
-  pub inside : end ≤ sample_count f
+  pub inside : end ≤ sample_count (format_of f)
   pub few : end ≤ start + 4352
 
-pub window_ends : (f : StillFilm) (x y : ℕ) (w : Window) (row start end : ℕ) → IsWindow f x y w → x < f.width → y < f.height → row < w.bottom →
+pub window_ends : (f : FilmValues) (x y : ℕ) (w : Window) (row start end : ℕ) → IsWindow (format_of f) x y w → x < f.width → y < f.height → row < w.bottom →
     start ≡ (row * w.width + w.left) * w.per_pixel → end ≡ (row * w.width + w.right) * w.per_pixel → AreEnds f w row start end
 window_ends f x y w row start end i hx hy h s e =
     let p = window_part f x y w i hx hy in

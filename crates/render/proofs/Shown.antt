@@ -1,44 +1,24 @@
--- What the plain program computes is the picture.
-use Rattle.std.proofs.Common.{◌≡◌, ℕ, ◌+◌, ◌-◌, ◌*◌, ◌/◌, ◌%◌, arith, refl, sym, ◌∙◌, ap, List, [], ◌∷◌, ◌++◌, map}
-use Rattle.std.specs.Prelude.{ℤ, ◌+ℤ◌, ◌*ℤ◌, Option, Some, None}
-use Rattle.std.specs.List.{range_with_len, flat_map, filter_map, cons_option, enumerate_from}
-use Rattle.std.specs.Option.{option_and_then}
-use Rattle.std.proofs.lemmas.List.Elements.{filter_map-append}
+-- What is computed of a frame's samples is the picture.
+use Rattle.std.proofs.Common.{◌≡◌, ℕ, ◌+◌, ◌-◌, ◌*◌, ◌/◌, ◌%◌, ◌<◌, arith, refl, sym, ◌∙◌, ap, List, [], ◌∷◌, map, length, unsigned_abs}
+use Rattle.std.specs.Prelude.{ℤ, pos, negsuc, ◌≤◌, ◌+ℤ◌, ◌*ℤ◌, ◌≤ℤ◌, ◌<ℤ◌}
+use Rattle.std.specs.List.{range_with_len}
+use Rattle.std.proofs.lemmas.Int.{ints}
+use Rattle.std.proofs.lemmas.List.FromFn.{length-map-range_with_len}
+use Rattle.std.proofs.Math.Nat.{mod-lt, mul_comm}
 use Rattle.fixed_math.specs.declared.vec3.Vec3.{Vec3}
-use Rattle.fixed_math.specs.Spots.{Spot, whole_frame, pixel_count, pixel_x, pixel_y}
-use Rattle.patches.specs.Parts.{Part, whole_of}
-use Rattle.bound_split.specs.Leaves.{leaves}
-use Rattle.scene_state.specs.Settings.{OptionValues}
-use Rattle.scene_state.specs.Scene.{PrimValue, FrameValue}
-use Rattle.transforms.specs.declared.view.View.{View}
-use Rattle.hider.specs.declared.cell.Cell.{Cell}
-use Rattle.hider.specs.declared.quad.Quad.{Quad}
+use Rattle.fixed_math.specs.Spots.{IsOnRaster, whole_frame, pixel_count, pixel_x, pixel_y}
 use Rattle.hider.specs.declared.sample.Sample.{Sample}
-use Rattle.hider.specs.Cells.{Micropolygon, still, quad_of, seen_at}
-use Rattle.hider.specs.Coverage.{covers}
-use Rattle.hider.specs.Fragments.{fragment_of, covering, fragments, covering_at, by_depth}
-use Rattle.hider.specs.Composite.{composite}
+use Rattle.hider.specs.declared.sample_grid.SampleGrid.{SampleGrid}
 use Rattle.hider.specs.Samples.{sample_in}
+use Rattle.hider.specs.Tiles.{IsSampleGrid}
+use Rattle.hider.specs.Tiles.{sample_of as tile_sample, sample_count as tile_count}
+use Rattle.hider.proofs.Pixels.{sample_inside}
+use Rattle.hider.proofs.Rows.{some_samples}
 use Rattle.filter_ppm.specs.Weight.{weight_at}
 use Rattle.filter_ppm.specs.Mean.{sum_of, weighted_mean}
-use Rattle.filter_ppm.specs.Levels.{levels, header, band}
-use Rattle.render.specs.Set.{AcceptedValue}
-use Rattle.render.specs.Film.{samples, pixel, picture}
-use Rattle.render.specs.Pictures.{decide, leaf_cells, leaf_micropolygons, prim_micropolygons, micropolygons}
-use Rattle.render.specs.Still.{StillFilm, shown, colour_at, spot_of, sample_of, shown_samples, sample_count, per_pixel, counts_for, mean_about, quads_of, leaf_quads, prim_quads, prims_quads}
-
--- ---- lists
-pub map_same : {A B : Type 0} (f g : A → B) → ((x : A) → f x ≡ g x) → (xs : List A) → map f xs ≡ map g xs
-map_same f g h [] = refl
-map_same f g h (x ∷ xs) = ap (λ y. y ∷ map f xs) (h x) ∙ ap (λ l. g x ∷ l) (map_same f g h xs)
-
-flat_map_same : {A B : Type 0} (f g : A → List B) → ((x : A) → f x ≡ g x) → (xs : List A) → flat_map f xs ≡ flat_map g xs
-flat_map_same f g h [] = refl
-flat_map_same f g h (x ∷ xs) = ap (λ l. l ++ flat_map f xs) (h x) ∙ ap (λ l. g x ++ l) (flat_map_same f g h xs)
-
-filter_map-flat_map : {A B C : Type 0} (g : B → Option C) (f : A → List B) (xs : List A) → filter_map g (flat_map f xs) ≡ flat_map (λ x. filter_map g (f x)) xs
-filter_map-flat_map g f [] = refl
-filter_map-flat_map g f (x ∷ xs) = filter_map-append g (f x) (flat_map f xs) ∙ ap (λ l. filter_map g (f x) ++ l) (filter_map-flat_map g f xs)
+use Rattle.render.specs.Film.{FilmValues, samples}
+use Rattle.render.specs.Sampled.{FilmFormat, film_with, format_of, frame_grid, sample_number, shown_with, sample_of, shown_samples, sample_count, per_pixel, counts_for, mean_about}
+use Rattle.render.proofs.Grids.{before_pixel}
 
 -- ---- means
 sum_of-map : {A B : Type 0} (g : B → ℤ) (h : A → B) (xs : List A) → sum_of g (map h xs) ≡ sum_of (λ x. g (h x)) xs
@@ -72,86 +52,67 @@ none_more n = omega arith
 pub whole_count : (w h : ℕ) → pixel_count (whole_frame w h) ≡ w * h
 whole_count w h = rw (less_none w, less_none h) refl
 
-pub whole_x : (w h p : ℕ) → pixel_x (whole_frame w h) p ≡ p % w
+whole_x : (w h p : ℕ) → pixel_x (whole_frame w h) p ≡ p % w
 whole_x w h p = rw (less_none w, none_more (p % w)) refl
 
-pub whole_y : (w h p : ℕ) → pixel_y (whole_frame w h) p ≡ p / w
+whole_y : (w h p : ℕ) → pixel_y (whole_frame w h) p ≡ p / w
 whole_y w h p = rw (less_none w, none_more (p / w)) refl
 
-spot_same : (f : StillFilm) (n : ℕ) → (sample_in f.options.xs f.options.ys (whole_frame f.width f.height) n).place ≡ spot_of f n
-unfolding sample_in spot_of
-spot_same f n =
+sample_same : (f : FilmValues) (n : ℕ) → sample_in f.options.xs f.options.ys (whole_frame f.width f.height) n ≡ sample_number f n
+unfolding sample_in sample_number
+sample_same f n =
     let p = n / per_pixel f.options in
     rw (whole_x f.width f.height p, whole_y f.width f.height p) refl
 
--- the mean over the program's samples is that over the frame's
-pub means_same : (f : StillFilm) (x y : ℕ) → mean_about f.options x y (shown_samples f) ≡ weighted_mean (λ s. weight_at f.options x y s.place) (shown f).colour (samples (shown f))
+-- the mean over these samples is that over the frame's
+pub means_same : (f : FilmValues) (x y : ℕ) → mean_about f.options x y (shown_samples f) ≡ weighted_mean (λ s. weight_at f.options x y s.place) f.colour (samples f)
 unfolding sample_of
 means_same f x y =
     let o = f.options in
     let s : ℕ → Sample = sample_in o.xs o.ys (whole_frame f.width f.height) in
     let v : ℕ → ℤ = λ n. weight_at o x y (s n).place in
-    let c : ℕ → Vec3 = λ n. colour_at f.quads (s n).place in
-    let count : pixel_count (whole_frame f.width f.height) * (o.xs * o.ys) ≡ sample_count f = ap (λ (n : ℕ). n * (o.xs * o.ys)) (whole_count f.width f.height) in
-    weighted_mean-map (counts_for o x y) (λ r. r.colour) (sample_of f) (range_with_len 0 (sample_count f))
-    ∙ weighted_mean_same (λ n. weight_at o x y (spot_of f n)) v (λ n. colour_at f.quads (spot_of f n)) c
-    (λ n. ap (λ (p : Spot). weight_at o x y p) (sym (spot_same f n))) (λ n. ap (λ (p : Spot). colour_at f.quads p) (sym (spot_same f n))) (range_with_len 0 (sample_count f))
+    let c : ℕ → Vec3 = λ n. f.colour (s n) in
+    let count : pixel_count (whole_frame f.width f.height) * (o.xs * o.ys) ≡ sample_count (format_of f) = ap (λ (n : ℕ). n * (o.xs * o.ys)) (whole_count f.width f.height) in
+    weighted_mean-map (counts_for o x y) (λ r. r.colour) (sample_of f) (range_with_len 0 (sample_count (format_of f)))
+    ∙ weighted_mean_same (λ n. weight_at o x y (sample_number f n).place) v (λ n. f.colour (sample_number f n)) c
+    (λ n. ap (λ (q : Sample). weight_at o x y q.place) (sym (sample_same f n))) (λ n. ap f.colour (sym (sample_same f n))) (range_with_len 0 (sample_count (format_of f)))
     ∙ ap (λ (k : ℕ). weighted_mean v c (range_with_len 0 k)) (sym count)
-    ∙ sym (weighted_mean-map (λ r. weight_at o x y r.place) (shown f).colour s (range_with_len 0 (pixel_count (whole_frame f.width f.height) * (o.xs * o.ys))))
+    ∙ sym (weighted_mean-map (λ r. weight_at o x y r.place) f.colour s (range_with_len 0 (pixel_count (whole_frame f.width f.height) * (o.xs * o.ys))))
 
--- ---- films of one size and one colour of each sample
-pixel_same : (w h : ℕ) (o : OptionValues) (c d : Sample → Vec3) → ((s : Sample) → c s ≡ d s) → (x y : ℕ) →
-    pixel (record { width = w; height = h; options = o; colour = c }) x y ≡ pixel (record { width = w; height = h; options = o; colour = d }) x y
-unfolding pixel
-pixel_same w h o c d e x y =
-    ap (levels o) (weighted_mean_same (λ s. weight_at o x y s.place) (λ s. weight_at o x y s.place) c d (λ s. refl) e _)
+-- ---- the samples of a tile
+pub tile_sample_same : (f : FilmFormat) (c : Sample → Vec3) (g : SampleGrid) (n : ℕ) → g ≡ frame_grid f.width f.height f.options → shown_with c (tile_sample g n) ≡ sample_of (film_with f c) n
+unfolding sample_of
+tile_sample_same f c g n e =
+    ap (λ (k : SampleGrid). shown_with c (tile_sample k n)) e ∙ ap (shown_with c) (sample_same (film_with f c) n)
 
-pub picture_same : (w h : ℕ) (o : OptionValues) (c d : Sample → Vec3) → ((s : Sample) → c s ≡ d s) →
-    picture (record { width = w; height = h; options = o; colour = c }) ≡ picture (record { width = w; height = h; options = o; colour = d })
-picture_same w h o c d e =
-    let r = whole_frame w h in
-    ap (λ ps. header w h o ++ band o.one ps)
-    (map_same _ _ (λ p. pixel_same w h o c d e (pixel_x r p) (pixel_y r p)) (range_with_len 0 (pixel_count r)))
+pub tile_count_same : (f : FilmFormat) (g : SampleGrid) → g ≡ frame_grid f.width f.height f.options → tile_count g ≡ sample_count f
+tile_count_same f g e = ap tile_count e ∙ ap (λ (n : ℕ). n * (f.options.xs * f.options.ys)) (whole_count f.width f.height)
 
--- ---- micropolygons that stand still
--- what is seen of micropolygons at a time
-abbrev pub seen_all : View → ℕ → List Micropolygon → List Quad
-seen_all v t ms = filter_map (seen_at v t) ms
+pub length-shown : (f : FilmFormat) (c : Sample → Vec3) → length (shown_samples (film_with f c)) ≡ sample_count f
+length-shown f c = length-map-range_with_len (sample_of (film_with f c)) 0 (sample_count f)
 
-seen_still : (v : View) (t : ℕ) (p : PrimValue) (ks : List Cell) → seen_all v t (map (still p.one_sided p.flip) ks) ≡ quads_of v p ks
-seen_still v t p [] = refl
-seen_still v t p (k ∷ ks) = ap (λ l. cons_option (quad_of v p.one_sided p.flip k) l) (seen_still v t p ks)
+-- each lies on the raster
+small : (z : ℤ) (p : ℕ) → p < 4096 → pos (256 * p) ≤ℤ z → z <ℤ pos (256 * p + 256) → unsigned_abs z ≤ 268435456
+small (pos n) p h l u = omega (arith, ints, h, l, u)
+small (negsuc n) p h l u = absurd (omega (arith, ints, l))
 
-seen_leaf : (a : AcceptedValue) (f : FrameValue) (t : ℕ) (p : PrimValue) (part : Part) → seen_all f.camera t (leaf_micropolygons a f p part) ≡ leaf_quads a f p part
-unfolding leaf_micropolygons leaf_quads
-seen_leaf a f t p part = seen_still f.camera t p (leaf_cells a f p part (decide f.camera p part))
-
-seen_prim : (a : AcceptedValue) (f : FrameValue) (t n : ℕ) (p : PrimValue) → seen_all f.camera t (prim_micropolygons a f n p) ≡ prim_quads a f n p
-unfolding prim_micropolygons prim_quads
-seen_prim a f t n p =
-    let v = f.camera in
-    filter_map-flat_map (seen_at v t) (leaf_micropolygons a f p) (leaves (decide v p) (whole_of n))
-    ∙ flat_map_same (λ part. filter_map (seen_at v t) (leaf_micropolygons a f p part)) (leaf_quads a f p) (seen_leaf a f t p) (leaves (decide v p) (whole_of n))
-
-pub seen_frame : (a : AcceptedValue) (f : FrameValue) (t : ℕ) → seen_all f.camera t (micropolygons a f) ≡ prims_quads a f f.prims
-unfolding micropolygons
-seen_frame a f t =
-    let v = f.camera in
-    filter_map-flat_map (seen_at v t) (λ (np : ℕ × PrimValue). prim_micropolygons a f np.0 np.1) (enumerate_from 0 f.prims)
-    ∙ flat_map_same (λ (np : ℕ × PrimValue). filter_map (seen_at v t) (prim_micropolygons a f np.0 np.1)) (λ np. prim_quads a f np.0 np.1) (λ np. seen_prim a f t np.0 np.1) (enumerate_from 0 f.prims)
-
--- what covers a sample is what of the micropolygons that are seen at its time covers its place
-covering_seen : (v : View) (ms : List Micropolygon) (s : Sample) → covering v ms s ≡ covering_at (seen_all v s.time ms) s.place
-unfolding fragment_of
-covering_seen v [] s = refl
-covering_seen v (m ∷ ms) s = by_seen (seen_at v s.time m) (covering_seen v ms s)
-  where
-    by_seen : (o : Option Quad) → covering v ms s ≡ covering_at (seen_all v s.time ms) s.place →
-        cons_option (option_and_then (λ q. covers q s.place) o) (covering v ms s) ≡ covering_at (cons_option o (seen_all v s.time ms)) s.place
-    by_seen None e = e
-    by_seen (Some q) e = ap (λ l. cons_option (covers q s.place) l) e
-
-pub colours_same : (a : AcceptedValue) (f : FrameValue) (s : Sample) → colour_at (prims_quads a f f.prims) s.place ≡ composite (fragments f.camera (micropolygons a f) s)
-colours_same a f s =
-    ap (λ qs. colour_at qs s.place) (sym (seen_frame a f s.time))
-    ∙ ap (λ fs. composite (by_depth fs)) (sym (covering_seen f.camera (micropolygons a f) s))
+pub on_raster : (g : SampleGrid) (n : ℕ) → IsSampleGrid g → n < tile_count g → IsOnRaster (tile_sample g n).place
+unfolding sample_in
+on_raster g n v h =
+    let k = g.xs * g.ys in
+    let w = g.right - g.left in
+    let t = g.bottom - g.top in
+    let across = v.across in
+    let right = v.right in
+    let bottom = v.bottom in
+    let some = some_samples g v in
+    let wide : 0 < w = omega (arith, across) in
+    let column : n / k % w < w = mod-lt (n / k) wide in
+    let pixel : n / k < w * t = before_pixel n k (w * t) some h in
+    let turned : w * t ≡ t * w = mul_comm w t in
+    let row : n / k / w < t = before_pixel (n / k) w t wide (omega (arith, pixel, turned)) in
+    let i = sample_inside g.xs g.ys (g.left + n / k % w) (g.top + n / k / w) (n % k) (mod-lt n some) in
+    record {
+      small_x = small _ (g.left + n / k % w) (omega (arith, column, right)) i.left i.right;
+      small_y = small _ (g.top + n / k / w) (omega (arith, row, bottom)) i.top i.bottom;
+    }

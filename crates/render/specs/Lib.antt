@@ -15,4 +15,4 @@ pub mod Run
 pub mod Answers
 pub mod Reading
 pub mod Film
-pub mod Still
+pub mod Sampled

@@ -1,12 +1,15 @@
-// The picture of a frame, by the plain program: all cells of all primitives on the raster, looked through at each sample.
-ghost use Rattle.std.specs.Prelude.{◌≡◌, ◌≤◌, ◌<◌, ◌+◌, ◌*◌, ◌^◌, ◌++◌, ◌∷◌, [], Some, length, IfOk, OnOk, IfSome, MatchOption, slice_get};
+// The picture of a frame: the micropolygons of its primitives, leaf by leaf, hidden in one tile that has all its samples.
+ghost use Rattle.std.specs.Prelude.{◌≡◌, ◌≤◌, ◌<◌, ◌+◌, ◌*◌, ◌^◌, ◌++◌, ◌∷◌, [], Some, length, map, IfOk, OnOk, IfSome, MatchOption, slice_get};
 ghost use Rattle.bound_split.specs.Leaves.{pending};
 ghost use Rattle.bound_split.specs.declared.splits.Decision.TheVariants.{Dice};
 ghost use Rattle.displace_shade.specs.Sets.{Fits};
 ghost use Rattle.displace_shade.specs.Shop.{set_value};
 ghost use Rattle.displace_shade.specs.Diced.{grid_value};
-ghost use Rattle.render.specs.Pictures.{decide, prim_leaves, frame_leaves, grid_cells, diced_cells, picture_bytes};
-ghost use Rattle.render.specs.Still.{quads_of, prim_quads, prims_quads};
+ghost use Rattle.hider.specs.Cells.{still};
+ghost use Rattle.hider.specs.Fragments.{fragments};
+ghost use Rattle.hider.specs.Tiles.{Shows};
+ghost use Rattle.render.specs.Pictures.{decide, prim_leaves, frame_leaves, grid_cells, leaf_micropolygons, prim_micropolygons, micropolygons, picture_bytes};
+ghost use Rattle.render.specs.Sampled.{frame_grid, ShowsMore, ShowsSome};
 ghost use Rattle.render.specs.Set.{AcceptedValue};
 ghost use Rattle.render.specs.Shopped.{shaded_by};
 
@@ -17,8 +20,8 @@ use bumpalo::Bump;
 use dice::GridRef;
 use displace_shade::Shop;
 use filter_ppm::{band_bytes, header};
-use fixed_math::{List, NoMemory};
-use hider::{Cell, Quad, cells_of_grid, quad_of};
+use fixed_math::NoMemory;
+use hider::{GridCells, Tile};
 use patches::Piece;
 use scene_state::{Frame, Prim};
 use std::alloc::Global;
@@ -32,28 +35,38 @@ pub(crate) struct Drawn {
     pub(crate) shadings: u64,
 }
 
-// The micropolygons of a shaded grid.
-fn grid_cells(alloc: Global, grid: &GridRef<'_>) -> Result<Vec<Cell>, NoMemory>
-    ensures { IfOk result (λ cells. cells.items ≡ grid_cells (grid_value grid.now)) }
+// Hides the micropolygons of a shaded grid of a primitive.
+fn hide_grid(
+    tile: &mut Tile,
+    grid: &GridRef<'_>,
+    frame: &Frame,
+    prim: &Prim,
+) -> Result<(), NoMemory>
+    ensures grid { tile.new.grid ≡ tile.old.grid }
+    ensures shows { OnOk result (ShowsMore frame.now.camera (map (still prim.now.one_sided prim.now.flip) (grid_cells (grid_value grid.now))) tile.old tile.new) }
 {
-    cells_of_grid(alloc, grid.columns, grid.rows, grid.p, grid.ci, grid.oi)
+    let cells = GridCells { grid: *grid };
+    tile.hide(&cells, &frame.camera, prim.one_sided, prim.flip)?;
+    Ok(())
 }
 
-// The micropolygons of a leaf of a primitive, whose grid is given up when they are made of it.
-#[tactic(auto, unfolding(crate::specs::Pictures::diced_cells))]
-fn cells_in(
+// Hides a leaf of a primitive, whose grid is given up when that is done.
+fn hide_leaf(
     alloc: Global,
     shop: &mut Shop,
     shown: &FrameIn<'_>,
     prim: &Prim,
     leaf: &Leaf,
-) -> Result<Vec<Cell>, NoMemory>
+    tile: &mut Tile,
+) -> Result<(), NoMemory>
     requires fits { Fits (set_value shop.old.set) shown.now.scene.now.uses }
     requires there { slice_get shown.now.frame.now.prims leaf.now.piece.prim ≡ Some prim.now }
+    requires sizes { decide shown.now.frame.now.camera prim.now leaf.now.piece ≡ Dice leaf.now.p leaf.now.q }
     requires p { leaf.now.p ≤ 4 }
     requires q { leaf.now.q ≤ 4 }
     requires count { shop.old.count < 18446744073709551615 }
-    ensures cells { IfOk result (λ cells. cells.items ≡ diced_cells (shaded_by shown.now.scene.now shop.old) shown.now.frame.now prim.now leaf.now.piece leaf.now.p leaf.now.q) }
+    ensures grid { tile.new.grid ≡ tile.old.grid }
+    ensures shows { OnOk result (ShowsMore shown.now.frame.now.camera (leaf_micropolygons (shaded_by shown.now.scene.now shop.old) shown.now.frame.now prim.now leaf.now.piece) tile.old tile.new) }
     ensures set { OnOk result (shop.new.set ≡ shop.old.set) }
     ensures count { OnOk result (shop.new.count ≡ shop.old.count + 1) }
 {
@@ -66,31 +79,7 @@ fn cells_in(
         leaf.p,
         leaf.q,
     )?;
-    grid_cells(alloc, &grid)
-}
-
-// Appends what the camera sees of a micropolygon of a primitive.
-fn push_quad(frame: &Frame, prim: &Prim, cell: &Cell, quads: &mut Vec<Quad>) -> Result<(), NoMemory>
-    ensures { IfOk result (λ _. quads.new.items ≡ quads.old.items ++ quads_of frame.now.camera prim.now (cell.now ∷ [])) }
-{
-    if let Some(quad) = quad_of(&frame.camera, cell, prim.one_sided, prim.flip) {
-        quads.push(quad)?;
-    }
-    Ok(())
-}
-
-// Appends what the camera sees of micropolygons of a primitive.
-fn push_quads(
-    frame: &Frame,
-    prim: &Prim,
-    cells: &[Cell],
-    quads: &mut Vec<Quad>,
-) -> Result<(), NoMemory>
-    ensures { IfOk result (λ _. quads.new.items ≡ quads.old.items ++ quads_of frame.now.camera prim.now cells.now) }
-{
-    for cell in cells {
-        push_quad(frame, prim, cell, quads)?;
-    }
+    hide_grid(tile, &grid, shown.frame, prim)?;
     Ok(())
 }
 
@@ -104,26 +93,26 @@ fn next_leaf(walk: &mut Walk, frame: &Frame, prim: &Prim) -> Option<Leaf>
     walk.next(&prim.patch, &frame.camera, prim.rate, prim.bound)
 }
 
-// Appends what the camera sees of primitive `number` of a frame, leaf by leaf.
-fn push_prim(
+// Hides primitive `number` of a frame, leaf by leaf.
+fn hide_prim(
     alloc: Global,
     shop: &mut Shop,
     shown: &FrameIn<'_>,
     number: u32,
     prim: &Prim,
-    quads: &mut Vec<Quad>,
+    tile: &mut Tile,
 ) -> Result<(), NoMemory>
     requires fits { Fits (set_value shop.old.set) shown.now.scene.now.uses }
     requires there { slice_get shown.now.frame.now.prims number ≡ Some prim.now }
     requires count { shop.old.count + 65536 ≤ 2 ^ 62 }
-    ensures quads { IfOk result (λ _. quads.new.items ≡ quads.old.items ++ prim_quads (shaded_by shown.now.scene.now shop.old) shown.now.frame.now number prim.now) }
+    ensures grid { tile.new.grid ≡ tile.old.grid }
+    ensures shows { OnOk result (ShowsMore shown.now.frame.now.camera (prim_micropolygons (shaded_by shown.now.scene.now shop.old) shown.now.frame.now number prim.now) tile.old tile.new) }
     ensures set { OnOk result (shop.new.set ≡ shop.old.set) }
     ensures count { OnOk result (shop.new.count ≡ shop.old.count + length (prim_leaves shown.now.frame.now number prim.now)) }
 {
     let mut walk = Walk::new(Piece::whole(number));
     while let Some(leaf) = next_leaf(&mut walk, shown.frame, prim) {
-        let cells = cells_in(alloc, shop, shown, prim, &leaf)?;
-        push_quads(shown.frame, prim, &cells, quads)?;
+        hide_leaf(alloc, shop, shown, prim, &leaf, tile)?;
     }
     Ok(())
 }
@@ -136,35 +125,45 @@ fn prims_of(frame: &Frame) -> &[Prim]
     frame.prims.as_slice()
 }
 
-// What the camera sees of all primitives of a frame.
-fn quads_in(alloc: Global, shop: &mut Shop, shown: &FrameIn<'_>) -> Result<Vec<Quad>, NoMemory>
+// A tile of all samples of a frame, at which nothing shows.
+fn new_tile(alloc: Global, frame: &Frame) -> Result<Tile, NoMemory>
+    ensures grid { IfOk result (λ tile. tile.grid ≡ frame_grid frame.now.camera.width frame.now.camera.height frame.now.options) }
+    ensures empty { IfOk result (λ tile. Shows tile (fragments frame.now.camera [])) }
+{
+    let view = frame.camera.view();
+    let options = &frame.options;
+    // here is told that all options are in order
+    options.ranges_known();
+    let rect = [0, 0, view.width, view.height];
+    let tile = Tile::new(alloc, rect, options.xs as u32, options.ys as u32)?;
+    Ok(tile)
+}
+
+// A tile in which all primitives of a frame are hidden.
+fn tile_in(alloc: Global, shop: &mut Shop, shown: &FrameIn<'_>) -> Result<Tile, NoMemory>
     requires fits { Fits (set_value shop.old.set) shown.now.scene.now.uses }
     requires count { shop.old.count + 2 ^ 32 ≤ 2 ^ 62 }
-    ensures quads { IfOk result (λ quads. quads.items ≡ prims_quads (shaded_by shown.now.scene.now shop.old) shown.now.frame.now shown.now.frame.now.prims) }
+    ensures grid { IfOk result (λ tile. tile.grid ≡ frame_grid shown.now.frame.now.camera.width shown.now.frame.now.camera.height shown.now.frame.now.options) }
+    ensures shows { IfOk result (λ tile. Shows tile (fragments shown.now.frame.now.camera (micropolygons (shaded_by shown.now.scene.now shop.old) shown.now.frame.now))) }
     ensures set { OnOk result (shop.new.set ≡ shop.old.set) }
     ensures leaves { OnOk result (shop.new.count ≡ shop.old.count + length (frame_leaves shown.now.frame.now)) }
     ensures count { OnOk result (shop.new.count ≤ shop.old.count + 2 ^ 32) }
 {
     let prims = prims_of(shown.frame);
-    let mut quads = Vec::new(alloc);
+    let mut tile = new_tile(alloc, shown.frame)?;
     for number in 0..prims.len() {
-        push_prim(
-            alloc,
-            shop,
-            shown,
-            number as u32,
-            &prims[number],
-            &mut quads,
-        )?;
+        hide_prim(alloc, shop, shown, number as u32, &prims[number], &mut tile)?;
     }
-    Ok(quads)
+    Ok(tile)
 }
 
-// The picture of a frame whose micropolygons are these.
+// The picture of a frame whose micropolygons the tile shows.
 #[tactic(auto, unfolding(crate::specs::Pictures::picture_bytes))]
-fn picture(alloc: Global, frame: &Frame, quads: Vec<Quad>, shadings: u64) -> Result<Drawn, NoMemory>
+fn picture(alloc: Global, frame: &Frame, tile: Tile, shadings: u64) -> Result<Drawn, NoMemory>
+    requires grid { tile.grid ≡ frame_grid frame.now.camera.width frame.now.camera.height frame.now.options }
+    requires some { ShowsSome frame.now.camera tile }
     ensures shadings { IfOk result (λ d. d.shadings ≡ shadings) }
-    ensures bytes { IfOk result (λ d. (a : AcceptedValue) → quads.items ≡ prims_quads a frame.now frame.now.prims → d.header.items ++ d.band.items ≡ picture_bytes a frame.now) }
+    ensures bytes { IfOk result (λ d. (a : AcceptedValue) → Shows tile (fragments frame.now.camera (micropolygons a frame.now)) → d.header.items ++ d.band.items ≡ picture_bytes a frame.now) }
 {
     let view = frame.camera.view();
     let (width, height) = (view.width, view.height);
@@ -175,9 +174,8 @@ fn picture(alloc: Global, frame: &Frame, quads: Vec<Quad>, shadings: u64) -> Res
         width,
         height,
         options,
-        quads: List(quads),
     };
-    let pixels = pixels(alloc, &film)?;
+    let pixels = pixels(alloc, &film, tile)?;
     Ok(Drawn {
         header: header(alloc, width, height, &film.options)?,
         band: band_bytes(alloc, &film.options, &pixels)?,
@@ -195,7 +193,7 @@ pub(crate) fn draw(alloc: Global, shop: &mut Shop, shown: &FrameIn<'_>) -> Resul
     ensures count { OnOk result (shop.new.count ≤ shop.old.count + 2 ^ 32) }
 {
     let before = shop.count();
-    let quads = quads_in(alloc, shop, shown)?;
+    let tile = tile_in(alloc, shop, shown)?;
     let shadings = shop.count() - before;
-    picture(alloc, shown.frame, quads, shadings)
+    picture(alloc, shown.frame, tile, shadings)
 }

@@ -1,8 +1,7 @@
-// The plain program of a picture: all micropolygons of a frame, looked through at each sample.
+// The samples of a frame that is drawn whole, and its pixels: each is a mean over the samples about its middle.
 mod film;
 mod pixels;
 mod reach;
-mod row;
 mod sampling;
 mod shown;
 mod window;

@@ -1,5 +1,5 @@
 ghost use Rattle.std.specs.Prelude.{◌≡◌, ◌≤◌, ◌<◌, ◌+◌, ◌-◌, min};
-ghost use Rattle.render.specs.Still.{IsWindow};
+ghost use Rattle.render.specs.Sampled.{IsWindow};
 
 use super::film::Film;
 use super::sampling::samples_per_pixel;

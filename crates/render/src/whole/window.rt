@@ -1,7 +1,9 @@
 ghost use Rattle.std.specs.Prelude.{◌≡◌, ◌≤◌, ◌<◌, ◌+◌, ◌-◌, ◌*◌, ◌/◌, ◌≤ℤ◌, ◌-ℤ◌, pos, min, length, unsigned_abs};
 ghost use Rattle.std.specs.List.{slice_range};
+ghost use Rattle.fixed_math.specs.declared.vec3.Vec3.{Vec3};
+ghost use Rattle.hider.specs.declared.sample.Sample.{Sample};
 ghost use Rattle.filter_ppm.specs.Mean.{with_colour};
-ghost use Rattle.render.specs.Still.{counts_for, mean_about, shown_samples, AddsSamples};
+ghost use Rattle.render.specs.Sampled.{film_with, sample_count, counts_for, mean_about, shown_samples, AddsSamples};
 
 use super::film::Film;
 use super::reach::window_of;
@@ -69,10 +71,10 @@ fn part(all: &[ShownSample], start: usize, end: usize) -> &[ShownSample]
 /// The weighted mean of the samples about the pixel `x`, `y`. Only samples of pixels within the filter's reach are
 /// looked at, since no other counts.
 pub(crate) fn mean_about(film: &Film, all: &[ShownSample], x: u32, y: u32) -> Vec3
-    requires all { all.now ≡ shown_samples film.now }
+    requires count { length all.now ≡ sample_count film.now }
     requires x { x < film.now.width }
     requires y { y < film.now.height }
-    ensures { result ≡ mean_about film.now.options x y all.now }
+    ensures { (c : Sample → Vec3) → all.now ≡ shown_samples (film_with film.now c) → result ≡ mean_about film.now.options x y all.now }
 {
     let w = window_of(film, x, y);
     let o = film.options;

@@ -1,5 +1,5 @@
 use Rattle.std.proofs.Common.{take}
-use Rattle.render.specs.Still.{AddsSamples}
+use Rattle.render.specs.Sampled.{AddsSamples}
 use Rattle.render.proofs.whole.window.add_row.Given as goal
 
 abbrev pub invariant-loop-sample : goal.invariant-loop-sample
