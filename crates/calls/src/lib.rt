@@ -13,7 +13,11 @@ mod operations;
 #[cfg(test)]
 mod operations_on_numbers;
 #[cfg(test)]
+mod operations_on_several_triples;
+#[cfg(test)]
 mod operations_on_triples;
+#[cfg(test)]
+mod products_of_triples;
 #[cfg(test)]
 mod scene_text;
 #[cfg(test)]
