@@ -1,5 +1,6 @@
-//! Tests of what only a call shows: numbers and texts, the memory forms of files, frames and notes, tokens and requests, and
-//! surfaces with their maps, splits and sample places. What a text or a command's words can show is a case of `conformance`.
+//! Tests of what only a call shows: numbers and texts, the memory forms of files, frames and notes, tokens and requests, surfaces
+//! with their maps, splits and sample places, compiled functions at all points of a grid, and the numbers of docs/TOUR.md. What a
+//! text or a command's words can show is a case of `conformance`.
 #![tactic(auto)]
 
 #[cfg(test)]
@@ -8,16 +9,6 @@ mod compiled;
 mod files;
 #[cfg(test)]
 mod numbers;
-#[cfg(test)]
-mod operations;
-#[cfg(test)]
-mod operations_on_numbers;
-#[cfg(test)]
-mod operations_on_several_triples;
-#[cfg(test)]
-mod operations_on_triples;
-#[cfg(test)]
-mod products_of_triples;
 #[cfg(test)]
 mod scene_text;
 #[cfg(test)]
