@@ -1,10 +1,7 @@
-//! Tests of what only a call shows: numbers and texts, the memory forms of files, frames and notes, tokens and requests, surfaces
-//! with their maps, splits and sample places, compiled functions at all points of a grid, and the numbers of docs/TOUR.md. What a
-//! text or a command's words can show is a case of `conformance`.
+//! Tests of what only a call shows: numbers and texts, the memory forms of files, frames and notes, tokens and requests, and
+//! surfaces with their maps, splits and sample places. What a text or a command's words can show is a case of `conformance`.
 #![tactic(auto)]
 
-#[cfg(test)]
-mod compiled;
 #[cfg(test)]
 mod files;
 #[cfg(test)]
@@ -13,5 +10,3 @@ mod numbers;
 mod scene_text;
 #[cfg(test)]
 mod surfaces;
-#[cfg(test)]
-mod tour;
