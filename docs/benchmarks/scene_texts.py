@@ -37,7 +37,24 @@ def uses(count_share, use):
         i += 1
 
 
+def mesh(kind, along, points, variables=""):
+    """A mesh of that many points each way, which makes 65,536 patches."""
+    return (f'WorldBegin\nPatchMesh "{kind}" {along} "nonperiodic" {along} "nonperiodic" "P" [{points * along * along}]{variables}\n', "kind.rib:2: N4")
+
+
+def faces(count):
+    """Squares that share their points with their neighbours in a row."""
+    corners = " ".join(f"{2 * i} {2 * i + 1} {2 * i + 3} {2 * i + 2}" for i in range(count))
+    points = " ".join(f"{i * 0.0001:.4f} {j} 1" for i in range(count + 1) for j in (0, 1))
+    return (f"WorldBegin\nPointsPolygons [{'4 ' * count}] [{corners}] \"P\" [{points}]\n", "kind.rib:2: N4")
+
+
 KINDS = {
+    # meshes and polygons of 65,536 patches
+    "mesh_bilinear": mesh("bilinear", 257, "0 .5 1 "),
+    "mesh_coloured": mesh("bilinear", 257, "0 .5 1 ", ' "Cs" [' + "1 .5 0 " * (257 * 257) + ']'),
+    "mesh_bicubic": mesh("bicubic", 769, "0 .5 1 "),
+    "faces": faces(65536),
     # names
     "declared": (full("", 'Declare "a{}" "float"\n'), "-"),
     "declared_and_used": (uses(0.5, 'Surface "m" "a%d" 1\n'), "-"),
@@ -47,6 +64,7 @@ KINDS = {
     "parameters_inline": (full('Surface "m" ', '"float b{}" 1 '), "-"),
     "parameters_undeclared": (full('Surface "m" ', '"b{}" 1 '), "kind.rib:1: S4"),
     "points_of_one_name": (full('WorldBegin Patch "bilinear" ', '"P" [1] '), "kind.rib:1: G5"),
+    "variables_of_one_patch": (full('WorldBegin Patch "bilinear" "P" [0 0 1 1 0 1 0 1 1 1 1 1] ', '"constant float a{}" 1 '), "kind.rib:1: N4"),
     "one_long_token": (full('Surface "m" "', "a ", '" 1'), "kind.rib:1: S4"),
     # requests
     "surfaces": (full("", 'Surface "matte" "Kd" [1]\n'), "-"),
