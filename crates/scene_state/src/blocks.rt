@@ -53,7 +53,7 @@ impl State {
             attributes: self.attributes.copy(alloc)?,
             current: self.current,
             choices: self.choices,
-            name: self.name.copied(alloc)?,
+            name: self.name.shared()?,
         };
         self.open(block)
     }

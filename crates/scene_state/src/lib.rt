@@ -18,6 +18,7 @@ mod points;
 mod prims;
 mod reading;
 mod shaders;
+mod shared_name;
 mod state;
 mod steps;
 mod turning;

@@ -7,6 +7,7 @@ use crate::choices::Choices;
 use crate::frame::Frame;
 use crate::prims::Prims;
 use crate::shaders::{Handle, Shaders};
+use crate::shared_name::SharedName;
 use fixed_math::{List, NoMemory, Text};
 use std::alloc::Global;
 use transforms::{Affine, Camera};
@@ -18,7 +19,7 @@ pub(crate) enum Block {
         attributes: Attributes,
         current: Affine,
         choices: Choices,
-        name: Text,
+        name: SharedName,
     },
     InWorld {
         attributes: Attributes,
@@ -46,7 +47,7 @@ pub(crate) struct World {
 #[derive(Drop)]
 pub(crate) struct State {
     pub(crate) choices: Choices,
-    pub(crate) name: Text,
+    pub(crate) name: SharedName,
     pub(crate) attributes: Attributes,
     pub(crate) current: Affine,
     pub(crate) blocks: List<Block>,
@@ -64,7 +65,7 @@ impl State {
     {
         Ok(State {
             choices: Choices::first(),
-            name: Text::from_bytes(alloc, b"out.ppm")?,
+            name: SharedName::new(alloc, Text::from_bytes(alloc, b"out.ppm")?)?,
             attributes: Attributes::first(alloc),
             current: Affine::identity(),
             blocks: List(Vec::new(alloc)),

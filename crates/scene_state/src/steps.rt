@@ -7,6 +7,7 @@ ghost use Rattle.scene_state.specs.Steps.{look_set, bases_set, after};
 ghost use Rattle.scene_state.specs.Answers.{Steps};
 
 use crate::fault::{StateCode, Stop};
+use crate::shared_name::SharedName;
 use crate::state::State;
 use rib_reader::{Req, Request};
 use std::alloc::Global;
@@ -49,7 +50,7 @@ impl State {
         }
         let name = request.word(0);
         if !name.as_str().starts_with('+') {
-            self.name = name.copied(alloc)?;
+            self.name = SharedName::new(alloc, name.copied(alloc)?)?;
         }
         Ok(())
     }
