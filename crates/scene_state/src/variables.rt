@@ -132,12 +132,7 @@ fn strings_at(
 }
 
 // The values at these places.
-fn taken(
-    alloc: Global,
-    kind: Kind,
-    values: &Values,
-    places: &[usize],
-) -> Result<Values, NoMemory>
+fn taken(alloc: Global, kind: Kind, values: &Values, places: &[usize]) -> Result<Values, NoMemory>
     requires { All (λ n. width kind * n + width kind ≤ count values.now) places.now }
     ensures { IfOk result (λ r. r ≡ taken kind values.now places.now) }
 {
@@ -193,11 +188,7 @@ fn variable_of(alloc: Global, piece: &Piece, param: &Param) -> Result<Variable, 
 }
 
 // The variables of a patch, of these.
-fn variables_of(
-    alloc: Global,
-    piece: &Piece,
-    params: &[&Param],
-) -> Result<List<Variable>, NoMemory>
+fn variables_of(alloc: Global, piece: &Piece, params: &[&Param]) -> Result<List<Variable>, NoMemory>
     requires { All (IsThere piece.now) (map (λ p. p.now) params.now) }
     ensures { IfOk result (λ r. r ≡ variables_of piece.now (map (λ p. p.now) params.now)) }
 {
