@@ -279,7 +279,6 @@ levels_stand args params a b c e mode one least most =
 
 -- the list of a primitive
 needs_points : Follows → Bool
-needs_points follows.Points = true
 needs_points follows.Variables = true
 needs_points follows.Bicubic = true
 needs_points _ = false
@@ -296,13 +295,12 @@ geometry_needs tails.Anything word h = absurd cc
 geometry_needs tails.Free word h = absurd cc
 geometry_needs tails.Attribute word h = absurd cc
 geometry_needs tails.Parameters word h = absurd cc
-geometry_needs tails.Points word h = refl
-geometry_needs tails.Variables word h = either_bicubic (is_one Bicubic word)
+geometry_needs tails.Variables word h = refl
+geometry_needs tails.PatchVariables word h = either_bicubic (is_one Bicubic word)
 
 -- a primitive's points are there
 points_there : (f : Follows) (ps : List Param) → needs_points f ≡ true → whole_code f ps ≡ None → is_named (codes "P") ps ≡ true
 unfolding needs_points
-points_there follows.Points ps n e = not_false (is_named (codes "P") ps) (when_none (not (is_named (codes "P") ps)) S3 e)
 points_there follows.Variables ps n e = not_false (is_named (codes "P") ps) (when_none (not (is_named (codes "P") ps)) S3 e)
 points_there follows.Bicubic ps n e = not_false (is_named (codes "P") ps) (when_none (not (is_named (codes "P") ps)) S3 e)
 points_there follows.Nothing ps n e = absurd cc
@@ -314,7 +312,6 @@ points_there follows.Parameters ps n e = absurd cc
 -- each variable is of the kind that its name needs
 kind_stands : (f : Follows) (name : List ℕ) (class : Class) (k : Kind) → needs_points f ≡ true → name_code f name class k ≡ None → kind_code name k ≡ None
 unfolding needs_points
-kind_stands follows.Points name class k n e = (lower_none (kind_code name k) (when (not (is_points name)) S2) e).0
 kind_stands follows.Variables name class k n e = e
 kind_stands follows.Bicubic name class k n e = (lower_none (kind_code name k) (when (is_vertex class && not (is_points name)) S2) e).0
 kind_stands follows.Nothing name class k n e = absurd cc

@@ -6,7 +6,7 @@ use Rattle.rib_reader.specs.declared.args.Arg.{Arg}
 use Rattle.rib_reader.specs.declared.args.Arg.TheVariants.{Str}
 use Rattle.rib_reader.specs.declared.params.Param.{Param}
 use Rattle.rib_reader.specs.declared.follows.Follows.{Follows}
-use Rattle.rib_reader.specs.declared.follows.Follows.TheVariants.{Nothing, Anything, Free, Bound, Parameters, Points, Variables, Bicubic}
+use Rattle.rib_reader.specs.declared.follows.Follows.TheVariants.{Nothing, Anything, Free, Bound, Parameters, Variables, Bicubic}
 use Rattle.rib_reader.specs.declared.faults.RibCode.{RibCode}
 use Rattle.rib_reader.specs.declared.faults.RibCode.TheVariants.{S3}
 use Rattle.rib_reader.specs.declared.declared.Declared.{Declared}
@@ -66,6 +66,5 @@ looked_up Anything dict vs n a = absurd (a refl)
 looked_up Free dict vs n a = refl
 looked_up Bound dict vs n a = refl
 looked_up Parameters dict vs n a = refl
-looked_up Points dict vs n a = refl
 looked_up Variables dict vs n a = refl
 looked_up Bicubic dict vs n a = refl

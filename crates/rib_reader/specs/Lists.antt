@@ -16,7 +16,7 @@ use Rattle.rib_reader.specs.declared.req.Req.{Req}
 use Rattle.rib_reader.specs.declared.table.Tail.{Tail}
 use Rattle.rib_reader.specs.declared.table.Tail.TheVariants as tails
 use Rattle.rib_reader.specs.declared.follows.Follows.{Follows}
-use Rattle.rib_reader.specs.declared.follows.Follows.TheVariants.{Nothing, Anything, Free, Bound, Parameters, Points, Variables, Bicubic}
+use Rattle.rib_reader.specs.declared.follows.Follows.TheVariants.{Nothing, Anything, Free, Bound, Parameters, Variables, Bicubic}
 use Rattle.rib_reader.specs.declared.faults.RibCode.{RibCode}
 use Rattle.rib_reader.specs.declared.faults.RibCode.TheVariants.{S2, S3, S5}
 use Rattle.rib_reader.specs.declared.declared.Declared.{Declared}
@@ -110,7 +110,6 @@ is_bound name _ = false
 -- what a list says of a variable's name, class and kind
 abbrev pub name_code : Follows → List ℕ → Class → Kind → Option RibCode
 name_code Bound name class k = when (not (is_bound name k)) S5
-name_code Points name class k = lower (kind_code name k) (when (not (is_points name)) S2)
 name_code Variables name class k = kind_code name k
 name_code Bicubic name class k = lower (kind_code name k) (when (is_vertex class && not (is_points name)) S2)
 name_code _ name class k = None
@@ -204,7 +203,6 @@ param_code follows p = lower (when (not (is_of_kind p.kind p.values)) S3) (own_c
 -- what the list as a whole must have
 abbrev pub whole_code : Follows → List Param → Option RibCode
 whole_code Bound ps = when (length ps == 0) S5
-whole_code Points ps = when (not (is_named (codes "P") ps)) S3
 whole_code Variables ps = when (not (is_named (codes "P") ps)) S3
 whole_code Bicubic ps = when (not (is_named (codes "P") ps)) S3
 whole_code Parameters ps = None
@@ -219,8 +217,8 @@ request_code name args params = lower (args_code name args) (params_code (follow
 
 -- whether a primitive's list follows
 abbrev pub is_geometry : Tail → Bool
-is_geometry tails.Points = true
 is_geometry tails.Variables = true
+is_geometry tails.PatchVariables = true
 is_geometry _ = false
 
 abbrev pub numbers_held : Values → Option (List ℤ)
@@ -253,8 +251,16 @@ stops_at = refl
 vertex : pair_code Bicubic [] (Of (codes "vertex float x") (Some (Str (codes "y")))) ≡ Some S2
 vertex = refl
 
-other_than_points : pair_code Points [] (Of (codes "Cs") None) ≡ Some S2
-other_than_points = refl
+vertex_points : pair_code Bicubic [] (Of (codes "P") (Some (Numbers []))) ≡ None
+vertex_points = refl
+
+-- where no patch is bicubic, a vertex variable is one like others
+vertex_beside_points : pair_code Variables [] (Of (codes "vertex float x") (Some (Numbers []))) ≡ None
+vertex_beside_points = refl
+
+-- a name that needs another kind
+another_kind_than_needed : pair_code Variables [] (Of (codes "varying point Cs") (Some (Numbers []))) ≡ Some S3
+another_kind_than_needed = refl
 
 -- the bound of another name or kind
 another_name : params_code Bound (one_of (codes "cube") kinds.Float ∷ []) ≡ Some S5

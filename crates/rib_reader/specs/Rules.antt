@@ -183,8 +183,8 @@ tail_with tails.Anything word = follows.Anything
 tail_with tails.Free word = follows.Free
 tail_with tails.Attribute word = if is_one Bounds word then follows.Bound else follows.Free
 tail_with tails.Parameters word = follows.Parameters
-tail_with tails.Points word = follows.Points
-tail_with tails.Variables word = if is_one Bicubic word then follows.Bicubic else follows.Variables
+tail_with tails.Variables word = follows.Variables
+tail_with tails.PatchVariables word = if is_one Bicubic word then follows.Bicubic else follows.Variables
 
 -- what follows the arguments
 abbrev pub follows_of : Req → List Arg → Follows

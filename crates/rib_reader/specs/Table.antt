@@ -91,11 +91,11 @@ row_of reqs.Scale = plain_row (Number ∷ Number ∷ Number ∷ [])
 row_of reqs.Rotate = plain_row (Number ∷ Number ∷ Number ∷ Number ∷ [])
 row_of reqs.Transform = plain_row (Array 16 ∷ [])
 row_of reqs.ConcatTransform = plain_row (Array 16 ∷ [])
-row_of reqs.Patch = row (Word ∷ []) (OneOf 0 Patches S3 ∷ []) tails.Points
+row_of reqs.Patch = row (Word ∷ []) (OneOf 0 Patches S3 ∷ []) tails.PatchVariables
 row_of reqs.PatchMesh = row (Word ∷ Whole ∷ Word ∷ Whole ∷ Word ∷ [])
-    (OneOf 0 Patches S3 ∷ Within 1 (pos 1) (pos 65536) ∷ OneOf 2 Wraps S3 ∷ Within 3 (pos 1) (pos 65536) ∷ OneOf 4 Wraps S3 ∷ []) tails.Points
-row_of reqs.Polygon = row [] [] tails.Points
-row_of reqs.PointsPolygons = row (Wholes ∷ Wholes ∷ []) [] tails.Points
+    (OneOf 0 Patches S3 ∷ Within 1 (pos 1) (pos 65536) ∷ OneOf 2 Wraps S3 ∷ Within 3 (pos 1) (pos 65536) ∷ OneOf 4 Wraps S3 ∷ []) tails.PatchVariables
+row_of reqs.Polygon = row [] [] tails.Variables
+row_of reqs.PointsPolygons = row (Wholes ∷ Wholes ∷ []) [] tails.Variables
 row_of reqs.Version = passed_over
 row_of reqs.ErrorHandler = passed_over
 row_of reqs.Hider = passed_over

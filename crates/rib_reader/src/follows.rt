@@ -11,10 +11,8 @@ pub enum Follows {
     Bound,
     /// A shader's or a projection's parameters.
     Parameters,
-    /// The points of a primitive.
-    Points,
-    /// A primitive's variables.
+    /// A primitive's variables, P among them.
     Variables,
-    /// The variables of a bicubic primitive.
+    /// The variables of a bicubic primitive: no variable other than P is a vertex variable.
     Bicubic,
 }

@@ -111,10 +111,6 @@ pub fn name_fault(follows: Follows, name: &Text, class: Class, kind: Kind) -> Op
 {
     match follows {
         Follows::Bound => code_when(!is_bound(name, kind), RibCode::S5),
-        Follows::Points => lower_of(
-            kind_fault(name, kind),
-            code_when(!is_points(name), RibCode::S2),
-        ),
         Follows::Variables => kind_fault(name, kind),
         Follows::Bicubic => lower_of(
             kind_fault(name, kind),
@@ -171,9 +167,7 @@ fn whole_fault(follows: Follows, params: &[Param]) -> Option<RibCode>
 {
     match follows {
         Follows::Bound => code_when(params.is_empty(), RibCode::S5),
-        Follows::Points | Follows::Variables | Follows::Bicubic => {
-            code_when(!has_points(params), RibCode::S3)
-        }
+        Follows::Variables | Follows::Bicubic => code_when(!has_points(params), RibCode::S3),
         Follows::Parameters => None,
         _ => code_when(!params.is_empty(), RibCode::S3),
     }

@@ -189,7 +189,7 @@ pub fn row(name: Req) -> Row
         Req::Patch => Row {
             shapes: &[Shape::Word],
             rules: &[Rule::OneOf(0, Words::Patches, RibCode::S3)],
-            tail: Tail::Points,
+            tail: Tail::PatchVariables,
         },
         Req::PatchMesh => Row {
             shapes: &[
@@ -206,17 +206,17 @@ pub fn row(name: Req) -> Row
                 Rule::Within(3, 1, 65_536),
                 Rule::OneOf(4, Words::Wraps, RibCode::S3),
             ],
-            tail: Tail::Points,
+            tail: Tail::PatchVariables,
         },
         Req::Polygon => Row {
             shapes: &[],
             rules: &[],
-            tail: Tail::Points,
+            tail: Tail::Variables,
         },
         Req::PointsPolygons => Row {
             shapes: &[Shape::Wholes, Shape::Wholes],
             rules: &[],
-            tail: Tail::Points,
+            tail: Tail::Variables,
         },
         Req::Version
         | Req::ErrorHandler

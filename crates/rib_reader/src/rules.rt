@@ -159,8 +159,8 @@ pub fn following(name: Req, args: &[Arg]) -> Follows
             }
         }
         Tail::Parameters => Follows::Parameters,
-        Tail::Points => Follows::Points,
-        Tail::Variables => {
+        Tail::Variables => Follows::Variables,
+        Tail::PatchVariables => {
             if is_one(Words::Bicubic, args, 0) {
                 Follows::Bicubic
             } else {

@@ -67,10 +67,10 @@ pub enum Tail {
     Attribute,
     /// A shader's or a projection's parameters.
     Parameters,
-    /// The points of a primitive.
-    Points,
-    /// A primitive's variables.
+    /// A primitive's variables, P among them.
     Variables,
+    /// Those of a patch or a mesh: where it is bicubic, no variable other than P is a vertex variable.
+    PatchVariables,
 }
 
 /// A row of the table: the kinds of the arguments, what is said of their values, and what follows them.

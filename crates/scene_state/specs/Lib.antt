@@ -5,6 +5,7 @@ pub mod Choices
 pub mod Looks
 pub mod Bases
 pub mod Faces
+pub mod Variables
 pub mod Shaders
 pub mod State
 pub mod Steps

@@ -1,5 +1,5 @@
 -- The state between two requests, and how each request changes it (RenderMan Interface 3.2, sections 3 to 5).
-use Rattle.std.specs.Prelude.{ℕ, ◌+◌, ◌-◌, ◌*◌, ◌/◌, ◌%◌, ◌==◌, nat_le, nat_lt, ℤ, pos, List, [], ◌∷◌, ◌++◌, length, take, drop, map, Bool, Option, Some, None, is_some, Result, Ok, Err, if◌then◌else◌, codes, slice_index_or}
+use Rattle.std.specs.Prelude.{ℕ, ◌+◌, ◌-◌, ◌*◌, ◌==◌, nat_le, nat_lt, ℤ, pos, List, [], ◌∷◌, ◌++◌, length, take, drop, map, Bool, not, Option, Some, None, is_some, Result, Ok, Err, if◌then◌else◌, codes, slice_index_or}
 use Rattle.std.specs.List.{slice_get, sum_by}
 use Rattle.fixed_math.specs.Fixed.{sat}
 use Rattle.fixed_math.specs.declared.vec3.Vec3.{Vec3}
@@ -26,6 +26,7 @@ use Rattle.scene_state.specs.Scene.{PrimValue, FrameValue, most_prims}
 use Rattle.scene_state.specs.Choices.{ChoiceValues, first_choices, chosen, view_of}
 use Rattle.scene_state.specs.Bases.{patch_shape, mesh_shape}
 use Rattle.scene_state.specs.Faces.{FaceValues, one_face, faces_in}
+use Rattle.scene_state.specs.Variables.{variables_in, are_counted, variables_of, mesh_extent, mesh_piece, faces_extent, face_piece}
 use Rattle.scene_state.specs.Looks.{LookValues, is_single}
 use Rattle.scene_state.specs.Shaders.{first_attributes, first_shaders, with_request, placed, some_placed, all_placed, light_of, with_light, without_light}
 use Rattle.scene_state.specs.declared.fault.StateCode.{StateCode}
@@ -38,6 +39,7 @@ use Rattle.scene_state.specs.declared.attributes.Attributes.{Attributes}
 use Rattle.scene_state.specs.declared.state.Block.{Block}
 use Rattle.scene_state.specs.declared.state.Block.TheVariants.{InFrame, InWorld, InAttributes, InTransform}
 use Rattle.scene_state.specs.declared.state.World.{World}
+use Rattle.scene_state.specs.declared.piece.Piece.{Piece}
 use Rattle.scene_state.specs.declared.state.State.{State}
 
 abbrev pub first_state : State
@@ -258,22 +260,9 @@ points_from m [] = Some []
 points_from m (x ∷ y ∷ z ∷ xs) = with_next (Some (camera_point m (record { x = x; y = y; z = z }))) (points_from m xs)
 points_from m _ = None
 
--- the place of a patch that is no mesh's
-abbrev pub whole_place : List ℕ
-whole_place = 0 ∷ 1 ∷ 0 ∷ 1 ∷ []
-
--- patch k of a mesh, of which so many stand along u and along v
-abbrev pub mesh_place : Counts → ℕ → List ℕ
-mesh_place c k = (k % c.along_u) ∷ c.along_u ∷ (k / c.along_u) ∷ c.along_v ∷ []
-
--- patch k of a mesh, or of what is none
-abbrev pub patch_place : Option Counts → ℕ → List ℕ
-patch_place None k = whole_place
-patch_place (Some c) k = mesh_place c k
-
 -- a primitive of these attributes, whose shaders have these places among the uses
-abbrev pub prim_of : Read → Map → Option Vec3 → List ℕ → Patch → LookValues → ℕ → Option ℕ → Option ℕ → List ℕ → PrimValue
-prim_of r object flat place patch l surface displacement atmosphere lights = record {
+abbrev pub prim_of : Read → Map → Option Vec3 → Piece → Patch → LookValues → ℕ → Option ℕ → Option ℕ → List ℕ → PrimValue
+prim_of r object flat piece patch l surface displacement atmosphere lights = record {
   patch = patch;
   flat = flat;
   cs = l.cs;
@@ -286,26 +275,26 @@ prim_of r object flat place patch l surface displacement atmosphere lights = rec
   rate = l.rate;
   one_sided = l.one_sided;
   flip = differ l.flip object.mirrored;
-  vars = [];
+  vars = variables_of piece (variables_in r.params);
   object = object;
-  place = place;
+  place = piece.place;
   line = r.line;
 }
 
 -- a patch is placed: its shaders are had in the order displacement, surface, atmosphere, lights
-abbrev pub with_prim : Read → Map → Option Vec3 → List ℕ → Patch → State → State
-with_prim r object flat place patch s =
+abbrev pub with_prim : Read → Map → Option Vec3 → Piece → Patch → State → State
+with_prim r object flat piece patch s =
     let a = s.attributes in
     let d = some_placed s.shaders a.displacement in
     let f = placed d.0 a.surface in
     let v = some_placed f.0 a.atmosphere in
     let l = all_placed v.0 a.lights in
-    record s { shaders = l.0; prims = s.prims ++ prim_of r object flat place patch a.look f.1 d.1 v.1 l.1 ∷ [] }
+    record s { shaders = l.0; prims = s.prims ++ prim_of r object flat piece patch a.look f.1 d.1 v.1 l.1 ∷ [] }
 
--- patches one after another, the first of these being patch k of its primitive
-unfoldable pub with_patches : Read → Map → Option Vec3 → Option Counts → ℕ → List Patch → State → State
-with_patches r object flat c k [] s = s
-with_patches r object flat c k (p ∷ ps) s = with_patches r object flat c (k + 1) ps (with_prim r object flat (patch_place c k) p s)
+-- patches one after another, the first of these being patch k of those that stand so in their primitive
+unfoldable pub with_patches : Read → Map → Option Vec3 → (ℕ → Piece) → ℕ → List Patch → State → State
+with_patches r object flat pieces k [] s = s
+with_patches r object flat pieces k (p ∷ ps) s = with_patches r object flat pieces (k + 1) ps (with_prim r object flat (pieces k) p s)
 
 -- a frame has no room for so many primitives more
 abbrev pub is_past : ℕ → State → Bool
@@ -314,14 +303,18 @@ is_past count s = nat_lt most_prims (length s.prims + count)
 -- ---- patches and meshes
 
 -- those from patch k on, where each is in range
-abbrev pub mesh_from : Read → Map → Counts → ℕ → Option (List Patch) → State → Stepped
-mesh_from r object c k None s = Err M7
-mesh_from r object c k (Some ps) s = Ok (with_patches r object None (Some c) k ps s)
+abbrev pub mesh_from : Read → Map → (ℕ → Piece) → ℕ → Option (List Patch) → State → Stepped
+mesh_from r object pieces k None s = Err M7
+mesh_from r object pieces k (Some ps) s = Ok (with_patches r object None pieces k ps s)
 
--- as many points as the shape has, room in the frame, and then each point in range
+-- as many points as the shape has, as many values of each variable as its class has, room in the frame, and then each point in
+-- range
 abbrev pub mesh_counted : Read → Map → Shape → List Vec3 → Option Counts → State → Stepped
 mesh_counted r object shape ps None s = Err G5
-mesh_counted r object shape ps (Some c) s = if is_past (c.along_u * c.along_v) s then Err M3 else mesh_from r object c 0 (patches_in ps shape c) s
+mesh_counted r object shape ps (Some c) s =
+    if not (are_counted (mesh_extent shape c) (variables_in r.params)) then Err G5
+    else if is_past (c.along_u * c.along_v) s then Err M3
+    else mesh_from r object (mesh_piece shape c) 0 (patches_in ps shape c) s
 
 abbrev pub mesh_laid : Read → Shape → Map → List Vec3 → State → Stepped
 mesh_laid r shape object ps s = mesh_counted r object shape ps (counts_of shape (length ps)) s
@@ -333,19 +326,24 @@ abbrev pub face_points : List Vec3 → List ℕ → List Vec3
 face_points ps corners = map (point ps) corners
 
 -- a face is taken apart; each of its pieces has the normal of the face
-abbrev pub with_face : Read → Map → List Vec3 → State → State
-with_face r object ps s = with_patches r object (Some (flat_normal ps)) None 0 (pieces_of ps) s
+abbrev pub with_face : Read → Map → (ℕ → Piece) → List Vec3 → State → State
+with_face r object pieces ps s = with_patches r object (Some (flat_normal ps)) pieces 0 (pieces_of ps) s
 
-unfoldable pub with_faces : Read → Map → List Vec3 → List ℕ → List ℕ → State → State
-with_faces r object ps [] corners s = s
-with_faces r object ps (n ∷ ns) corners s = with_faces r object ps ns (drop n corners) (with_face r object (face_points ps (take n corners)) s)
+-- faces one after another, the first of these being that face of its primitive, and its first corner that one of all corners
+unfoldable pub with_faces : Read → Map → List Vec3 → ℕ → ℕ → List ℕ → List ℕ → State → State
+with_faces r object ps face first [] corners s = s
+with_faces r object ps face first (n ∷ ns) corners s =
+    with_faces r object ps (face + 1) (first + n) ns (drop n corners)
+    (with_face r object (face_piece face first (take n corners)) (face_points ps (take n corners)) s)
 
--- faces, room in the frame, and then each point in range, those that no face has too
+-- faces, as many values of each variable as its class has, room in the frame, and then each point in range, those that no face has
+-- too
 abbrev pub faces_laid : Read → Map → List Vec3 → Option FaceValues → State → Stepped
 faces_laid r object ps None s = Err G5
 faces_laid r object ps (Some f) s =
-    if is_past (sum_by piece_count f.sizes) s then Err M3
-    else if are_in_range ps then Ok (with_faces r object ps f.sizes f.corners s)
+    if not (are_counted (faces_extent (length ps) f) (variables_in r.params)) then Err G5
+    else if is_past (sum_by piece_count f.sizes) s then Err M3
+    else if are_in_range ps then Ok (with_faces r object ps 0 0 f.sizes f.corners s)
     else Err M7
 
 -- ---- primitives by their requests

@@ -1,5 +1,5 @@
 // The bases of bicubic patches, and the shapes of patches and meshes.
-ghost use Rattle.std.specs.Prelude.{◌≡◌, ◌≤◌};
+ghost use Rattle.std.specs.Prelude.{◌≡◌, ◌≤◌, ◌<◌, ◌^◌};
 ghost use Rattle.rib_reader.specs.declared.req.Req.TheVariants as reqs;
 ghost use Rattle.scene_state.specs.Bases.{BasisValues, AreBases, first_bases, basis_named, bases_after, shape_with, patch_shape, mesh_shape};
 
@@ -72,6 +72,8 @@ impl Bases {
         ensures value { result ≡ shape_with bicubic nu periodic_u nv periodic_v self }
         ensures step_u { 1 ≤ result.step_u }
         ensures step_v { 1 ≤ result.step_v }
+        ensures few_u { result.nu < 2 ^ 32 }
+        ensures few_v { result.nv < 2 ^ 32 }
     {
         Shape {
             bicubic,
@@ -92,6 +94,8 @@ impl Bases {
         ensures value { result ≡ patch_shape request.now.args self }
         ensures step_u { 1 ≤ result.step_u }
         ensures step_v { 1 ≤ result.step_v }
+        ensures few_u { result.nu < 2 ^ 32 }
+        ensures few_v { result.nv < 2 ^ 32 }
     {
         if request.word(0).as_str() == "bicubic" {
             self.shape(true, 4, false, 4, false)
@@ -106,6 +110,8 @@ impl Bases {
         ensures value { result ≡ mesh_shape request.now.args self }
         ensures step_u { 1 ≤ result.step_u }
         ensures step_v { 1 ≤ result.step_v }
+        ensures few_u { result.nu < 2 ^ 32 }
+        ensures few_v { result.nv < 2 ^ 32 }
     {
         self.shape(
             request.word(0).as_str() == "bicubic",

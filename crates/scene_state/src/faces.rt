@@ -1,5 +1,5 @@
 // The faces of polygons.
-ghost use Rattle.std.specs.Prelude.{◌≡◌, ◌≤◌, ◌<◌, ◌^◌, true, option_map, IfOk, length};
+ghost use Rattle.std.specs.Prelude.{◌≡◌, ◌≤◌, ◌<◌, ◌^◌, true, option_map, IfOk, IfSome, length};
 ghost use Rattle.std.specs.List.{sum_by, range_with_len};
 ghost use Rattle.rib_reader.specs.declared.req.Req.TheVariants as reqs;
 ghost use Rattle.mesh_basis.specs.Polygons.{piece_count};
@@ -71,7 +71,8 @@ fn are_places(points: usize, corners: &[usize]) -> bool
 
 // The faces over so many points, where they are some.
 fn faces_over(points: usize, sizes: List<usize>, corners: List<usize>) -> Option<Faces>
-    ensures { result ≡ faces_over points sizes corners }
+    ensures value { result ≡ faces_over points sizes corners }
+    ensures places { IfSome result (λ f. are_places points f.corners ≡ true) }
 {
     if use_up(sizes.as_slice(), corners.len()) && are_places(points, corners.as_slice()) {
         Some(Faces { sizes, corners })
@@ -93,7 +94,8 @@ fn below(alloc: Global, n: usize) -> Result<List<usize>, NoMemory>
 
 // One face round all points, where they are enough.
 pub(crate) fn one_face(alloc: Global, points: usize) -> Result<Option<Faces>, NoMemory>
-    ensures { IfOk result (λ r. r ≡ one_face points) }
+    ensures value { IfOk result (λ r. r ≡ one_face points) }
+    ensures places { IfOk result (λ r. IfSome r (λ f. are_places points f.corners ≡ true)) }
 {
     let mut sizes = Vec::new(alloc);
     sizes.push(points)?;
@@ -107,7 +109,8 @@ pub(crate) fn faces_in(
     points: usize,
 ) -> Result<Option<Faces>, NoMemory>
     requires { request.now.name ≡ reqs.PointsPolygons }
-    ensures { IfOk result (λ r. r ≡ faces_in points request.now.args) }
+    ensures value { IfOk result (λ r. r ≡ faces_in points request.now.args) }
+    ensures places { IfOk result (λ r. IfSome r (λ f. are_places points f.corners ≡ true)) }
 {
     let Some(sizes) = naturals(alloc, request.wholes(0))? else {
         return Ok(None);

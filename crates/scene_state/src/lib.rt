@@ -13,6 +13,7 @@ mod lights;
 mod look;
 mod options;
 mod patching;
+mod piece;
 mod placing;
 mod points;
 mod prims;
@@ -23,6 +24,7 @@ mod state;
 mod steps;
 mod turning;
 mod uses;
+mod variables;
 
 pub use fault::{StateCode, StateFault};
 pub use filter::Filter;

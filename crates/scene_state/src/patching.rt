@@ -1,38 +1,70 @@
 // Patches placed one after another.
-ghost use Rattle.std.specs.Prelude.{◌≡◌, ◌<◌, ◌≤◌, ◌+◌, ◌*◌, true, Some, None, IfOk, length};
+ghost use Rattle.std.specs.Prelude.{◌≡◌, ◌<◌, ◌≤◌, ◌+◌, ◌*◌, ◌^◌, ℕ, true, Some, None, All, IfOk, length, map};
 ghost use Rattle.rib_reader.specs.Reading.{plain};
 ghost use Rattle.mesh_basis.specs.Counts.{counts_of};
 ghost use Rattle.mesh_basis.specs.Ranges.{are_in_range};
 ghost use Rattle.mesh_basis.specs.Meshes.{patch_at, all_from};
 ghost use Rattle.mesh_basis.specs.Polygons.{piece_count, pieces_of};
-ghost use Rattle.scene_state.specs.State.{whole_place, mesh_place, with_prim, with_patches, mesh_from, with_face};
+ghost use Rattle.scene_state.specs.Variables.{variables_in, mesh_piece, face_piece, HasSides, IsThere};
+ghost use Rattle.scene_state.specs.State.{prim_of, with_prim, with_patches, mesh_from, with_face};
 ghost use Rattle.scene_state.specs.Scene.{IsPlace, most_prims};
 ghost use Rattle.scene_state.specs.Answers.{Steps};
 
 use crate::fault::{StateCode, Stop};
-use crate::frame::Primitive;
+use crate::frame::{Primitive, Variable};
+use crate::look::Look;
+use crate::piece::{Face, Piece, face_piece, mesh_piece};
 use crate::state::State;
+use crate::variables::patch_variables;
 use fixed_math::{List, NoMemory, Vec3};
 use mesh_basis::{Counts, Shape, flat_normal, patch_at, piece_of};
 use patches::Patch;
-use rib_reader::Request;
+use rib_reader::{Param, Request};
 use std::alloc::Global;
 use transforms::Affine;
 
-// The place of patch `k` of a mesh.
-fn mesh_place(counts: Counts, k: u64) -> [u32; 4]
-    requires there { k < counts.along_u * counts.along_v }
-    requires few { counts.along_u * counts.along_v ≤ most_prims }
-    ensures value { result ≡ mesh_place counts k }
-    ensures place { IsPlace result }
+// The places of a primitive's shaders among the uses.
+#[derive(Drop)]
+struct Worn {
+    surface: u32,
+    displacement: Option<u32>,
+    atmosphere: Option<u32>,
+    lights: List<u32>,
+}
+
+// A primitive of that look, with these shaders and variables.
+fn primitive(
+    request: &Request,
+    object: Affine,
+    flat: Option<Vec3>,
+    piece: Piece,
+    patch: Patch,
+    look: Look,
+    worn: Worn,
+    vars: List<Variable>,
+) -> Primitive
+    requires { IsPlace piece.place }
+    ensures { result ≡ record (prim_of (plain request.now) object flat piece patch look worn.surface worn.displacement worn.atmosphere worn.lights) { vars = vars } }
 {
-    let columns = counts.along_u as u64;
-    [
-        (k % columns) as u32,
-        counts.along_u,
-        (k / columns) as u32,
-        counts.along_v,
-    ]
+    let place = piece.place;
+    Primitive {
+        patch,
+        flat,
+        cs: look.cs,
+        os: look.os,
+        surface: worn.surface,
+        displacement: worn.displacement,
+        atmosphere: worn.atmosphere,
+        lights: worn.lights,
+        bound: look.bound,
+        rate: look.rate,
+        one_sided: look.one_sided,
+        flip: look.flip != object.mirrored(),
+        vars,
+        object,
+        place,
+        line: request.line,
+    }
 }
 
 impl State {
@@ -43,13 +75,17 @@ impl State {
         request: &Request,
         object: Affine,
         flat: Option<Vec3>,
-        place: [u32; 4],
+        piece: Piece,
+        params: &[&Param],
         patch: Patch,
     ) -> Result<(), NoMemory>
         requires room { length self.old.prims < most_prims }
-        requires place { IsPlace place }
-        ensures { IfOk result (λ _. self.new ≡ with_prim (plain request.now) object flat place patch self.old) }
+        requires place { IsPlace piece.place }
+        requires params { map (λ p. p.now) params.now ≡ variables_in request.now.params }
+        requires there { All (IsThere piece) (variables_in request.now.params) }
+        ensures { IfOk result (λ _. self.new ≡ with_prim (plain request.now) object flat piece patch self.old) }
     {
+        let vars = patch_variables(alloc, request, &piece, params)?;
         let displacement = self.shaders.place_some(self.attributes.displacement)?;
         let surface = self.shaders.place(self.attributes.surface)?;
         let atmosphere = self.shaders.place_some(self.attributes.atmosphere)?;
@@ -57,24 +93,14 @@ impl State {
             .shaders
             .place_all(alloc, self.attributes.lights.as_slice())?;
         let look = self.attributes.look;
-        self.prims.push(Primitive {
-            patch,
-            flat,
-            cs: look.cs,
-            os: look.os,
+        let worn = Worn {
             surface,
             displacement,
             atmosphere,
             lights,
-            bound: look.bound,
-            rate: look.rate,
-            one_sided: look.one_sided,
-            flip: look.flip != object.mirrored(),
-            vars: List(Vec::new(alloc)),
-            object,
-            place,
-            line: request.line,
-        })?;
+        };
+        let prim = primitive(request, object, flat, piece, patch, look, worn, vars);
+        self.prims.push(prim)?;
         Ok(())
     }
 
@@ -87,38 +113,47 @@ impl State {
         points: &[Vec3],
         shape: &Shape,
         counts: Counts,
+        params: &[&Param],
     ) -> Result<(), Stop>
         requires tied { counts_of shape.now (length points.now) ≡ Some counts }
         requires near { are_in_range points.now ≡ true }
         requires room { length self.old.prims + counts.along_u * counts.along_v ≤ most_prims }
-        ensures { Steps result (mesh_from (plain request.now) object counts 0 (all_from (patch_at points.now shape.now counts.along_u) 0 (counts.along_u * counts.along_v)) self.old) self.new }
+        requires sides { HasSides shape.now counts }
+        requires params { map (λ p. p.now) params.now ≡ variables_in request.now.params }
+        requires there { (k : ℕ) → k < counts.along_u * counts.along_v → All (IsThere (mesh_piece shape.now counts k)) (variables_in request.now.params) }
+        ensures { Steps result (mesh_from (plain request.now) object (mesh_piece shape.now counts) 0 (all_from (patch_at points.now shape.now counts.along_u) 0 (counts.along_u * counts.along_v)) self.old) self.new }
     {
         for k in 0..counts.along_u as u64 * counts.along_v as u64 {
             let Some(patch) = patch_at(points, shape, counts, k) else {
                 return Err(Stop::Fault(StateCode::M7));
             };
-            let place = mesh_place(counts, k);
-            self.place(alloc, request, object, None, place, patch)?;
+            let piece = mesh_piece(shape, counts, k);
+            self.place(alloc, request, object, None, piece, params, patch)?;
         }
         Ok(())
     }
 
-    // Places a piece of a polygon of this normal.
+    // Places a piece of a face of this normal.
     fn place_piece(
         &mut self,
         alloc: Global,
         request: &Request,
         object: Affine,
         flat: &Vec3,
-        piece: Patch,
+        piece: Piece,
+        params: &[&Param],
+        patch: Patch,
     ) -> Result<(), NoMemory>
-        requires { length self.old.prims < most_prims }
-        ensures { IfOk result (λ _. self.new ≡ with_prim (plain request.now) object (Some flat.now) whole_place piece self.old) }
+        requires room { length self.old.prims < most_prims }
+        requires place { IsPlace piece.place }
+        requires params { map (λ p. p.now) params.now ≡ variables_in request.now.params }
+        requires there { All (IsThere piece) (variables_in request.now.params) }
+        ensures { IfOk result (λ _. self.new ≡ with_prim (plain request.now) object (Some flat.now) piece patch self.old) }
     {
-        self.place(alloc, request, object, Some(*flat), [0, 1, 0, 1], piece)
+        self.place(alloc, request, object, Some(*flat), piece, params, patch)
     }
 
-    // Places the pieces of a polygon of this normal.
+    // Places the pieces of a face of this normal.
     fn lay_pieces(
         &mut self,
         alloc: Global,
@@ -126,15 +161,22 @@ impl State {
         object: Affine,
         points: &[Vec3],
         flat: &Vec3,
+        face: &Face<'_>,
+        params: &[&Param],
     ) -> Result<(), NoMemory>
         requires some { 3 ≤ length points.now }
         requires near { are_in_range points.now ≡ true }
         requires room { length self.old.prims + piece_count (length points.now) ≤ most_prims }
-        ensures { IfOk result (λ _. self.new ≡ with_patches (plain request.now) object (Some flat.now) None 0 (pieces_of points.now) self.old) }
+        requires same { length face.now.points.now ≡ length points.now }
+        requires few { face.now.first + length points.now < 2 ^ 64 }
+        requires params { map (λ p. p.now) params.now ≡ variables_in request.now.params }
+        requires there { (i : ℕ) → i < piece_count (length face.now.points.now) → All (IsThere (face_piece face.now.index face.now.first face.now.points.now i)) (variables_in request.now.params) }
+        ensures { IfOk result (λ _. self.new ≡ with_patches (plain request.now) object (Some flat.now) (face_piece face.now.index face.now.first face.now.points.now) 0 (pieces_of points.now) self.old) }
     {
         for i in 0..(points.len() - 1) / 2 {
-            let piece = piece_of(points, i);
-            self.place_piece(alloc, request, object, flat, piece)?;
+            let patch = piece_of(points, i);
+            let piece = face_piece(face.index, face.first, face.points, i);
+            self.place_piece(alloc, request, object, flat, piece, params, patch)?;
         }
         Ok(())
     }
@@ -146,13 +188,19 @@ impl State {
         request: &Request,
         object: Affine,
         points: &[Vec3],
+        face: &Face<'_>,
+        params: &[&Param],
     ) -> Result<(), NoMemory>
         requires some { 3 ≤ length points.now }
         requires near { are_in_range points.now ≡ true }
         requires room { length self.old.prims + piece_count (length points.now) ≤ most_prims }
-        ensures { IfOk result (λ _. self.new ≡ with_face (plain request.now) object points.now self.old) }
+        requires same { length face.now.points.now ≡ length points.now }
+        requires few { face.now.first + length points.now < 2 ^ 64 }
+        requires params { map (λ p. p.now) params.now ≡ variables_in request.now.params }
+        requires there { (i : ℕ) → i < piece_count (length face.now.points.now) → All (IsThere (face_piece face.now.index face.now.first face.now.points.now i)) (variables_in request.now.params) }
+        ensures { IfOk result (λ _. self.new ≡ with_face (plain request.now) object (face_piece face.now.index face.now.first face.now.points.now) points.now self.old) }
     {
         let flat = flat_normal(points);
-        self.lay_pieces(alloc, request, object, points, &flat)
+        self.lay_pieces(alloc, request, object, points, &flat, face, params)
     }
 }

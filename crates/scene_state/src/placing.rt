@@ -1,22 +1,25 @@
 // Primitives.
-ghost use Rattle.std.specs.Prelude.{◌≡◌, ◌<◌, ◌≤◌, ◌+◌, true, IfOk, Some, length};
+ghost use Rattle.std.specs.Prelude.{◌≡◌, ◌<◌, ◌≤◌, ◌+◌, ◌^◌, ℕ, true, All, IfOk, IfSome, Some, length, map};
 ghost use Rattle.std.specs.List.{sum_by};
 ghost use Rattle.rib_reader.specs.Reading.{plain};
 ghost use Rattle.rib_reader.specs.declared.req.Req.TheVariants as reqs;
 ghost use Rattle.mesh_basis.specs.Ranges.{are_in_range};
 ghost use Rattle.mesh_basis.specs.Polygons.{piece_count};
-ghost use Rattle.scene_state.specs.Faces.{use_up};
+ghost use Rattle.scene_state.specs.Faces.{FaceValues, use_up, are_places};
+ghost use Rattle.scene_state.specs.Variables.{variables_in, are_counted, faces_extent, face_piece, IsOfKind, IsThere};
 ghost use Rattle.scene_state.specs.State.{mesh_laid, face_points, with_face, with_faces, faces_laid, patch_set, mesh_set, polygon_set, polygons_set};
 ghost use Rattle.scene_state.specs.Scene.{most_prims};
 ghost use Rattle.scene_state.specs.Answers.{Steps};
 
 use crate::faces::{Faces, faces_in, one_face, piece_total};
 use crate::fault::{StateCode, Stop};
+use crate::piece::{Face, faces_extent, mesh_extent};
 use crate::points::face_points;
 use crate::state::State;
+use crate::variables::{are_counted, variables_in};
 use fixed_math::{NoMemory, Vec3};
 use mesh_basis::{Shape, are_in_range, counts_of};
-use rib_reader::Request;
+use rib_reader::{Param, Request};
 use std::alloc::Global;
 use transforms::Affine;
 
@@ -32,11 +35,17 @@ impl State {
     ) -> Result<(), Stop>
         requires step_u { 1 ≤ shape.now.step_u }
         requires step_v { 1 ≤ shape.now.step_v }
+        requires few_u { shape.now.nu < 2 ^ 32 }
+        requires few_v { shape.now.nv < 2 ^ 32 }
         ensures { Steps result (mesh_laid (plain request.now) shape.now object points.now self.old) self.new }
     {
         let Some(counts) = counts_of(shape, points.len()) else {
             return Err(Stop::Fault(StateCode::G5));
         };
+        let params = variables_in(alloc, request)?;
+        if !are_counted(&mesh_extent(shape, counts), &params) {
+            return Err(Stop::Fault(StateCode::G5));
+        }
         if self
             .prims
             .lack_room(counts.along_u as usize * counts.along_v as usize)
@@ -46,7 +55,7 @@ impl State {
         if !are_in_range(points) {
             return Err(Stop::Fault(StateCode::M7));
         }
-        self.place_patches(alloc, request, object, points, shape, counts)
+        self.place_patches(alloc, request, object, points, shape, counts, &params)
     }
 
     // Places the pieces of a face.
@@ -56,15 +65,19 @@ impl State {
         request: &Request,
         object: Affine,
         points: &[Vec3],
-        corners: &[usize],
+        face: &Face<'_>,
+        params: &[&Param],
     ) -> Result<(), NoMemory>
-        requires some { 3 ≤ length corners.now }
+        requires some { 3 ≤ length face.now.points.now }
         requires near { are_in_range points.now ≡ true }
-        requires room { length self.old.prims + piece_count (length corners.now) ≤ most_prims }
-        ensures { IfOk result (λ _. self.new ≡ with_face (plain request.now) object (face_points points.now corners.now) self.old) }
+        requires room { length self.old.prims + piece_count (length face.now.points.now) ≤ most_prims }
+        requires few { face.now.first + length face.now.points.now < 2 ^ 64 }
+        requires params { map (λ p. p.now) params.now ≡ variables_in request.now.params }
+        requires there { (i : ℕ) → i < piece_count (length face.now.points.now) → All (IsThere (face_piece face.now.index face.now.first face.now.points.now i)) (variables_in request.now.params) }
+        ensures { IfOk result (λ _. self.new ≡ with_face (plain request.now) object (face_piece face.now.index face.now.first face.now.points.now) (face_points points.now face.now.points.now) self.old) }
     {
-        let face = face_points(alloc, points, corners)?;
-        self.place_pieces(alloc, request, object, face.as_slice())
+        let corners = face_points(alloc, points, face.points)?;
+        self.place_pieces(alloc, request, object, corners.as_slice(), face, params)
     }
 
     // Places faces of these sizes, one after another.
@@ -76,16 +89,29 @@ impl State {
         points: &[Vec3],
         sizes: &[usize],
         corners: &[usize],
+        params: &[&Param],
     ) -> Result<(), NoMemory>
         requires near { are_in_range points.now ≡ true }
         requires faces { use_up sizes.now (length corners.now) ≡ true }
         requires room { length self.old.prims + sum_by piece_count sizes.now ≤ most_prims }
-        ensures { IfOk result (λ _. self.new ≡ with_faces (plain request.now) object points.now sizes.now corners.now self.old) }
+        requires params { map (λ p. p.now) params.now ≡ variables_in request.now.params }
+        requires few { length corners.now < 2 ^ 64 }
+        requires points { are_places (length points.now) corners.now ≡ true }
+        requires kinds { All IsOfKind (variables_in request.now.params) }
+        requires counted { are_counted (faces_extent (length points.now) (record { sizes = sizes.now; corners = corners.now })) (variables_in request.now.params) ≡ true }
+        ensures { IfOk result (λ _. self.new ≡ with_faces (plain request.now) object points.now 0 0 sizes.now corners.now self.old) }
     {
-        let mut rest = corners;
+        let (mut index, mut first, mut rest) = (0, 0, corners);
         for size in sizes {
-            let (face, behind) = rest.split_at(*size);
-            self.place_face(alloc, request, object, points, face)?;
+            let (front, behind) = rest.split_at(*size);
+            let face = Face {
+                index,
+                first,
+                points: front,
+            };
+            self.place_face(alloc, request, object, points, &face, params)?;
+            index += 1;
+            first += *size;
             rest = behind;
         }
         Ok(())
@@ -100,11 +126,16 @@ impl State {
         points: &[Vec3],
         faces: Option<Faces>,
     ) -> Result<(), Stop>
+        requires { IfSome faces (λ f. are_places (length points.now) f.corners ≡ true) }
         ensures { Steps result (faces_laid (plain request.now) object points.now faces self.old) self.new }
     {
         let Some(faces) = faces else {
             return Err(Stop::Fault(StateCode::G5));
         };
+        let params = variables_in(alloc, request)?;
+        if !are_counted(&faces_extent(&faces, points.len()), &params) {
+            return Err(Stop::Fault(StateCode::G5));
+        }
         let (sizes, corners) = (faces.sizes.as_slice(), faces.corners.as_slice());
         if self.prims.lack_room(piece_total(sizes)) {
             return Err(Stop::Fault(StateCode::M3));
@@ -112,7 +143,7 @@ impl State {
         if !are_in_range(points) {
             return Err(Stop::Fault(StateCode::M7));
         }
-        self.place_faces(alloc, request, object, points, sizes, corners)?;
+        self.place_faces(alloc, request, object, points, sizes, corners, &params)?;
         Ok(())
     }
 

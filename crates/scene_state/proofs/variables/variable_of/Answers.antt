@@ -1,0 +1,19 @@
+use Rattle.std.proofs.Common.{◌≡◌, ◌∙◌, ap, sym, subst, rules, true, ◌*◌, length}
+use Rattle.rib_reader.specs.declared.params.Values.{Values}
+use Rattle.rib_reader.specs.Lists.{count, width, is_of_kind}
+use Rattle.scene_state.specs.Scene.{corners}
+use Rattle.scene_state.proofs.Values.{is_variable}
+use Rattle.scene_state.proofs.variables.variable_of.Goals as goal
+
+pub invariant_of-result : goal.invariant_of-result
+invariant_of-result c =
+    let piece = c.args.piece.now in
+    let p = c.args.param.now in
+    let points : length piece.points ≡ 4 = search rules in
+    let corner : length piece.corners ≡ 4 = search rules in
+    let v = is_variable piece p points corner c.requires in
+    let same = c.in_ok-values.ensures in
+    record {
+      kind = ap (is_of_kind p.kind) same ∙ v.kind;
+      counted = ap count same ∙ v.counted ∙ ap (λ b. width p.kind * corners b) (sym c.varies.ensures);
+    }
