@@ -34,6 +34,7 @@ use Rattle.mask_codegen.specs.Compiled.{Seen}
 use Rattle.mask_codegen.proofs.ParamTexts.{is_rowable, params_rowable}
 use Rattle.displace_shade.specs.Shaded.{bound_with}
 use Rattle.displace_shade.specs.Points.{Leaf, normal_of, u_at, v_at, dpdu, dpdv}
+use Rattle.displace_shade.specs.Variables.{s_at, t_at, cs_at, os_at}
 use Rattle.grid_machine.specs.Run.{begun, lines_given, Leaves}
 use Rattle.displace_shade.specs.Rows.{AreRowable, slot_of}
 use Rattle.displace_shade.specs.Diced.{point_count, over, ArePlaces}
@@ -83,17 +84,33 @@ module _ (b : BoundShader) (r : Runs b) where
       (ap (list_all is_rowable) r.code.params ∙ params_rowable (tree_of b.compiled.now.tree) b.compiled.now.tree.typed r.code.settled)
 
 -- the lengths of what doesn't change
-pub places_long : (l : Leaf) (f : Places) → ArePlaces l f → (length f.normals.now ≡ point_count l) × ((length f.u.now ≡ point_count l) × ((length f.v.now ≡ point_count l) × ((length f.dpdu.now ≡ point_count l) × (length f.dpdv.now ≡ point_count l))))
-places_long l f h = (
-  ap (λ xs. length xs) h.normals ∙ over_long (normal_of l) (point_count l),
-  (
-    ap (λ xs. length xs) h.u ∙ over_long (u_at l) (point_count l),
-    (
-      ap (λ xs. length xs) h.v ∙ over_long (v_at l) (point_count l),
-      (ap (λ xs. length xs) h.dpdu ∙ over_long (dpdu l) (point_count l), ap (λ xs. length xs) h.dpdv ∙ over_long (dpdv l) (point_count l)),
-    ),
-  ),
-)
+pub record AreLong (c : ℕ) (f : Places) : Type 0 where
+  pub normals : length f.normals.now ≡ c
+  pub u : length f.u.now ≡ c
+  pub v : length f.v.now ≡ c
+  pub s : length f.s.now ≡ c
+  pub t : length f.t.now ≡ c
+  pub cs : length f.cs.now ≡ c
+  pub os : length f.os.now ≡ c
+  pub dpdu : length f.dpdu.now ≡ c
+  pub dpdv : length f.dpdv.now ≡ c
+
+pub places_long : (l : Leaf) (f : Places) (c : ℕ) → ArePlaces l f → c ≡ point_count l → AreLong c f
+places_long l f c h e =
+    record {
+      normals = long f.normals.now (normal_of l) h.normals;
+      u = long f.u.now (u_at l) h.u;
+      v = long f.v.now (v_at l) h.v;
+      s = long f.s.now (s_at l) h.s;
+      t = long f.t.now (t_at l) h.t;
+      cs = long f.cs.now (cs_at l) h.cs;
+      os = long f.os.now (os_at l) h.os;
+      dpdu = long f.dpdu.now (dpdu l) h.dpdu;
+      dpdv = long f.dpdv.now (dpdv l) h.dpdv;
+    }
+  where
+    long : {A : Type 0} (xs : List A) (g : ℕ → A) → xs ≡ over (point_count l) g → length xs ≡ c
+    long xs g k = ap (λ ys. length ys) k ∙ over_long g (point_count l) ∙ sym e
 
 -- the rows that are written back to where they were
 pub written_back : (n : ℕ) (new items : List ℤ) → length new ≡ n → take n (new ++ drop (length new) items) ≡ new

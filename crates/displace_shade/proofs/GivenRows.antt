@@ -1,6 +1,5 @@
 -- The rows that shaders are given hold the variables at the points, and the values of the parameters that vary.
 use Rattle.std.proofs.Common.{◌≡◌, ℕ, ◌*◌, ◌<◌, Bool, true, false, cond, ℤ, pos, List, [], ◌∷◌, ◌++◌, length, get_or, refl, sym, ap, ◌∙◌, subst, append_assoc}
-use Rattle.std.proofs.lemmas.Bool.{false≢true}
 use Rattle.std.proofs.lemmas.List.{append-nil}
 use Rattle.fixed_math.specs.Axes.{origin}
 use Rattle.fixed_math.specs.declared.vec3.Vec3.{Vec3}
@@ -8,12 +7,12 @@ use Rattle.sl_ast.specs.declared.kinds.Predefined.TheVariants as names
 use Rattle.sl_ast.specs.declared.kinds.SlKind.TheVariants.{Surface, Displacement, Volume}
 use Rattle.sl_ast.specs.declared.typed.Value.{Value}
 use Rattle.sl_ast.specs.declared.typed.Value.TheVariants.{Number, Triple}
-use Rattle.builtins.specs.declared.shape.Shape.{Shape}
 use Rattle.builtins.specs.declared.shape.Shape.TheVariants as shapes
 use Rattle.builtins.specs.Shapes.{shape}
 use Rattle.grid_code.specs.declared.slot.Slot.{Slot}
 use Rattle.sl_meaning.specs.Runs.{Names}
 use Rattle.displace_shade.specs.Points.{Leaf, normal_of, u_at, v_at, dpdu, dpdv}
+use Rattle.displace_shade.specs.Variables.{s_at, t_at, cs_at, os_at}
 use Rattle.grid_machine.specs.Run.{row_length, same_class}
 use Rattle.displace_shade.specs.Rows.{HoldList, heights, AreRows, AreRowable, row_of, triple_rows, value_rows, values_of, varying_values}
 use Rattle.displace_shade.specs.Diced.{point_count, over, Hold, ArePlaces}
@@ -95,38 +94,30 @@ module _ (l : Leaf) (fx : Places) (d : Variables) (f : ℕ → Names) (ps : List
       let a = triples_rows c g rows h fx.normals.now (rows ++ triple_rows fx.normals.now) (long fx.normals.now (normal_of l) places.normals) refl in
       triples_rows c _ (rows ++ triple_rows fx.normals.now) a d.sights.now _ ls refl
 
-  abbrev pair_of : ℕ → List Value → List Value
-  pair_of i vs' = (vs' ++ Number (get_or fx.u.now i (pos 0)) ∷ []) ++ Number (get_or fx.v.now i (pos 0)) ∷ []
+  abbrev parameters_of : ℕ → List Value → List Value
+  parameters_of i vs' = (((vs' ++ Number (get_or fx.u.now i (pos 0)) ∷ []) ++ Number (get_or fx.v.now i (pos 0)) ∷ []) ++ Number (get_or fx.s.now i (pos 0)) ∷ []) ++ Number (get_or fx.t.now i (pos 0)) ∷ []
 
-  pair_rows : (g : ℕ → List Value) (rows : List ℤ) → AreRows c g rows → AreRows c (λ i. pair_of i (g i)) (rows ++ row_of fx.u.now ++ row_of fx.v.now)
-  pair_rows g rows h =
+  parameters_rows : (g : ℕ → List Value) (rows : List ℤ) → AreRows c g rows → AreRows c (λ i. parameters_of i (g i)) (with_parameters rows fx)
+  parameters_rows g rows h =
       let a = number_rows c g rows h fx.u.now (rows ++ row_of fx.u.now) (long fx.u.now (u_at l) places.u) refl in
-      number_rows c _ (rows ++ row_of fx.u.now) a fx.v.now _ (long fx.v.now (v_at l) places.v) refl
-
-  parameters_rows : (g : ℕ → List Value) (rows : List ℤ) → AreRows c g rows → AreRows c (λ i. pair_of i (pair_of i (g i))) (with_parameters rows fx)
-  parameters_rows g rows h = pair_rows (λ i. pair_of i (g i)) (rows ++ row_of fx.u.now ++ row_of fx.v.now) (pair_rows g rows h)
+      let b = number_rows c _ (rows ++ row_of fx.u.now) a fx.v.now (rows ++ row_of fx.u.now ++ row_of fx.v.now) (long fx.v.now (v_at l) places.v) refl in
+      let k = number_rows c _ (rows ++ row_of fx.u.now ++ row_of fx.v.now) b fx.s.now (rows ++ row_of fx.u.now ++ row_of fx.v.now ++ row_of fx.s.now) (long fx.s.now (s_at l) places.s) refl in
+      number_rows c _ (rows ++ row_of fx.u.now ++ row_of fx.v.now ++ row_of fx.s.now) k fx.t.now _ (long fx.t.now (t_at l) places.t) refl
 
   abbrev look_of : ℕ → List Value → List Value
-  look_of i vs' = (((vs' ++ Triple l.prim.cs ∷ []) ++ Triple l.prim.os ∷ []) ++ Triple (get_or fx.dpdu.now i origin) ∷ []) ++ Triple (get_or fx.dpdv.now i origin) ∷ []
+  look_of i vs' = (((vs' ++ Triple (get_or fx.cs.now i origin) ∷ []) ++ Triple (get_or fx.os.now i origin) ∷ []) ++ Triple (get_or fx.dpdu.now i origin) ∷ []) ++ Triple (get_or fx.dpdv.now i origin) ∷ []
 
-  look_rows : (g : ℕ → List Value) (rows : List ℤ) → AreRows c g rows → AreRows c (λ i. look_of i (g i)) (with_look rows c l.prim.cs l.prim.os fx)
+  look_rows : (g : ℕ → List Value) (rows : List ℤ) → AreRows c g rows → AreRows c (λ i. look_of i (g i)) (with_look rows fx)
   look_rows g rows h =
-      let a = value_more_rows c g rows h (Triple l.prim.cs) (rows ++ value_rows c (Triple l.prim.cs)) (λ e. not_word e) refl in
-      let b = value_more_rows c _ (rows ++ value_rows c (Triple l.prim.cs)) a (Triple l.prim.os) (rows ++ value_rows c (Triple l.prim.cs) ++ value_rows c (Triple l.prim.os)) (λ e. not_word e) refl in
-      let k = triples_rows c _ (rows ++ value_rows c (Triple l.prim.cs) ++ value_rows c (Triple l.prim.os)) b fx.dpdu.now (rows ++ value_rows c (Triple l.prim.cs) ++ value_rows c (Triple l.prim.os) ++ triple_rows fx.dpdu.now) (long fx.dpdu.now (dpdu l) places.dpdu) refl in
-      triples_rows c _ (rows ++ value_rows c (Triple l.prim.cs) ++ value_rows c (Triple l.prim.os) ++ triple_rows fx.dpdu.now) k fx.dpdv.now _ (long fx.dpdv.now (dpdv l) places.dpdv) refl
-    where
-      not_word : shapes.Triple ≡ shapes.Word → ⊥
-      not_word e = false≢true (ap is_word e)
-        where
-          is_word : Shape → Bool
-          is_word shapes.Word = true
-          is_word _ = false
+      let a = triples_rows c g rows h fx.cs.now (rows ++ triple_rows fx.cs.now) (long fx.cs.now (cs_at l) places.cs) refl in
+      let b = triples_rows c _ (rows ++ triple_rows fx.cs.now) a fx.os.now (rows ++ triple_rows fx.cs.now ++ triple_rows fx.os.now) (long fx.os.now (os_at l) places.os) refl in
+      let k = triples_rows c _ (rows ++ triple_rows fx.cs.now ++ triple_rows fx.os.now) b fx.dpdu.now (rows ++ triple_rows fx.cs.now ++ triple_rows fx.os.now ++ triple_rows fx.dpdu.now) (long fx.dpdu.now (dpdu l) places.dpdu) refl in
+      triples_rows c _ (rows ++ triple_rows fx.cs.now ++ triple_rows fx.os.now ++ triple_rows fx.dpdu.now) k fx.dpdv.now _ (long fx.dpdv.now (dpdv l) places.dpdv) refl
 
   abbrev rest_of : ℕ → List Value → List Value
-  rest_of i vs' = look_of i (pair_of i (pair_of i ((vs' ++ Triple (get_or fx.normals.now i origin) ∷ []) ++ Triple (get_or d.sights.now i origin) ∷ [])))
+  rest_of i vs' = look_of i (parameters_of i ((vs' ++ Triple (get_or fx.normals.now i origin) ∷ []) ++ Triple (get_or d.sights.now i origin) ∷ []))
 
-  rest_rows : (g : ℕ → List Value) (rows : List ℤ) → length d.sights.now ≡ c → AreRows c g rows → AreRows c (λ i. rest_of i (g i)) (with_rest rows c l.prim.cs l.prim.os fx d)
+  rest_rows : (g : ℕ → List Value) (rows : List ℤ) → length d.sights.now ≡ c → AreRows c g rows → AreRows c (λ i. rest_of i (g i)) (with_rest rows fx d)
   rest_rows g rows ls h = look_rows _ _ (parameters_rows _ _ (sights_rows g rows ls h))
 
   -- the variables as those blocks have them
@@ -138,29 +129,31 @@ module _ (l : Leaf) (fx : Places) (d : Variables) (f : ℕ → Names) (ps : List
 
   given_rest : ℕ → List Value → List Value
   given_rest i tail =
-      Triple (get_or fx.normals.now i origin) ∷ Triple (get_or d.sights.now i origin) ∷ Number (get_or fx.u.now i (pos 0)) ∷ Number (get_or fx.v.now i (pos 0)) ∷ Number (get_or fx.u.now i (pos 0)) ∷ Number (get_or fx.v.now i (pos 0)) ∷
-      Triple l.prim.cs ∷ Triple l.prim.os ∷ Triple (get_or fx.dpdu.now i origin) ∷ Triple (get_or fx.dpdv.now i origin) ∷ tail
+      Triple (get_or fx.normals.now i origin) ∷ Triple (get_or d.sights.now i origin) ∷ Number (get_or fx.u.now i (pos 0)) ∷ Number (get_or fx.v.now i (pos 0)) ∷ Number (get_or fx.s.now i (pos 0)) ∷ Number (get_or fx.t.now i (pos 0)) ∷
+      Triple (get_or fx.cs.now i origin) ∷ Triple (get_or fx.os.now i origin) ∷ Triple (get_or fx.dpdu.now i origin) ∷ Triple (get_or fx.dpdv.now i origin) ∷ tail
 
   rest_same : (i : ℕ) (m : i < c) (xs ys : List Value) → xs ≡ ys → given_rest i xs ≡ rest_values i m ys
   unfolding given_rest rest_values
   rest_same i m xs ys e =
       let u = number_of_list fx.u.now (u_at l) i m places.u in
       let v = number_of_list fx.v.now (v_at l) i m places.v in
+      let s = number_of_list fx.s.now (s_at l) i m places.s in
+      let t = number_of_list fx.t.now (t_at l) i m places.t in
       also _ _ _ _ (geometric i m) (also _ _ _ _ (sym (hold.at i names.I m))
       (also _ _ _ _ (ap (λ x. Number x) u ∙ sym (hold.at i names.U m)) (also _ _ _ _ (ap (λ x. Number x) v ∙ sym (hold.at i names.V m))
-      (also _ _ _ _ (ap (λ x. Number x) u ∙ sym (hold.at i names.S m)) (also _ _ _ _ (ap (λ x. Number x) v ∙ sym (hold.at i names.T m))
-      (also _ _ _ _ (sym (hold.at i names.Cs m)) (also _ _ _ _ (sym (hold.at i names.Os m))
+      (also _ _ _ _ (ap (λ x. Number x) s ∙ sym (hold.at i names.S m)) (also _ _ _ _ (ap (λ x. Number x) t ∙ sym (hold.at i names.T m))
+      (also _ _ _ _ (ap (λ q. Triple q) (triple_of_list fx.cs.now (cs_at l) i m places.cs) ∙ sym (hold.at i names.Cs m)) (also _ _ _ _ (ap (λ q. Triple q) (triple_of_list fx.os.now (os_at l) i m places.os) ∙ sym (hold.at i names.Os m))
       (also _ _ _ _ (ap (λ q. Triple q) (triple_of_list fx.dpdu.now (dpdu l) i m places.dpdu) ∙ sym (hold.at i names.DPdu m))
       (also _ _ _ _ (ap (λ q. Triple q) (triple_of_list fx.dpdv.now (dpdv l) i m places.dpdv) ∙ sym (hold.at i names.DPdv m)) e)))))))))
 
-  pub surface_given : length d.points.now ≡ c → length d.normals.now ≡ c → length d.sights.now ≡ c → AreRows c (λ i. varying_values Surface ps vs (f i)) (surface_rows c ps vs l.prim.cs l.prim.os fx d)
+  pub surface_given : length d.points.now ≡ c → length d.normals.now ≡ c → length d.sights.now ≡ c → AreRows c (λ i. varying_values Surface ps vs (f i)) (surface_rows c ps vs fx d)
   unfolding snocs given_rest rest_values
   surface_given lp ln ls =
       same_given c (λ i. rest_of i ((front i ++ Triple (get_or d.points.now i origin) ∷ []) ++ Triple (get_or d.normals.now i origin) ∷ [])) (λ i. varying_values Surface ps vs (f i)) _
       (λ i m. snocs_is (front i) (Triple (get_or d.points.now i origin) ∷ Triple (get_or d.normals.now i origin) ∷ given_rest i []) ∙ ap (λ ys. front i ++ ys) (also _ _ _ _ (sym (hold.at i names.P m)) (also _ _ _ _ (sym (hold.at i names.N m)) (rest_same i m [] [] refl))))
       (rest_rows _ _ ls (points_rows front (param_rows c ps vs) lp ln fronts))
 
-  pub displacement_given : length d.points.now ≡ c → length d.normals.now ≡ c → length d.sights.now ≡ c → AreRows c (λ i. varying_values Displacement ps vs (f i)) (displacement_rows c ps vs l.prim.cs l.prim.os fx d)
+  pub displacement_given : length d.points.now ≡ c → length d.normals.now ≡ c → length d.sights.now ≡ c → AreRows c (λ i. varying_values Displacement ps vs (f i)) (displacement_rows c ps vs fx d)
   unfolding snocs given_rest rest_values
   displacement_given lp ln ls =
       same_given c (λ i. (rest_of i (front i) ++ Triple (get_or d.points.now i origin) ∷ []) ++ Triple (get_or d.normals.now i origin) ∷ []) (λ i. varying_values Displacement ps vs (f i)) _

@@ -145,7 +145,7 @@ module _ (l : Leaf) (t : Tree) (code : Code) (vs : List Value) (space : Map) (is
   abbrev Left : List Asked → List Value → List ℤ → List ℤ → Type 0
   Left asked uniforms varyings out = Leaves code.kind c out (masked (block_of code.nodes) (ground (lines_given (columns l) (rows l) code.params uniforms) asked) c 65536 (begun code.kind code.params c uniforms varyings))
 
-  pub displace_law : t.kind ≡ Displacement → (fx : Places) (d e : Variables) (uniforms : List Value) (varyings out : List ℤ) → ArePlaces l fx → IsSized l d → uniforms ≡ with_steps → varyings ≡ displacement_rows c code.params vs l.prim.cs l.prim.os fx d → Left [] uniforms varyings out →
+  pub displace_law : t.kind ≡ Displacement → (fx : Places) (d e : Variables) (uniforms : List Value) (varyings out : List ℤ) → ArePlaces l fx → IsSized l d → uniforms ≡ with_steps → varyings ≡ displacement_rows c code.params vs fx d → Left [] uniforms varyings out →
       e.points.now ≡ over c (triple_in out (row_length c) 0) → e.normals.now ≡ over c (triple_in out (row_length c) 3) → e.sights.now ≡ d.sights.now → e.colours.now ≡ d.colours.now → e.opacities.now ≡ d.opacities.now →
       (f : ℕ → Names) → Hold l d f → Hold l e (ran t (around l bound []) (λ j. vs) f)
   displace_law k fx d e uniforms varyings out places sized eu er lv ep en es ec eo f h =
@@ -153,7 +153,7 @@ module _ (l : Leaf) (t : Tree) (code : Code) (vs : List Value) (space : Map) (is
       let rows' = subst (λ q. AreRows c (λ i. varying_values q code.params vs (f i)) varyings) (sym k) given in
       displaced_hold l t (around l bound []) vs f d e h out (left f d [] [] uniforms varyings out _ tt h (eu ∙ stepped Displacement k refl f d h) rows' (surface_masked [] uniforms eu) lv) k ep en es ec eo
 
-  pub surface_law : t.kind ≡ Surface → (fx : Places) (d e : Variables) (asked : List Asked) (lights : List (Vec3 → Light)) (uniforms : List Value) (varyings out : List ℤ) → Answers c asked lights → ArePlaces l fx → IsSized l d → uniforms ≡ with_steps → varyings ≡ surface_rows c code.params vs l.prim.cs l.prim.os fx d → Left asked uniforms varyings out →
+  pub surface_law : t.kind ≡ Surface → (fx : Places) (d e : Variables) (asked : List Asked) (lights : List (Vec3 → Light)) (uniforms : List Value) (varyings out : List ℤ) → Answers c asked lights → ArePlaces l fx → IsSized l d → uniforms ≡ with_steps → varyings ≡ surface_rows c code.params vs fx d → Left asked uniforms varyings out →
       e.colours.now ≡ over c (triple_in out (row_length c) 0) → e.opacities.now ≡ over c (triple_in out (row_length c) 3) → e.points.now ≡ d.points.now → e.normals.now ≡ d.normals.now → e.sights.now ≡ d.sights.now →
       (f : ℕ → Names) → Hold l d f → Hold l e (ran t (around l bound lights) (λ j. vs) f)
   surface_law k fx d e asked lights uniforms varyings out answers places sized eu er lv ec eo ep en es f h =
@@ -196,11 +196,11 @@ module _ (l : Leaf) (t : Tree) (code : Code) (vs : List Value) (space : Map) (is
       let fit = inputs_fit c some kind code.params t.params vs (names_of l d) varyings params (hold_names l d (names_of l d) (self_hold d)) r 0 some in
       r.long 0 some ∙ ap (λ n. n * row_length c) (fit_heights (varying_inputs kind code.params) _ fit) ∙ ap (λ q. rows_of (varying_inputs q code.params) * row_length c) (sym (is.kind ∙ k))
 
-  pub displace_long : t.kind ≡ Displacement → (fx : Places) (d : Variables) (varyings : List ℤ) → ArePlaces l fx → IsSized l d → varyings ≡ displacement_rows c code.params vs l.prim.cs l.prim.os fx d → length varyings ≡ rows_of (varying_inputs code.kind code.params) * row_length c
+  pub displace_long : t.kind ≡ Displacement → (fx : Places) (d : Variables) (varyings : List ℤ) → ArePlaces l fx → IsSized l d → varyings ≡ displacement_rows c code.params vs fx d → length varyings ≡ rows_of (varying_inputs code.kind code.params) * row_length c
   displace_long k fx d varyings places sized e =
       long_rows Displacement k d varyings (subst (λ rs. AreRows c (λ i. varying_values Displacement code.params vs (names_of l d i)) rs) (sym e) (displacement_given l fx d (names_of l d) code.params vs (self_hold d) places rowable sized.points sized.normals sized.sights))
 
-  pub look_long : t.kind ≡ Surface → (fx : Places) (d : Variables) (varyings : List ℤ) → ArePlaces l fx → IsSized l d → varyings ≡ surface_rows c code.params vs l.prim.cs l.prim.os fx d → length varyings ≡ rows_of (varying_inputs code.kind code.params) * row_length c
+  pub look_long : t.kind ≡ Surface → (fx : Places) (d : Variables) (varyings : List ℤ) → ArePlaces l fx → IsSized l d → varyings ≡ surface_rows c code.params vs fx d → length varyings ≡ rows_of (varying_inputs code.kind code.params) * row_length c
   look_long k fx d varyings places sized e =
       long_rows Surface k d varyings (subst (λ rs. AreRows c (λ i. varying_values Surface code.params vs (names_of l d i)) rs) (sym e) (surface_given l fx d (names_of l d) code.params vs (self_hold d) places rowable sized.points sized.normals sized.sights))
 

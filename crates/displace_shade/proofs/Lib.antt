@@ -1,3 +1,4 @@
+pub mod Passing
 pub mod Begun
 pub mod Looks
 pub mod Starts

@@ -16,7 +16,8 @@ use Rattle.builtins.specs.Values.{triple_of}
 use Rattle.sl_meaning.specs.Environment.{Around}
 use Rattle.sl_meaning.specs.Runs.{Names, ran, light_answer}
 use Rattle.displace_shade.specs.Sets.{SetValue}
-use Rattle.displace_shade.specs.Points.{Leaf, columns, rows, lines, diced_names, sight}
+use Rattle.displace_shade.specs.Points.{Leaf, columns, rows, lines, sight}
+use Rattle.displace_shade.specs.Variables.{diced_names}
 
 -- the shader of a use with what it is bound to and its space
 pub record Bound : Type 0 where

@@ -8,7 +8,7 @@ use crate::rows::{push_numbers, push_triples, push_value};
 use crate::variables::Variables;
 use builtins::copied;
 use bumpalo::Bump;
-use fixed_math::{NoMemory, Num, Vec3};
+use fixed_math::{NoMemory, Num};
 use grid_code::Slot;
 use sl_ast::Value;
 use std::alloc::{Allocator, Global};
@@ -60,39 +60,34 @@ fn push_sights<A: Allocator>(
 fn push_parameters<A: Allocator>(rows: &mut Vec<Num, A>, places: &Places) -> Result<(), NoMemory>
     requires u { length places.now.u.now ≤ 289 }
     requires v { length places.now.v.now ≤ 289 }
+    requires s { length places.now.s.now ≤ 289 }
+    requires t { length places.now.t.now ≤ 289 }
     ensures { IfOk result (λ _. rows.new.items ≡ with_parameters rows.old.items places.now) }
 {
     push_numbers(rows, places.u)?;
     push_numbers(rows, places.v)?;
-    push_numbers(rows, places.u)?;
-    push_numbers(rows, places.v)
+    push_numbers(rows, places.s)?;
+    push_numbers(rows, places.t)
 }
 
 /// Appends a primitive's colour and opacity, and the derivatives of the place.
-fn push_look<A: Allocator>(
-    rows: &mut Vec<Num, A>,
-    points: usize,
-    cs: &Vec3,
-    os: &Vec3,
-    places: &Places,
-) -> Result<(), NoMemory>
-    requires few { points ≤ 289 }
+fn push_look<A: Allocator>(rows: &mut Vec<Num, A>, places: &Places) -> Result<(), NoMemory>
+    requires cs { length places.now.cs.now ≤ 289 }
+    requires os { length places.now.os.now ≤ 289 }
     requires dpdu { length places.now.dpdu.now ≤ 289 }
     requires dpdv { length places.now.dpdv.now ≤ 289 }
-    ensures { IfOk result (λ _. rows.new.items ≡ with_look rows.old.items points cs.now os.now places.now) }
+    ensures { IfOk result (λ _. rows.new.items ≡ with_look rows.old.items places.now) }
 {
-    push_value(rows, &Value::Triple(*cs), points)?;
-    push_value(rows, &Value::Triple(*os), points)?;
+    push_triples(rows, places.cs)?;
+    push_triples(rows, places.os)?;
     push_triples(rows, places.dpdu)?;
     push_triples(rows, places.dpdv)
 }
 
-/// Appends what shaders on a surface are given beside points and normals, of a primitive of that colour and opacity.
+/// Appends what shaders on a surface are given beside points and normals.
 fn push_rest<A: Allocator>(
     rows: &mut Vec<Num, A>,
     points: usize,
-    cs: &Vec3,
-    os: &Vec3,
     places: &Places,
     variables: &Variables,
 ) -> Result<(), NoMemory>
@@ -101,13 +96,17 @@ fn push_rest<A: Allocator>(
     requires geometric { length places.now.normals.now ≡ points }
     requires u { length places.now.u.now ≡ points }
     requires v { length places.now.v.now ≡ points }
+    requires s { length places.now.s.now ≡ points }
+    requires t { length places.now.t.now ≡ points }
+    requires cs { length places.now.cs.now ≡ points }
+    requires os { length places.now.os.now ≡ points }
     requires dpdu { length places.now.dpdu.now ≡ points }
     requires dpdv { length places.now.dpdv.now ≡ points }
-    ensures { IfOk result (λ _. rows.new.items ≡ with_rest rows.old.items points cs.now os.now places.now variables.now) }
+    ensures { IfOk result (λ _. rows.new.items ≡ with_rest rows.old.items places.now variables.now) }
 {
     push_sights(rows, places, variables)?;
     push_parameters(rows, places)?;
-    push_look(rows, points, cs, os, places)
+    push_look(rows, places)
 }
 
 /// The rows that a surface is given.
@@ -116,8 +115,6 @@ pub(crate) fn surface_rows<'a>(
     params: &[Slot],
     values: &[Value],
     points: usize,
-    cs: &Vec3,
-    os: &Vec3,
     places: &Places,
     variables: &Variables,
 ) -> Result<Vec<Num, &'a Bump>, NoMemory>
@@ -129,14 +126,18 @@ pub(crate) fn surface_rows<'a>(
     requires geometric { length places.now.normals.now ≡ points }
     requires u { length places.now.u.now ≡ points }
     requires v { length places.now.v.now ≡ points }
+    requires s { length places.now.s.now ≡ points }
+    requires t { length places.now.t.now ≡ points }
+    requires cs { length places.now.cs.now ≡ points }
+    requires os { length places.now.os.now ≡ points }
     requires dpdu { length places.now.dpdu.now ≡ points }
     requires dpdv { length places.now.dpdv.now ≡ points }
-    ensures { IfOk result (λ rows. rows.items ≡ surface_list points params.now values.now cs.now os.now places.now variables.now) }
+    ensures { IfOk result (λ rows. rows.items ≡ surface_list points params.now values.now places.now variables.now) }
 {
     let mut rows = Vec::new(arena);
     push_params(&mut rows, params, values, points)?;
     push_points(&mut rows, variables)?;
-    push_rest(&mut rows, points, cs, os, places, variables)?;
+    push_rest(&mut rows, points, places, variables)?;
     Ok(rows)
 }
 
@@ -146,8 +147,6 @@ pub(crate) fn displacement_rows<'a>(
     params: &[Slot],
     values: &[Value],
     points: usize,
-    cs: &Vec3,
-    os: &Vec3,
     places: &Places,
     variables: &Variables,
 ) -> Result<Vec<Num, &'a Bump>, NoMemory>
@@ -159,13 +158,17 @@ pub(crate) fn displacement_rows<'a>(
     requires geometric { length places.now.normals.now ≡ points }
     requires u { length places.now.u.now ≡ points }
     requires v { length places.now.v.now ≡ points }
+    requires s { length places.now.s.now ≡ points }
+    requires t { length places.now.t.now ≡ points }
+    requires cs { length places.now.cs.now ≡ points }
+    requires os { length places.now.os.now ≡ points }
     requires dpdu { length places.now.dpdu.now ≡ points }
     requires dpdv { length places.now.dpdv.now ≡ points }
-    ensures { IfOk result (λ rows. rows.items ≡ displacement_list points params.now values.now cs.now os.now places.now variables.now) }
+    ensures { IfOk result (λ rows. rows.items ≡ displacement_list points params.now values.now places.now variables.now) }
 {
     let mut rows = Vec::new(arena);
     push_params(&mut rows, params, values, points)?;
-    push_rest(&mut rows, points, cs, os, places, variables)?;
+    push_rest(&mut rows, points, places, variables)?;
     push_points(&mut rows, variables)?;
     Ok(rows)
 }

@@ -12,7 +12,7 @@ ghost use Rattle.displace_shade.specs.Shop.{set_value};
 ghost use Rattle.displace_shade.specs.Lamps.{IsLamp, lamp_light};
 
 use crate::bound::bound_at;
-use crate::diced::{first_variables, grid_of, places_of};
+use crate::diced::{diced, first_variables, geometric_normals, grid_of, places_of};
 use crate::lamps::{Lamp, lamps_of};
 use crate::leaf::Leaf;
 use crate::moves::{kept_points, sights};
@@ -179,8 +179,10 @@ pub(crate) fn shaded_leaf<'a>(
     requires uses { HasUses shaders.now.uses.now leaf.now.prim }
     ensures { IfOk result (λ grid. grid_value grid ≡ shaded leaf.now (set_value shaders.now.set.now) shaders.now.uses.now) }
 {
-    let first = first_variables(arena, leaf)?;
-    let places = places_of(arena, leaf, first.normals)?;
+    let bare = diced(arena, leaf)?;
+    let geometric = geometric_normals(arena, leaf, bare.n)?;
+    let first = first_variables(arena, leaf, bare.p, geometric)?;
+    let places = places_of(arena, leaf, geometric)?;
     let free = displaced(shaders, arena, leaf, &places, &first, leaf.displacement())?;
     let near = kept_near(arena, leaf, &first, &free)?;
     let lamps = lamps_of(arena, shaders.set, shaders.uses, leaf)?;

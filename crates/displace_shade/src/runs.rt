@@ -130,9 +130,8 @@ fn displacement_given<'a>(
     requires counted { length bound.now.values.now ≡ length bound.now.compiled.now.code.params }
     requires places { ArePlaces leaf.now places.now }
     requires sized { IsSized leaf.now variables.now }
-    ensures { IfOk result (λ rows. rows.items ≡ displacement_list (point_count leaf.now) bound.now.compiled.now.code.params bound.now.values.now leaf.now.prim.cs leaf.now.prim.os places.now variables.now) }
+    ensures { IfOk result (λ rows. rows.items ≡ displacement_list (point_count leaf.now) bound.now.compiled.now.code.params bound.now.values.now places.now variables.now) }
 {
-    let prim = leaf.prim;
     let points = leaf.point_count();
     let compiled = bound.compiled;
     let code = compiled.code();
@@ -141,8 +140,6 @@ fn displacement_given<'a>(
         code.params.as_slice(),
         bound.values,
         points,
-        &prim.cs,
-        &prim.os,
         places,
         variables,
     )
@@ -189,9 +186,8 @@ fn surface_given<'a>(
     requires counted { length bound.now.values.now ≡ length bound.now.compiled.now.code.params }
     requires places { ArePlaces leaf.now places.now }
     requires sized { IsSized leaf.now variables.now }
-    ensures { IfOk result (λ rows. rows.items ≡ surface_list (point_count leaf.now) bound.now.compiled.now.code.params bound.now.values.now leaf.now.prim.cs leaf.now.prim.os places.now variables.now) }
+    ensures { IfOk result (λ rows. rows.items ≡ surface_list (point_count leaf.now) bound.now.compiled.now.code.params bound.now.values.now places.now variables.now) }
 {
-    let prim = leaf.prim;
     let points = leaf.point_count();
     let compiled = bound.compiled;
     let code = compiled.code();
@@ -200,8 +196,6 @@ fn surface_given<'a>(
         code.params.as_slice(),
         bound.values,
         points,
-        &prim.cs,
-        &prim.os,
         places,
         variables,
     )
