@@ -11,6 +11,7 @@ pub mod Dicing
 pub mod Stages
 pub mod GivenRows
 pub mod Plain
+pub mod Binding
 pub mod Laws
 pub mod BoundLaws
 pub mod LightBegins

@@ -16,7 +16,9 @@ use Rattle.rib_reader.specs.declared.params.Values.TheVariants as held
 use Rattle.scene_state.specs.Scene.{VariableValue}
 use Rattle.sl_ast.specs.declared.kinds.SlType.TheVariants as types
 use Rattle.sl_ast.specs.declared.kinds.Predefined.TheVariants as names
-use Rattle.sl_ast.specs.declared.typed.Value.TheVariants.{Number, Triple}
+use Rattle.sl_ast.specs.declared.typed.Value.{Value}
+use Rattle.sl_ast.specs.declared.typed.Value.TheVariants.{Number, Triple, Word}
+use Rattle.sl_ast.specs.Typed.{Local}
 use Rattle.builtins.specs.Table.{image}
 use Rattle.builtins.specs.Triples.{normalize}
 use Rattle.sl_meaning.specs.Runs.{Names, nothing}
@@ -109,7 +111,39 @@ normal_or l i (Some x) = given_normal l x i
 abbrev pub n_at : Leaf → ℕ → Vec3
 n_at l i = normal_or l i (variable_named (codes "N") l.prim.vars)
 
--- the variables at place i
+-- ---- what the parameters of a surface, displacement or volume take
+-- variables of these names set predefined variables alone
+abbrev pub sets_predefined : List ℕ → Bool
+sets_predefined name =
+    bytes_eq name (codes "P") || (bytes_eq name (codes "N") || (bytes_eq name (codes "Cs") || (bytes_eq name (codes "Os") || (bytes_eq name (codes "s") || (bytes_eq name (codes "t") || bytes_eq name (codes "st"))))))
+
+abbrev pub bound_variable : List ℕ → List VariableValue → Option VariableValue
+bound_variable name xs = cond (sets_predefined name) None (variable_named name xs)
+
+abbrev pub text_of : Values → List ℕ
+text_of (held.Numbers xs) = []
+text_of (held.Strings ts) = get_or ts 0 []
+
+-- a variable's value at place i, as a shader has it
+abbrev pub value_by : Kind → List ℕ → Vec3 → Value
+value_by kinds.Float w p = Number p.x
+value_by kinds.Pair w p = Number p.x
+value_by kinds.Str w p = Word w
+value_by kind w p = Triple p
+
+abbrev pub value_at : Leaf → VariableValue → ℕ → Value
+value_at l x i = value_by x.kind (text_of x.values) (spread l x i)
+
+abbrev pub value_or : Leaf → ℕ → Option VariableValue → Value → Value
+value_or l i None v = v
+value_or l i (Some x) v = value_at l x i
+
+-- the values of parameters at place i: those of the primitive's variables of their names, else those that are bound to them
+abbrev pub values_at : Leaf → List Local → List Value → ℕ → List Value
+values_at l (p ∷ ps) (v ∷ vs) i = value_or l i (bound_variable p.name l.prim.vars) v ∷ values_at l ps vs i
+values_at l _ _ i = []
+
+-- ---- the variables at place i
 abbrev pub diced_names : Leaf → ℕ → Names
 diced_names l i names.P = Triple (point_at l i)
 diced_names l i names.N = Triple (n_at l i)
@@ -145,6 +179,12 @@ number name n = record { name = name; kind = kinds.Float; varying = false; value
 
 abbrev pair : VariableValue
 pair = record { name = codes "st"; kind = kinds.Pair; varying = false; values = held.Numbers (pos 1 ∷ pos 2 ∷ []) }
+
+abbrev no_place : bound_variable (codes "s") (number (codes "s") 3 ∷ []) ≡ None
+no_place = refl
+
+abbrev its_place : bound_variable (codes "Ks") (number (codes "Ks") 3 ∷ []) ≡ Some (number (codes "Ks") 3)
+its_place = refl
 
 abbrev s_behind_st : setter (codes "s") (pair ∷ number (codes "s") 3 ∷ number (codes "t") 4 ∷ []) ≡ Some (number (codes "s") 3)
 s_behind_st = refl

@@ -1,6 +1,7 @@
 //! Shading: displacement, surface and volume over the diced grid of a leaf.
 #![tactic(auto)]
 
+mod arguments;
 mod bilinear;
 mod bound;
 mod constant;

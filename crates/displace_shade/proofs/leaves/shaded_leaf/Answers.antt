@@ -4,6 +4,7 @@ use Rattle.scene_state.specs.declared.uses.ShaderKind.TheVariants as requested
 use Rattle.displace_shade.specs.Diced.{Hold}
 use Rattle.displace_shade.specs.Variables.{diced_names}
 use Rattle.displace_shade.specs.Shaded.{bound_at, bound_for, lights_from, shaded_by, displaced}
+use Rattle.displace_shade.specs.Bindings.{FitUseVariables, FitSomeVariables}
 use Rattle.displace_shade.specs.Lamps.{lamp_light}
 use Rattle.displace_shade.specs.Shop.{set_value}
 use Rattle.displace_shade.proofs.Dicing.{first_hold, first_places, first_sized}
@@ -76,3 +77,12 @@ dimmed-requires-clause-use_of c = subst (λ n. IsSomeUse c.args.shaders.now.uses
 
 pub lamps_of-requires-clause-use_of : goal.lamps_of-requires-clause-use_of
 lamps_of-requires-clause-use_of c = c.requires.uses.lights
+
+pub displaced-requires-clause-variables : goal.displaced-requires-clause-variables
+displaced-requires-clause-variables c = subst (λ n. FitSomeVariables (set_value c.args.shaders.now.set.now) c.args.shaders.now.uses.now n c.args.leaf.now.prim.vars) (sym c.displacement.ensures) c.requires.variables.displacement
+
+pub coloured-requires-clause-variables : goal.coloured-requires-clause-variables
+coloured-requires-clause-variables c = subst (λ n. FitUseVariables (set_value c.args.shaders.now.set.now) c.args.shaders.now.uses.now n c.args.leaf.now.prim.vars) (sym c.surface.ensures) c.requires.variables.surface
+
+pub dimmed-requires-clause-variables : goal.dimmed-requires-clause-variables
+dimmed-requires-clause-variables c = subst (λ n. FitSomeVariables (set_value c.args.shaders.now.set.now) c.args.shaders.now.uses.now n c.args.leaf.now.prim.vars) (sym c.atmosphere.ensures) c.requires.variables.atmosphere

@@ -1,4 +1,3 @@
-use Rattle.std.proofs.Common.{sym, ap, ◌∙◌, length}
 use Rattle.displace_shade.proofs.BoundLaws.{places_long}
 use Rattle.displace_shade.proofs.runs.displacement_given.Goals as goal
 
@@ -28,6 +27,3 @@ displacement_rows-requires-clause-dpdu c = (places_long c.args.leaf.now c.args.p
 
 pub displacement_rows-requires-clause-dpdv : goal.displacement_rows-requires-clause-dpdv
 displacement_rows-requires-clause-dpdv c = (places_long c.args.leaf.now c.args.places.now _ c.requires.places c.point_count-points.ensures.value).dpdv
-
-pub displacement_rows-requires-clause-alike : goal.displacement_rows-requires-clause-alike
-displacement_rows-requires-clause-alike c = c.requires.counted ∙ ap (λ k. length k.params) (sym c.code-code.ensures.code) ∙ ap (λ xs. length xs) (sym c.as_slice.ensures)

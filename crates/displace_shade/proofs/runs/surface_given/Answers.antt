@@ -1,4 +1,3 @@
-use Rattle.std.proofs.Common.{sym, ap, ◌∙◌, length}
 use Rattle.displace_shade.proofs.BoundLaws.{places_long}
 use Rattle.displace_shade.proofs.runs.surface_given.Goals as goal
 
@@ -28,6 +27,3 @@ surface_rows-requires-clause-dpdu c = (places_long c.args.leaf.now c.args.places
 
 pub surface_rows-requires-clause-dpdv : goal.surface_rows-requires-clause-dpdv
 surface_rows-requires-clause-dpdv c = (places_long c.args.leaf.now c.args.places.now _ c.requires.places c.point_count-points.ensures.value).dpdv
-
-pub surface_rows-requires-clause-alike : goal.surface_rows-requires-clause-alike
-surface_rows-requires-clause-alike c = c.requires.counted ∙ ap (λ k. length k.params) (sym c.code-code.ensures.code) ∙ ap (λ xs. length xs) (sym c.as_slice.ensures)
