@@ -15,6 +15,7 @@ mod read;
 mod refusal;
 mod shaders;
 mod values;
+mod variables;
 mod whole;
 mod write;
 
