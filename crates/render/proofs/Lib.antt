@@ -13,6 +13,7 @@ pub mod Places
 pub mod FileNames
 pub mod ReadAll
 pub mod Firsts
+pub mod StockFlat
 pub mod Fitting
 pub mod Bound
 pub mod Fetched

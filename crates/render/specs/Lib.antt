@@ -12,6 +12,7 @@ pub mod Set
 pub mod Shopped
 pub mod Summary
 pub mod Verdict
+pub mod Stocked
 pub mod Run
 pub mod Answers
 pub mod Reading
