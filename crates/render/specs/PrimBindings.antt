@@ -7,18 +7,16 @@ use Rattle.rib_reader.specs.declared.params.Kind.{Kind}
 use Rattle.rib_reader.specs.declared.params.Kind.TheVariants as kinds
 use Rattle.rib_reader.specs.declared.params.Values.TheVariants.{Numbers}
 use Rattle.scene_state.specs.Scene.{VariableValue, PrimValue, FrameValue}
+use Rattle.scene_state.specs.declared.uses.ShaderUse.{ShaderUse}
 use Rattle.sl_ast.specs.declared.kinds.SlType.TheVariants as types
 use Rattle.sl_ast.specs.Typed.{Local, Tree}
 use Rattle.displace_shade.specs.Sets.{SetValue}
+use Rattle.displace_shade.specs.Variables.{sets_predefined}
+use Rattle.displace_shade.specs.Bindings.{FitsPrim}
 use Rattle.render.specs.declared.code.Code.TheVariants.{B2}
 use Rattle.render.specs.declared.refusal.FileId.TheVariants.{Scene}
 use Rattle.render.specs.Causes.{Cause, At, first_of}
 use Rattle.render.specs.Bindings.{is_of_type}
-
--- these set predefined variables alone, whatever a shader declares
-abbrev pub sets_predefined : List ℕ → Bool
-sets_predefined name =
-    bytes_eq name (codes "P") || (bytes_eq name (codes "N") || (bytes_eq name (codes "Cs") || (bytes_eq name (codes "Os") || (bytes_eq name (codes "s") || (bytes_eq name (codes "t") || bytes_eq name (codes "st"))))))
 
 -- a variable has the name of a parameter, but another kind, or it varies where the parameter is uniform
 abbrev pub is_unfit : VariableValue → Local → Bool
@@ -50,13 +48,9 @@ abbrev pub is_unfit_prim : List Tree → List ℕ → PrimValue → Bool
 is_unfit_prim trees of_use p =
     unfit_at trees of_use (Some p.surface) p.vars || (unfit_at trees of_use p.displacement p.vars || unfit_at trees of_use p.atmosphere p.vars)
 
--- the variables of a primitive fit its shaders
-pub record FitsPrim (s : SetValue) (p : PrimValue) : Type 0 where
-  pub fits : is_unfit_prim s.trees s.of_use p ≡ false
-
--- so do those of all primitives of these frames
-abbrev pub FitPrims : SetValue → List FrameValue → Type 0
-FitPrims s fs = All (λ f. All (FitsPrim s) f.prims) fs
+-- the variables of all primitives of these frames fit their shaders
+abbrev pub FitPrims : SetValue → List ShaderUse → List FrameValue → Type 0
+FitPrims s uses fs = All (λ f. All (FitsPrim s uses) f.prims) fs
 
 -- the first primitive whose variables don't fit, as a cause at its line
 abbrev pub prim_refused : List Tree → List ℕ → PrimValue → Option Cause

@@ -154,7 +154,7 @@ pub fn accept<L: Library>(alloc: Global, text: &[u8], library: &mut L) -> Result
     ensures asked { Told (L.held library.old) (λ files. AsksFront (asked_for_scene files (scene_of_text text.now)) (L.asked library.old) (L.asked library.new)) }
     ensures gives { Told (L.held library.old) (λ files. Gives accepted_in result (accepted files text.now)) }
     ensures fits { IfOk result (λ a. Fits (set_value a.set) a.scene.uses) }
-    ensures variables { IfOk result (λ a. FitPrims (set_value a.set) a.scene.frames) }
+    ensures variables { IfOk result (λ a. FitPrims (set_value a.set) a.scene.uses a.scene.frames) }
     ensures few { IfOk result (λ a. length a.scene.frames ≤ 1000) }
     ensures later { L.faults library.old ≤ L.faults library.new }
     ensures read { IsErrOf result ReadFault → Rose (L.faults library.old) (L.faults library.new) }

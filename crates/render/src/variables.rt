@@ -4,6 +4,7 @@ ghost use Rattle.std.specs.List.{list_any};
 ghost use Rattle.std.specs.Str.{bytes_eq};
 ghost use Rattle.sl_ast.specs.TypedView.{local_of};
 ghost use Rattle.sl_ast.specs.TreeView.{tree_of};
+ghost use Rattle.displace_shade.specs.Variables.{sets_predefined};
 ghost use Rattle.render.specs.PrimBindings as spec;
 ghost use Rattle.render.specs.Reading.{tree_read};
 ghost use Rattle.render.specs.Answers.{Clears};
@@ -26,7 +27,7 @@ fn is_word(text: &Text, word: &str) -> bool
 
 // Whether variables of that name set predefined variables alone.
 fn sets_predefined(name: &Text) -> bool
-    ensures { result ≡ spec.sets_predefined name.now }
+    ensures { result ≡ sets_predefined name.now }
 {
     is_word(name, "P")
         || is_word(name, "N")

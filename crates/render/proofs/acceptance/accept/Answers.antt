@@ -62,4 +62,5 @@ returns-clause-fits g c =
 
 pub returns-clause-variables : goal.returns-clause-variables
 returns-clause-variables g c =
-    subst (λ (s : SetValue). FitPrims s c.in_ok-scene.scene.frames) (sym c.in_ok-set.ensures) (fit_prims _ c.in_ok-scene.scene.frames c.in_ok-check_variables.ensures.clears)
+    let scene = c.in_ok-scene.scene in
+    subst (λ (s : SetValue). FitPrims s scene.uses scene.frames) (sym c.in_ok-set.ensures) (fit_prims _ scene.uses scene.frames c.in_ok-bound.ensures.fit c.in_ok-check_variables.ensures.clears)
