@@ -1,6 +1,6 @@
 -- The laws of runs, for a shader that is bound; and the shader of a use in its set.
 use Rattle.std.proofs.Common.{◌≡◌, ℕ, zero, suc, ◌*◌, ◌<◌, Bool, true, false, ℤ, List, [], ◌∷◌, ◌++◌, length, map, get_or, take, drop, refl, sym, ap, ◌∙◌, subst, arith}
-use Rattle.std.specs.Prelude.{Result, Ok, Err, IfOk, not, ◌&&◌, Some, slice_get, option_map}
+use Rattle.std.specs.Prelude.{Result, Ok, Err, IfOk, not, ◌&&◌, Some, slice_get, option_map, unwrap_or}
 use Rattle.std.specs.List.{list_all}
 use Rattle.std.proofs.lemmas.Bool.{and_parts, false≢true}
 use Rattle.std.proofs.lemmas.List.{length-map, get_or-map, take_at}
@@ -17,7 +17,7 @@ use Rattle.sl_ast.specs.declared.kinds.SlType.TheVariants as types
 use Rattle.sl_ast.specs.declared.typed.Value.{Value}
 use Rattle.sl_ast.specs.Settled.{is_string}
 use Rattle.sl_ast.specs.TreeView.{tree_of}
-use Rattle.sl_ast.specs.Typed.{Tree}
+use Rattle.sl_ast.specs.Typed.{Local, Tree}
 use Rattle.builtins.specs.declared.shape.Shape.{Shape}
 use Rattle.builtins.specs.declared.shape.Shape.TheVariants as shapes
 use Rattle.builtins.specs.Differences.{Lines}
@@ -29,20 +29,28 @@ use Rattle.grid_code.specs.declared.slot.Slot.{Slot}
 use Rattle.grid_code.specs.Masked.{masked}
 use Rattle.sl_meaning.specs.Core as core
 use Rattle.sl_meaning.specs.Environment.{zero_value}
-use Rattle.displace_shade.specs.Sets.{FitsUse, FitUses, is_of_kind}
+use Rattle.displace_shade.specs.Sets.{AreValuesOf, FitsUse, FitUses, is_of_kind}
 use Rattle.mask_codegen.specs.Compiled.{Seen}
 use Rattle.mask_codegen.proofs.ParamTexts.{is_rowable, params_rowable}
 use Rattle.displace_shade.specs.Shaded.{bound_with}
 use Rattle.displace_shade.specs.Points.{Leaf, normal_of, u_at, v_at, dpdu, dpdv}
+use Rattle.displace_shade.specs.Variables.{s_at, t_at, cs_at, os_at, values_at}
+use Rattle.displace_shade.specs.Bindings.{FitVariables}
 use Rattle.grid_machine.specs.Run.{begun, lines_given, Leaves}
-use Rattle.displace_shade.specs.Rows.{AreRowable, slot_of}
+use Rattle.displace_shade.specs.Rows.{AreRows, AreRowable, values_of, slot_of}
+use Rattle.displace_shade.specs.Given.{param_rows}
 use Rattle.displace_shade.specs.Diced.{point_count, over, ArePlaces}
 use Rattle.displace_shade.specs.Lamps.{lamp_asked}
 use Rattle.displace_shade.specs.Shop.{Runs}
 use Rattle.displace_shade.specs.declared.bound.BoundShader.{BoundShader}
 use Rattle.displace_shade.specs.declared.lamps.Lamp.{Lamp}
 use Rattle.displace_shade.specs.declared.places.Places.{Places}
+use Rattle.sl_meaning.specs.Lowered.{slots}
 use Rattle.displace_shade.proofs.Begun.{values_counted, values_shaped}
+use Rattle.displace_shade.proofs.Filled.{no_rows}
+use Rattle.displace_shade.proofs.GivenRows.{params_rows}
+use Rattle.displace_shade.proofs.Ran.{AreValues}
+use Rattle.displace_shade.proofs.Binding.{values_fit, values_steady}
 use Rattle.displace_shade.proofs.Over.{over_long, over_all}
 
 word_is_string : (k : SlType) → shape_of k ≡ shapes.Word → is_string k ≡ true
@@ -71,29 +79,71 @@ rowable_from (p ∷ ps) (v ∷ vs) e g h =
     let both = and_parts (is_rowable (slot_of p)) (list_all is_rowable (map slot_of ps)) h in
     (λ u w. no_text p.uniform (is_string p.kind) both.0 u (word_is_string p.kind (sym (g 0 (omega arith)) ∙ w)), rowable_from ps vs (omega arith) (λ k l. g (suc k) (omega arith)) both.1)
 
+slots_count : (ps : List Local) → length (slots ps) ≡ length ps
+slots_count [] = refl
+slots_count (p ∷ ps) = ap (λ n. suc n) (slots_count ps)
+
 module _ (b : BoundShader) (r : Runs b) where
   pub bound_count : length b.values.now ≡ length b.compiled.now.code.params
   bound_count = values_counted (tree_of b.compiled.now.tree).params b.values.now r.values ∙ ap (λ xs. length xs) (sym r.code.params) ∙ length-map b.compiled.now.code.params slot_of
 
-  pub bound_rowable : AreRowable b.compiled.now.code.params b.values.now
-  bound_rowable =
-      rowable_from b.compiled.now.code.params b.values.now bound_count
-      (λ k l. subst (λ q. k < length q → shape (get_or b.values.now k zero_value) ≡ shape_of (get_or q k core.no_slot).kind) (sym r.code.params)
-      (λ m. values_shaped (tree_of b.compiled.now.tree).params b.values.now r.values k m) (subst (λ n. k < n) (sym (length-map b.compiled.now.code.params slot_of)) l))
+  rowable : (vs : List Value) → AreValuesOf (tree_of b.compiled.now.tree).params vs → AreRowable b.compiled.now.code.params vs
+  rowable vs h =
+      let count : length vs ≡ length b.compiled.now.code.params = values_counted (tree_of b.compiled.now.tree).params vs h ∙ ap (λ xs. length xs) (sym r.code.params) ∙ length-map b.compiled.now.code.params slot_of in
+      rowable_from b.compiled.now.code.params vs count
+      (λ k l. subst (λ q. k < length q → shape (get_or vs k zero_value) ≡ shape_of (get_or q k core.no_slot).kind) (sym r.code.params)
+      (λ m. values_shaped (tree_of b.compiled.now.tree).params vs h k m) (subst (λ n. k < n) (sym (length-map b.compiled.now.code.params slot_of)) l))
       (ap (list_all is_rowable) r.code.params ∙ params_rowable (tree_of b.compiled.now.tree) b.compiled.now.tree.typed r.code.settled)
 
+  names_count : length (tree_of b.compiled.now.tree).params ≡ length b.compiled.now.code.params
+  names_count = sym (slots_count (tree_of b.compiled.now.tree).params) ∙ ap (λ xs. length xs) (sym r.code.params) ∙ length-map b.compiled.now.code.params slot_of
+
+  -- the values of its parameters on a leaf whose variables fit
+  pub bound_values : (l : Leaf) → FitVariables (tree_of b.compiled.now.tree).params l.prim.vars → AreValues b.compiled.now.code.params (tree_of b.compiled.now.tree).params (values_at l (tree_of b.compiled.now.tree).params b.values.now)
+  bound_values l fit =
+      record {
+        params = λ i. record { slots = r.code.params; values = values_fit l (tree_of b.compiled.now.tree).params b.values.now i fit r.values };
+        steady = λ i. values_steady l b.compiled.now.code.params (tree_of b.compiled.now.tree).params b.values.now i r.code.params fit r.values;
+      }
+
+  pub bound_rows : (l : Leaf) → FitVariables (tree_of b.compiled.now.tree).params l.prim.vars →
+      AreRows (point_count l) (λ i. values_of false b.compiled.now.code.params (values_at l (tree_of b.compiled.now.tree).params b.values.now i)) (param_rows l (tree_of b.compiled.now.tree).params b.compiled.now.code.params b.values.now)
+  bound_rows l fit =
+      params_rows l (λ i. []) [] (tree_of b.compiled.now.tree).params b.compiled.now.code.params b.values.now (sym names_count) (bound_count ∙ sym names_count)
+      (rowable (values_at l (tree_of b.compiled.now.tree).params b.values.now 0) (values_fit l (tree_of b.compiled.now.tree).params b.values.now 0 fit r.values)) (no_rows (point_count l))
+
+  -- its parameters' names are as many as those of its code
+  pub bound_names : length (tree_of b.compiled.now.tree).params ≡ length b.compiled.now.code.params
+  bound_names = names_count
+
 -- the lengths of what doesn't change
-pub places_long : (l : Leaf) (f : Places) → ArePlaces l f → (length f.normals.now ≡ point_count l) × ((length f.u.now ≡ point_count l) × ((length f.v.now ≡ point_count l) × ((length f.dpdu.now ≡ point_count l) × (length f.dpdv.now ≡ point_count l))))
-places_long l f h = (
-  ap (λ xs. length xs) h.normals ∙ over_long (normal_of l) (point_count l),
-  (
-    ap (λ xs. length xs) h.u ∙ over_long (u_at l) (point_count l),
-    (
-      ap (λ xs. length xs) h.v ∙ over_long (v_at l) (point_count l),
-      (ap (λ xs. length xs) h.dpdu ∙ over_long (dpdu l) (point_count l), ap (λ xs. length xs) h.dpdv ∙ over_long (dpdv l) (point_count l)),
-    ),
-  ),
-)
+pub record AreLong (c : ℕ) (f : Places) : Type 0 where
+  pub normals : length f.normals.now ≡ c
+  pub u : length f.u.now ≡ c
+  pub v : length f.v.now ≡ c
+  pub s : length f.s.now ≡ c
+  pub t : length f.t.now ≡ c
+  pub cs : length f.cs.now ≡ c
+  pub os : length f.os.now ≡ c
+  pub dpdu : length f.dpdu.now ≡ c
+  pub dpdv : length f.dpdv.now ≡ c
+
+pub places_long : (l : Leaf) (f : Places) (c : ℕ) → ArePlaces l f → c ≡ point_count l → AreLong c f
+places_long l f c h e =
+    record {
+      normals = long f.normals.now (normal_of l) h.normals;
+      u = long f.u.now (u_at l) h.u;
+      v = long f.v.now (v_at l) h.v;
+      s = long f.s.now (s_at l) h.s;
+      t = long f.t.now (t_at l) h.t;
+      cs = long f.cs.now (cs_at l) h.cs;
+      os = long f.os.now (os_at l) h.os;
+      dpdu = long f.dpdu.now (dpdu l) h.dpdu;
+      dpdv = long f.dpdv.now (dpdv l) h.dpdv;
+    }
+  where
+    long : {A : Type 0} (xs : List A) (g : ℕ → A) → xs ≡ over (point_count l) g → length xs ≡ c
+    long xs g k = ap (λ ys. length ys) k ∙ over_long g (point_count l) ∙ sym e
 
 -- the rows that are written back to where they were
 pub written_back : (n : ℕ) (new items : List ℤ) → length new ≡ n → take n (new ++ drop (length new) items) ≡ new
@@ -195,3 +245,6 @@ of_light written.Volume h = absurd (false≢true h)
 pub if_ok : {A E : Type 0} (r : Result A E) (P Q : A → Type 0) → ((x : A) → P x → Q x) → IfOk r P → IfOk r Q
 if_ok (Ok x) P Q f h = f x h
 if_ok (Err e) P Q f h = h
+
+pub some_is : {A : Type 0} (a b : A) → Some a ≡ Some b → a ≡ b
+some_is a b e = ap (λ o. unwrap_or o a) e

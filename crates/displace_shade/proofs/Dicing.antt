@@ -12,11 +12,12 @@ use Rattle.dice.proofs.Grids.{diced_at, length-diced_points}
 use Rattle.sl_ast.specs.declared.kinds.Predefined.{Predefined}
 use Rattle.sl_ast.specs.declared.kinds.Predefined.TheVariants as names
 use Rattle.sl_ast.specs.declared.typed.Value.TheVariants.{Triple}
-use Rattle.displace_shade.specs.Points.{Leaf, columns, rows, own_u, own_v, point_at, normal_of, sight, turned, flat_or, u_at, v_at, dpdu, dpdv, diced_names}
+use Rattle.displace_shade.specs.Points.{Leaf, columns, rows, own_u, own_v, point_at, normal_of, sight, turned, flat_or, u_at, v_at, dpdu, dpdv}
+use Rattle.displace_shade.specs.Variables.{n_at, s_at, t_at, cs_at, os_at, diced_names}
 use Rattle.displace_shade.specs.Diced.{point_count, over, names_of, Hold, IsSized, ArePlaces}
 use Rattle.displace_shade.specs.declared.places.Places.{Places}
 use Rattle.displace_shade.specs.declared.variables.Variables.{Variables}
-use Rattle.displace_shade.proofs.Over.{over_all}
+use Rattle.displace_shade.proofs.Over.{over_all, over_at, over_long}
 
 at_place : (l : Leaf) (point : ℕ → ℕ → Vec3) (i : ℕ) (d : Vec3) → i < point_count l → get_or (diced_points point l.part l.p l.q) i d ≡ point (own_u l i) (own_v l i)
 at_place l point i d h =
@@ -24,7 +25,7 @@ at_place l point i d h =
     let turned : i < rows l * columns l = subst (λ n. i < n) (mul_comm (columns l) (rows l)) h in
     subst (λ k. get_or (diced_points point l.part l.p l.q) k d ≡ point (own_u l i) (own_v l i)) (div-add-mod i (columns l)) (diced_at point l.part l.p l.q (i % columns l) (i / columns l) d (mod-lt i some) (div_below i (columns l) (rows l) some turned))
 
--- each point of the patch, seen and turned
+-- each point of the patch, seen, and each normal, turned
 abbrev points_of : Leaf → List Vec3
 points_of l = diced_points (patch_point l.prim.patch) l.part l.p l.q
 
@@ -42,31 +43,32 @@ sight_read l is e i h =
     ap (λ xs. get_or xs i origin) e ∙ get_or-map (sight l.camera) (points_of l) i origin origin (let k = length-diced_points (patch_point l.prim.patch) l.part l.p l.q in omega (arith, k, h))
     ∙ ap (sight l.camera) (at_place l (patch_point l.prim.patch) i origin h)
 
-pub first_hold : (l : Leaf) (d : Variables) → d.points.now ≡ diced_points (patch_point l.prim.patch) l.part l.p l.q → d.normals.now ≡ map (λ n. turned l.prim.flip (flat_or l.prim.flat n)) (diced_points (normal (patch_du l.prim.patch) (patch_dv l.prim.patch)) l.part l.p l.q) →
-    d.sights.now ≡ map (sight l.camera) (diced_points (patch_point l.prim.patch) l.part l.p l.q) → d.colours.now ≡ [] → d.opacities.now ≡ [] → Hold l d (diced_names l)
-first_hold l d ep en es ec eo = record { at = λ i name h. at i name h }
+pub geometric : (l : Leaf) (ns : List Vec3) → ns ≡ map (λ n. turned l.prim.flip (flat_or l.prim.flat n)) (diced_points (normal (patch_du l.prim.patch) (patch_dv l.prim.patch)) l.part l.p l.q) → ns ≡ over (point_count l) (normal_of l)
+geometric l ns e =
+    let turn = λ (n : Vec3). turned l.prim.flip (flat_or l.prim.flat n) in
+    let long : length ns ≡ point_count l = ap (λ xs. length xs) e ∙ length-map (units_of l) turn ∙ length-diced_points (normal (patch_du l.prim.patch) (patch_dv l.prim.patch)) l.part l.p l.q in
+    over_all (normal_of l) ns (point_count l) origin long (λ i h. normal_read l ns e i h)
+
+pub first_hold : (l : Leaf) (d : Variables) (ps : List Vec3) → ps ≡ diced_points (patch_point l.prim.patch) l.part l.p l.q → d.points.now ≡ ps → d.normals.now ≡ over (point_count l) (n_at l) → d.sights.now ≡ map (sight l.camera) ps → d.colours.now ≡ [] → d.opacities.now ≡ [] → Hold l d (diced_names l)
+first_hold l d ps e ep en es ec eo = record { at = λ i name h. at i name h }
   where
     at : (i : ℕ) (name : Predefined) → i < point_count l → diced_names l i name ≡ names_of l d i name
-    at i names.P h = ap (λ p. Triple p) (sym (ap (λ xs. get_or xs i origin) ep ∙ at_place l (patch_point l.prim.patch) i origin h))
-    at i names.N h = ap (λ p. Triple p) (sym (normal_read l d.normals.now en i h))
-    at i names.I h = ap (λ p. Triple p) (sym (sight_read l d.sights.now es i h))
+    at i names.P h = ap (λ p. Triple p) (sym (ap (λ xs. get_or xs i origin) (ep ∙ e) ∙ at_place l (patch_point l.prim.patch) i origin h))
+    at i names.N h = ap (λ p. Triple p) (sym (ap (λ xs. get_or xs i origin) en ∙ over_at (n_at l) (point_count l) i origin h))
+    at i names.I h = ap (λ p. Triple p) (sym (sight_read l d.sights.now (es ∙ ap (map (sight l.camera)) e) i h))
     at i names.Ci h = ap (λ xs. Triple (get_or xs i origin)) (sym ec)
     at i names.Oi h = ap (λ xs. Triple (get_or xs i origin)) (sym eo)
     at i _ h = refl
 
-pub first_places : (l : Leaf) (f : Places) → f.normals.now ≡ map (λ n. turned l.prim.flip (flat_or l.prim.flat n)) (diced_points (normal (patch_du l.prim.patch) (patch_dv l.prim.patch)) l.part l.p l.q) → f.u.now ≡ over (point_count l) (u_at l) → f.v.now ≡ over (point_count l) (v_at l) →
-    f.dpdu.now ≡ over (point_count l) (dpdu l) → f.dpdv.now ≡ over (point_count l) (dpdv l) → ArePlaces l f
-first_places l f en eu ev edu edv =
-    let turn = λ (n : Vec3). turned l.prim.flip (flat_or l.prim.flat n) in
-    let long : length f.normals.now ≡ point_count l = ap (λ xs. length xs) en ∙ length-map (units_of l) turn ∙ length-diced_points (normal (patch_du l.prim.patch) (patch_dv l.prim.patch)) l.part l.p l.q in
-    record { normals = over_all (normal_of l) f.normals.now (point_count l) origin long (λ i h. normal_read l f.normals.now en i h); u = eu; v = ev; dpdu = edu; dpdv = edv }
-
-pub first_sized : (l : Leaf) (d : Variables) → d.points.now ≡ diced_points (patch_point l.prim.patch) l.part l.p l.q → d.normals.now ≡ map (λ n. turned l.prim.flip (flat_or l.prim.flat n)) (diced_points (normal (patch_du l.prim.patch) (patch_dv l.prim.patch)) l.part l.p l.q) →
-    d.sights.now ≡ map (sight l.camera) (diced_points (patch_point l.prim.patch) l.part l.p l.q) → IsSized l d
-first_sized l d ep en es =
-    let turn = λ (n : Vec3). turned l.prim.flip (flat_or l.prim.flat n) in
+pub first_sized : (l : Leaf) (d : Variables) (ps : List Vec3) → ps ≡ diced_points (patch_point l.prim.patch) l.part l.p l.q → d.points.now ≡ ps → d.normals.now ≡ over (point_count l) (n_at l) → d.sights.now ≡ map (sight l.camera) ps → IsSized l d
+first_sized l d ps e ep en es =
+    let long : length ps ≡ point_count l = ap (λ xs. length xs) e ∙ length-diced_points (patch_point l.prim.patch) l.part l.p l.q in
     record {
-      points = ap (λ xs. length xs) ep ∙ length-diced_points (patch_point l.prim.patch) l.part l.p l.q;
-      normals = ap (λ xs. length xs) en ∙ length-map (units_of l) turn ∙ length-diced_points (normal (patch_du l.prim.patch) (patch_dv l.prim.patch)) l.part l.p l.q;
-      sights = ap (λ xs. length xs) es ∙ length-map (points_of l) (sight l.camera) ∙ length-diced_points (patch_point l.prim.patch) l.part l.p l.q;
+      points = ap (λ xs. length xs) ep ∙ long;
+      normals = ap (λ xs. length xs) en ∙ over_long (n_at l) (point_count l);
+      sights = ap (λ xs. length xs) es ∙ length-map ps (sight l.camera) ∙ long;
     }
+
+pub first_places : (l : Leaf) (f : Places) → f.normals.now ≡ over (point_count l) (normal_of l) → f.u.now ≡ over (point_count l) (u_at l) → f.v.now ≡ over (point_count l) (v_at l) → f.s.now ≡ over (point_count l) (s_at l) → f.t.now ≡ over (point_count l) (t_at l) →
+    f.cs.now ≡ over (point_count l) (cs_at l) → f.os.now ≡ over (point_count l) (os_at l) → f.dpdu.now ≡ over (point_count l) (dpdu l) → f.dpdv.now ≡ over (point_count l) (dpdv l) → ArePlaces l f
+first_places l f en eu ev es et ecs eos edu edv = record { normals = en; u = eu; v = ev; s = es; t = et; cs = ecs; os = eos; dpdu = edu; dpdv = edv }

@@ -18,6 +18,7 @@ use Rattle.sl_meaning.specs.Environment.{Around}
 use Rattle.sl_meaning.specs.Runs.{Names, ran}
 use Rattle.displace_shade.specs.Sets.{SetValue}
 use Rattle.displace_shade.specs.Points.{Leaf}
+use Rattle.displace_shade.specs.Variables.{cs_at, os_at, values_at}
 use Rattle.displace_shade.specs.Shaded.{Bound, bound_at, bound_for, displaced, shaded_by, opacity, around, lights_from}
 use Rattle.displace_shade.specs.Constant.{constant_tree, ConstantLaw}
 
@@ -41,13 +42,13 @@ cs_kept Displacement x y = refl
 cs_kept Light x y = refl
 cs_kept Volume x y = refl
 
-os_displaced : (l : Leaf) (d : Option Bound) (i : ℕ) → displaced l d i names.Os ≡ Triple l.prim.os
+os_displaced : (l : Leaf) (d : Option Bound) (i : ℕ) → displaced l d i names.Os ≡ Triple (os_at l i)
 os_displaced l None i = refl
-os_displaced l (Some d) i = os_kept d.tree.kind _ (Triple l.prim.os)
+os_displaced l (Some d) i = os_kept d.tree.kind _ (Triple (os_at l i))
 
-cs_displaced : (l : Leaf) (d : Option Bound) (i : ℕ) → displaced l d i names.Cs ≡ Triple l.prim.cs
+cs_displaced : (l : Leaf) (d : Option Bound) (i : ℕ) → displaced l d i names.Cs ≡ Triple (cs_at l i)
 cs_displaced l None i = refl
-cs_displaced l (Some d) i = cs_kept d.tree.kind _ (Triple l.prim.cs)
+cs_displaced l (Some d) i = cs_kept d.tree.kind _ (Triple (cs_at l i))
 
 multiplied : (a : Around) (x y : Value) (p q : Vec3) → x ≡ Triple p → y ≡ Triple q → triple_of (as_kind Color (applied Multiply a.spaces (x ∷ y ∷ []))) ≡ each_two mul p q
 unfolding Rattle.builtins.specs.Table.of_two
@@ -60,16 +61,19 @@ module _ (l : Leaf) (s : SetValue) (uses : List ShaderUse) (b : Bound) (is : b.t
   abbrev with_lights : Around
   with_lights = around l b (lights_from l s uses l.prim.lights)
 
-  colour_at : (i : ℕ) → triple_of (ran b.tree with_lights (λ j. b.values) before i names.Ci) ≡ each_two mul l.prim.os l.prim.cs
-  colour_at i =
-      ap (λ t. triple_of (ran t with_lights (λ j. b.values) before i names.Ci)) is
-      ∙ ap triple_of (colour_of with_lights (λ j. b.values) before i)
-      ∙ multiplied with_lights (before i names.Os) (before i names.Cs) l.prim.os l.prim.cs (os_displaced l (bound_for s uses l.prim.displacement) i) (cs_displaced l (bound_for s uses l.prim.displacement) i)
+  abbrev values : ℕ → List Value
+  values = values_at l b.tree.params b.values
 
-  opacity_at : (i : ℕ) → opacity (triple_of (ran b.tree with_lights (λ j. b.values) before i names.Oi)) ≡ opacity l.prim.os
+  colour_at : (i : ℕ) → triple_of (ran b.tree with_lights values before i names.Ci) ≡ each_two mul (os_at l i) (cs_at l i)
+  colour_at i =
+      ap (λ t. triple_of (ran t with_lights values before i names.Ci)) is
+      ∙ ap triple_of (colour_of with_lights values before i)
+      ∙ multiplied with_lights (before i names.Os) (before i names.Cs) (os_at l i) (cs_at l i) (os_displaced l (bound_for s uses l.prim.displacement) i) (cs_displaced l (bound_for s uses l.prim.displacement) i)
+
+  opacity_at : (i : ℕ) → opacity (triple_of (ran b.tree with_lights values before i names.Oi)) ≡ opacity (os_at l i)
   opacity_at i =
-      ap (λ t. opacity (triple_of (ran t with_lights (λ j. b.values) before i names.Oi))) is
-      ∙ ap (λ v. opacity (triple_of v)) (opacity_of with_lights (λ j. b.values) before i)
+      ap (λ t. opacity (triple_of (ran t with_lights values before i names.Oi))) is
+      ∙ ap (λ v. opacity (triple_of v)) (opacity_of with_lights values before i)
       ∙ ap (λ v. opacity (triple_of (as_kind Color v))) (os_displaced l (bound_for s uses l.prim.displacement) i)
 
 pub constant_law : ConstantLaw

@@ -30,19 +30,18 @@ use Rattle.sl_meaning.specs.Environment.{zero_value}
 use Rattle.sl_meaning.specs.Runs.{Names, ran}
 use Rattle.mask_codegen.specs.Compiled.{IsCodeOf}
 use Rattle.mask_codegen.specs.Correct.{Answers}
-use Rattle.displace_shade.specs.Sets.{AreValuesOf}
 use Rattle.displace_shade.specs.Points.{Leaf, columns, rows, lines}
 use Rattle.displace_shade.specs.Shaded.{Bound, spaces_of, around}
 use Rattle.grid_machine.specs.Run.{row_length, height, rows_of, same_class, params_of, step_names, uniform_inputs, varying_inputs, begun, lines_given, Leaves}
-use Rattle.displace_shade.specs.Rows.{heights, AreRows, AreRowable, HoldNames, values_of, written_order, uniform_values, varying_values, slot_of}
+use Rattle.displace_shade.specs.Rows.{heights, AreRows, HoldNames, values_of, written_order, uniform_values, varying_values, slot_of}
 use Rattle.displace_shade.specs.Diced.{point_count, over, triple_in, names_of, Hold, IsSized, ArePlaces}
 use Rattle.displace_shade.specs.Given.{surface_rows, displacement_rows}
 use Rattle.displace_shade.specs.declared.places.Places.{Places}
 use Rattle.displace_shade.specs.declared.variables.Variables.{Variables}
 use Rattle.displace_shade.proofs.Begun.{values_counted, values_shaped}
 use Rattle.displace_shade.proofs.Looks.{Fit, Paired, shape_of_reg}
-use Rattle.displace_shade.proofs.Starts.{AreParams, inputs_fit, params_paired}
-use Rattle.displace_shade.proofs.Ran.{run_leaves}
+use Rattle.displace_shade.proofs.Starts.{inputs_fit, params_paired}
+use Rattle.displace_shade.proofs.Ran.{AreValues, run_leaves}
 use Rattle.displace_shade.proofs.Stages.{hold_names, hold_steps, displaced_hold, surface_hold, volume_hold}
 use Rattle.displace_shade.proofs.GivenRows.{surface_given, displacement_given}
 use Rattle.displace_shade.proofs.Plain.{lines_unread, placed_plain}
@@ -70,26 +69,23 @@ params_shapes u n (p ∷ ps) [] h g = absurd (omega arith)
 params_shapes u n (p ∷ ps) (v ∷ vs) h g =
     head_shapes (same_class p.uniform u) u (shape_of p.kind) n v (params_of u (n + 1) ps) (values_of u ps vs) (g 0 (omega arith)) (params_shapes u (n + 1) ps vs (omega arith) (λ k l. g (suc k) (omega arith)))
 
-module _ (l : Leaf) (t : Tree) (code : Code) (vs : List Value) (space : Map) (is : IsCodeOf t code) (values : AreValuesOf t.params vs) (rowable : AreRowable code.params vs) where
+module _ (l : Leaf) (t : Tree) (code : Code) (base : List Value) (space : Map) (is : IsCodeOf t code) (vs : ℕ → List Value) (values : AreValues code.params t.params vs) (front : List ℤ) (fronts : AreRows (point_count l) (λ i. values_of false code.params (vs i)) front) where
   abbrev c : ℕ
   c = point_count l
 
   abbrev bound : Bound
-  bound = record { tree = t; values = vs; space = space }
-
-  params : AreParams code.params t.params vs
-  params = record { slots = is.params; values = values }
+  bound = record { tree = t; values = base; space = space }
 
   counted : length (map slot_of code.params) ≡ length code.params
   counted = length-map code.params slot_of
 
-  pub counted_values : length vs ≡ length code.params
-  counted_values = values_counted t.params vs values ∙ ap (λ xs. length xs) (sym is.params) ∙ counted
+  pub counted_values : length (vs 0) ≡ length code.params
+  counted_values = values_counted t.params (vs 0) (values.params 0).values ∙ ap (λ xs. length xs) (sym is.params) ∙ counted
 
-  shaped : (k : ℕ) → k < length code.params → shape (get_or vs k zero_value) ≡ shape_of (get_or (map slot_of code.params) k core.no_slot).kind
+  shaped : (k : ℕ) → k < length code.params → shape (get_or (vs 0) k zero_value) ≡ shape_of (get_or (map slot_of code.params) k core.no_slot).kind
   shaped k m =
-      subst (λ q. k < length q → shape (get_or vs k zero_value) ≡ shape_of (get_or q k core.no_slot).kind) (sym is.params)
-      (λ z. values_shaped t.params vs values k z) (subst (λ n. k < n) (sym counted) m)
+      subst (λ q. k < length q → shape (get_or (vs 0) k zero_value) ≡ shape_of (get_or q k core.no_slot).kind) (sym is.params)
+      (λ z. values_shaped t.params (vs 0) (values.params 0).values k z) (subst (λ n. k < n) (sym counted) m)
 
   wide : 2 ≤ columns l
   wide = cells_from l.p
@@ -105,38 +101,38 @@ module _ (l : Leaf) (t : Tree) (code : Code) (vs : List Value) (space : Map) (is
 
   -- the lines that the steps give
   abbrev with_steps : List Value
-  with_steps = values_of true code.params vs ++ Number (lines l).du ∷ Number (lines l).dv ∷ []
+  with_steps = values_of true code.params (vs 0) ++ Number (lines l).du ∷ Number (lines l).dv ∷ []
 
-  uniform_count : length (values_of true code.params vs) ≡ length (params_of true first_free code.params)
-  uniform_count = sym (paired_long _ _ (params_paired true first_free code.params vs counted_values))
+  uniform_count : length (values_of true code.params (vs 0)) ≡ length (params_of true first_free code.params)
+  uniform_count = sym (paired_long _ _ (params_paired true first_free code.params (vs 0) counted_values))
 
   lines_are : lines_given (columns l) (rows l) code.params with_steps ≡ lines l
   lines_are =
       let n = length (params_of true first_free code.params) in
-      let first : get_or with_steps n (Number (pos 0)) ≡ Number (lines l).du = get_or_at (values_of true code.params vs) (Number (lines l).du) (Number (lines l).dv ∷ []) (Number (pos 0)) n uniform_count in
+      let first : get_or with_steps n (Number (pos 0)) ≡ Number (lines l).du = get_or_at (values_of true code.params (vs 0)) (Number (lines l).du) (Number (lines l).dv ∷ []) (Number (pos 0)) n uniform_count in
       let second : get_or with_steps (n + 1) (Number (pos 0)) ≡ Number (lines l).dv =
-      ap (λ m. get_or with_steps (m + 1) (Number (pos 0))) (sym uniform_count) ∙ get_or-append-add (values_of true code.params vs) (Number (lines l).du ∷ Number (lines l).dv ∷ []) 1 (Number (pos 0)) in
+      ap (λ m. get_or with_steps (m + 1) (Number (pos 0))) (sym uniform_count) ∙ get_or-append-add (values_of true code.params (vs 0)) (Number (lines l).du ∷ Number (lines l).dv ∷ []) 1 (Number (pos 0)) in
       ap (λ (v : Value). made (number_of v) (number_of (get_or with_steps (n + 1) (Number (pos 0))))) first ∙ ap (λ (v : Value). made (lines l).du (number_of v)) second
     where
       made : ℤ → ℤ → Lines
       made x y = record { columns = columns l; rows = rows l; du = x; dv = y }
 
   -- ---- what the rows that a run leaves hold
-  left : (f : ℕ → Names) (d : Variables) (asked : List Asked) (lights : List (Vec3 → Light)) (uniforms : List Value) (varyings out : List ℤ) (ls : Lines) → Answers c asked lights → Hold l d f → uniforms ≡ uniform_values t.kind code.params vs (f 0) → AreRows c (λ i. varying_values t.kind code.params vs (f i)) varyings →
+  left : (f : ℕ → Names) (d : Variables) (asked : List Asked) (lights : List (Vec3 → Light)) (uniforms : List Value) (varyings out : List ℤ) (ls : Lines) → Answers c asked lights → Hold l d f → uniforms ≡ uniform_values t.kind code.params (vs 0) (f 0) → AreRows c (λ i. varying_values t.kind code.params (vs i) (f i)) varyings →
       masked (block_of code.nodes) (ground ls asked) c 65536 ≡ masked (block_of code.nodes) (ground (lines l) asked) c 65536 → Leaves code.kind c out (masked (block_of code.nodes) (ground ls asked) c 65536 (begun code.kind code.params c uniforms varyings)) →
-      (i : ℕ) → i < c → HoldNames (ran t (around l bound lights) (λ j. vs) f i) (written_order t.kind) out (row_length c) 0 i
+      (i : ℕ) → i < c → HoldNames (ran t (around l bound lights) vs f i) (written_order t.kind) out (row_length c) 0 i
   left f d asked lights uniforms varyings out ls answers h eu er em lv =
       let block = block_of code.nodes in
       let lv1 = subst (λ m. Leaves code.kind c out (m (begun code.kind code.params c uniforms varyings))) em lv in
       let lv2 = subst (λ us. Leaves code.kind c out (masked block (ground (lines l) asked) c 65536 (begun code.kind code.params c us varyings))) eu lv1 in
-      let lv3 = subst (λ k. Leaves k c out (masked block (ground (lines l) asked) c 65536 (begun k code.params c (uniform_values t.kind code.params vs (f 0)) varyings))) is.kind lv2 in
-      run_leaves t block (around l bound lights) (ground (lines l) asked) vs f code.params varyings out is.means wide tall params (hold_names l d f h) record { lines = refl; spaces = refl; lights = answers } er lv3
+      let lv3 = subst (λ k. Leaves k c out (masked block (ground (lines l) asked) c 65536 (begun k code.params c (uniform_values t.kind code.params (vs 0) (f 0)) varyings))) is.kind lv2 in
+      run_leaves t block (around l bound lights) (ground (lines l) asked) vs f code.params varyings out is.means wide tall values (hold_names l d f h) record { lines = refl; spaces = refl; lights = answers } er lv3
 
-  stepped : (kind : SlKind) → t.kind ≡ kind → has_surface kind ≡ true → (f : ℕ → Names) (d : Variables) → Hold l d f → with_steps ≡ uniform_values t.kind code.params vs (f 0)
+  stepped : (kind : SlKind) → t.kind ≡ kind → has_surface kind ≡ true → (f : ℕ → Names) (d : Variables) → Hold l d f → with_steps ≡ uniform_values t.kind code.params (vs 0) (f 0)
   stepped kind k s f d h =
       let steps = hold_steps l d f h some in
-      ap (λ v. values_of true code.params vs ++ v ∷ Number (lines l).dv ∷ []) (sym steps.0) ∙ ap (λ v. values_of true code.params vs ++ f 0 names.Du ∷ v ∷ []) (sym steps.1)
-      ∙ ap (λ b. values_of true code.params vs ++ cond b (f 0 names.Du ∷ f 0 names.Dv ∷ []) []) (sym (ap has_surface k ∙ s))
+      ap (λ v. values_of true code.params (vs 0) ++ v ∷ Number (lines l).dv ∷ []) (sym steps.0) ∙ ap (λ v. values_of true code.params (vs 0) ++ f 0 names.Du ∷ v ∷ []) (sym steps.1)
+      ∙ ap (λ b. values_of true code.params (vs 0) ++ cond b (f 0 names.Du ∷ f 0 names.Dv ∷ []) []) (sym (ap has_surface k ∙ s))
 
   surface_masked : (asked : List Asked) (uniforms : List Value) → uniforms ≡ with_steps →
       masked (block_of code.nodes) (ground (lines_given (columns l) (rows l) code.params uniforms) asked) c 65536 ≡ masked (block_of code.nodes) (ground (lines l) asked) c 65536
@@ -145,28 +141,28 @@ module _ (l : Leaf) (t : Tree) (code : Code) (vs : List Value) (space : Map) (is
   abbrev Left : List Asked → List Value → List ℤ → List ℤ → Type 0
   Left asked uniforms varyings out = Leaves code.kind c out (masked (block_of code.nodes) (ground (lines_given (columns l) (rows l) code.params uniforms) asked) c 65536 (begun code.kind code.params c uniforms varyings))
 
-  pub displace_law : t.kind ≡ Displacement → (fx : Places) (d e : Variables) (uniforms : List Value) (varyings out : List ℤ) → ArePlaces l fx → IsSized l d → uniforms ≡ with_steps → varyings ≡ displacement_rows c code.params vs l.prim.cs l.prim.os fx d → Left [] uniforms varyings out →
+  pub displace_law : t.kind ≡ Displacement → (fx : Places) (d e : Variables) (uniforms : List Value) (varyings out : List ℤ) → ArePlaces l fx → IsSized l d → uniforms ≡ with_steps → varyings ≡ displacement_rows front fx d → Left [] uniforms varyings out →
       e.points.now ≡ over c (triple_in out (row_length c) 0) → e.normals.now ≡ over c (triple_in out (row_length c) 3) → e.sights.now ≡ d.sights.now → e.colours.now ≡ d.colours.now → e.opacities.now ≡ d.opacities.now →
-      (f : ℕ → Names) → Hold l d f → Hold l e (ran t (around l bound []) (λ j. vs) f)
+      (f : ℕ → Names) → Hold l d f → Hold l e (ran t (around l bound []) vs f)
   displace_law k fx d e uniforms varyings out places sized eu er lv ep en es ec eo f h =
-      let given = subst (λ rs. AreRows c (λ i. varying_values Displacement code.params vs (f i)) rs) (sym er) (displacement_given l fx d f code.params vs h places rowable sized.points sized.normals sized.sights) in
-      let rows' = subst (λ q. AreRows c (λ i. varying_values q code.params vs (f i)) varyings) (sym k) given in
+      let given = subst (λ rs. AreRows c (λ i. varying_values Displacement code.params (vs i) (f i)) rs) (sym er) (displacement_given l fx d f code.params vs front fronts h places sized.points sized.normals sized.sights) in
+      let rows' = subst (λ q. AreRows c (λ i. varying_values q code.params (vs i) (f i)) varyings) (sym k) given in
       displaced_hold l t (around l bound []) vs f d e h out (left f d [] [] uniforms varyings out _ tt h (eu ∙ stepped Displacement k refl f d h) rows' (surface_masked [] uniforms eu) lv) k ep en es ec eo
 
-  pub surface_law : t.kind ≡ Surface → (fx : Places) (d e : Variables) (asked : List Asked) (lights : List (Vec3 → Light)) (uniforms : List Value) (varyings out : List ℤ) → Answers c asked lights → ArePlaces l fx → IsSized l d → uniforms ≡ with_steps → varyings ≡ surface_rows c code.params vs l.prim.cs l.prim.os fx d → Left asked uniforms varyings out →
+  pub surface_law : t.kind ≡ Surface → (fx : Places) (d e : Variables) (asked : List Asked) (lights : List (Vec3 → Light)) (uniforms : List Value) (varyings out : List ℤ) → Answers c asked lights → ArePlaces l fx → IsSized l d → uniforms ≡ with_steps → varyings ≡ surface_rows front fx d → Left asked uniforms varyings out →
       e.colours.now ≡ over c (triple_in out (row_length c) 0) → e.opacities.now ≡ over c (triple_in out (row_length c) 3) → e.points.now ≡ d.points.now → e.normals.now ≡ d.normals.now → e.sights.now ≡ d.sights.now →
-      (f : ℕ → Names) → Hold l d f → Hold l e (ran t (around l bound lights) (λ j. vs) f)
+      (f : ℕ → Names) → Hold l d f → Hold l e (ran t (around l bound lights) vs f)
   surface_law k fx d e asked lights uniforms varyings out answers places sized eu er lv ec eo ep en es f h =
-      let given = subst (λ rs. AreRows c (λ i. varying_values Surface code.params vs (f i)) rs) (sym er) (surface_given l fx d f code.params vs h places rowable sized.points sized.normals sized.sights) in
-      let rows' = subst (λ q. AreRows c (λ i. varying_values q code.params vs (f i)) varyings) (sym k) given in
+      let given = subst (λ rs. AreRows c (λ i. varying_values Surface code.params (vs i) (f i)) rs) (sym er) (surface_given l fx d f code.params vs front fronts h places sized.points sized.normals sized.sights) in
+      let rows' = subst (λ q. AreRows c (λ i. varying_values q code.params (vs i) (f i)) varyings) (sym k) given in
       surface_hold l t (around l bound lights) vs f d e h out (left f d asked lights uniforms varyings out _ answers h (eu ∙ stepped Surface k refl f d h) rows' (surface_masked asked uniforms eu) lv) k ec eo ep en es
 
-  pub volume_law : t.kind ≡ Volume → is_placed code.kind false true (block_of code.nodes) ≡ true → (d e : Variables) (uniforms : List Value) (varyings out : List ℤ) → ((f : ℕ → Names) → Hold l d f → AreRows c (λ i. varying_values Volume code.params vs (f i)) varyings) → uniforms ≡ values_of true code.params vs → Left [] uniforms varyings out →
+  pub volume_law : t.kind ≡ Volume → is_placed code.kind false true (block_of code.nodes) ≡ true → (d e : Variables) (uniforms : List Value) (varyings out : List ℤ) → ((f : ℕ → Names) → Hold l d f → AreRows c (λ i. varying_values Volume code.params (vs i) (f i)) varyings) → uniforms ≡ values_of true code.params (vs 0) → Left [] uniforms varyings out →
       e.colours.now ≡ over c (triple_in out (row_length c) 0) → e.opacities.now ≡ over c (triple_in out (row_length c) 3) → e.points.now ≡ d.points.now → e.normals.now ≡ d.normals.now → e.sights.now ≡ d.sights.now →
-      (f : ℕ → Names) → Hold l d f → Hold l e (ran t (around l bound []) (λ j. vs) f)
+      (f : ℕ → Names) → Hold l d f → Hold l e (ran t (around l bound []) vs f)
   volume_law k valid d e uniforms varyings out given eu lv ec eo ep en es f h =
-      let rows' = subst (λ q. AreRows c (λ i. varying_values q code.params vs (f i)) varyings) (sym k) (given f h) in
-      let none : uniforms ≡ uniform_values t.kind code.params vs (f 0) = eu ∙ sym (append-nil (values_of true code.params vs)) ∙ ap (λ b. values_of true code.params vs ++ cond b (f 0 names.Du ∷ f 0 names.Dv ∷ []) []) (sym (ap has_surface k)) in
+      let rows' = subst (λ q. AreRows c (λ i. varying_values q code.params (vs i) (f i)) varyings) (sym k) (given f h) in
+      let none : uniforms ≡ uniform_values t.kind code.params (vs 0) (f 0) = eu ∙ sym (append-nil (values_of true code.params (vs 0))) ∙ ap (λ b. values_of true code.params (vs 0) ++ cond b (f 0 names.Du ∷ f 0 names.Dv ∷ []) []) (sym (ap has_surface k)) in
       let away : has_surface code.kind ≡ false = ap has_surface (is.kind ∙ k) in
       let same = lines_unread (lines_given (columns l) (rows l) code.params uniforms) (lines l) (spaces_of l bound) [] c 65536 (block_of code.nodes) (placed_plain code.kind away false true (block_of code.nodes) valid) in
       volume_hold l t (around l bound []) vs f d e h out (left f d [] [] uniforms varyings out _ tt h none rows' same lv) k ec eo ep en es
@@ -174,8 +170,8 @@ module _ (l : Leaf) (t : Tree) (code : Code) (vs : List Value) (space : Map) (is
   -- ---- what the run asks of what it is given
   surface_shapes : has_surface code.kind ≡ true → (uniforms : List Value) → uniforms ≡ with_steps → map shape uniforms ≡ map register_shape (uniform_inputs code.kind code.params)
   surface_shapes s uniforms e =
-      ap (map shape) e ∙ map-append shape (values_of true code.params vs) (Number (lines l).du ∷ Number (lines l).dv ∷ [])
-      ∙ ap (λ ss. ss ++ map shape (Number (lines l).du ∷ Number (lines l).dv ∷ [])) (params_shapes true first_free code.params vs counted_values shaped)
+      ap (map shape) e ∙ map-append shape (values_of true code.params (vs 0)) (Number (lines l).du ∷ Number (lines l).dv ∷ [])
+      ∙ ap (λ ss. ss ++ map shape (Number (lines l).du ∷ Number (lines l).dv ∷ [])) (params_shapes true first_free code.params (vs 0) counted_values shaped)
       ∙ sym (map-append register_shape (params_of true first_free code.params) (step_names code.kind) ∙ ap (λ b. map register_shape (params_of true first_free code.params) ++ map register_shape (cond b (name_at names.Du ∷ name_at names.Dv ∷ []) [])) s)
 
   pub displace_shapes : t.kind ≡ Displacement → (uniforms : List Value) → uniforms ≡ with_steps → map shape uniforms ≡ map register_shape (uniform_inputs code.kind code.params)
@@ -184,25 +180,25 @@ module _ (l : Leaf) (t : Tree) (code : Code) (vs : List Value) (space : Map) (is
   pub look_shapes : t.kind ≡ Surface → (uniforms : List Value) → uniforms ≡ with_steps → map shape uniforms ≡ map register_shape (uniform_inputs code.kind code.params)
   look_shapes k = surface_shapes (ap has_surface (is.kind ∙ k))
 
-  pub volume_shapes : t.kind ≡ Volume → (uniforms : List Value) → uniforms ≡ values_of true code.params vs → map shape uniforms ≡ map register_shape (uniform_inputs code.kind code.params)
+  pub volume_shapes : t.kind ≡ Volume → (uniforms : List Value) → uniforms ≡ values_of true code.params (vs 0) → map shape uniforms ≡ map register_shape (uniform_inputs code.kind code.params)
   volume_shapes k uniforms e =
-      ap (map shape) e ∙ params_shapes true first_free code.params vs counted_values shaped ∙ sym (ap (map register_shape) (ap (λ b. params_of true first_free code.params ++ cond b (name_at names.Du ∷ name_at names.Dv ∷ []) []) (ap has_surface (is.kind ∙ k)) ∙ append-nil (params_of true first_free code.params)))
+      ap (map shape) e ∙ params_shapes true first_free code.params (vs 0) counted_values shaped ∙ sym (ap (map register_shape) (ap (λ b. params_of true first_free code.params ++ cond b (name_at names.Du ∷ name_at names.Dv ∷ []) []) (ap has_surface (is.kind ∙ k)) ∙ append-nil (params_of true first_free code.params)))
 
   self_hold : (d : Variables) → Hold l d (names_of l d)
   self_hold d = record { at = λ i p m. refl }
 
-  long_rows : (kind : SlKind) → t.kind ≡ kind → (d : Variables) (varyings : List ℤ) → AreRows c (λ i. varying_values kind code.params vs (names_of l d i)) varyings → length varyings ≡ rows_of (varying_inputs code.kind code.params) * row_length c
+  long_rows : (kind : SlKind) → t.kind ≡ kind → (d : Variables) (varyings : List ℤ) → AreRows c (λ i. varying_values kind code.params (vs i) (names_of l d i)) varyings → length varyings ≡ rows_of (varying_inputs code.kind code.params) * row_length c
   long_rows kind k d varyings r =
-      let fit = inputs_fit c some kind code.params t.params vs (names_of l d) varyings params (hold_names l d (names_of l d) (self_hold d)) r 0 some in
+      let fit = inputs_fit c some kind code.params t.params (vs 0) (names_of l d) varyings (values.params 0) (hold_names l d (names_of l d) (self_hold d)) 0 some in
       r.long 0 some ∙ ap (λ n. n * row_length c) (fit_heights (varying_inputs kind code.params) _ fit) ∙ ap (λ q. rows_of (varying_inputs q code.params) * row_length c) (sym (is.kind ∙ k))
 
-  pub displace_long : t.kind ≡ Displacement → (fx : Places) (d : Variables) (varyings : List ℤ) → ArePlaces l fx → IsSized l d → varyings ≡ displacement_rows c code.params vs l.prim.cs l.prim.os fx d → length varyings ≡ rows_of (varying_inputs code.kind code.params) * row_length c
+  pub displace_long : t.kind ≡ Displacement → (fx : Places) (d : Variables) (varyings : List ℤ) → ArePlaces l fx → IsSized l d → varyings ≡ displacement_rows front fx d → length varyings ≡ rows_of (varying_inputs code.kind code.params) * row_length c
   displace_long k fx d varyings places sized e =
-      long_rows Displacement k d varyings (subst (λ rs. AreRows c (λ i. varying_values Displacement code.params vs (names_of l d i)) rs) (sym e) (displacement_given l fx d (names_of l d) code.params vs (self_hold d) places rowable sized.points sized.normals sized.sights))
+      long_rows Displacement k d varyings (subst (λ rs. AreRows c (λ i. varying_values Displacement code.params (vs i) (names_of l d i)) rs) (sym e) (displacement_given l fx d (names_of l d) code.params vs front fronts (self_hold d) places sized.points sized.normals sized.sights))
 
-  pub look_long : t.kind ≡ Surface → (fx : Places) (d : Variables) (varyings : List ℤ) → ArePlaces l fx → IsSized l d → varyings ≡ surface_rows c code.params vs l.prim.cs l.prim.os fx d → length varyings ≡ rows_of (varying_inputs code.kind code.params) * row_length c
+  pub look_long : t.kind ≡ Surface → (fx : Places) (d : Variables) (varyings : List ℤ) → ArePlaces l fx → IsSized l d → varyings ≡ surface_rows front fx d → length varyings ≡ rows_of (varying_inputs code.kind code.params) * row_length c
   look_long k fx d varyings places sized e =
-      long_rows Surface k d varyings (subst (λ rs. AreRows c (λ i. varying_values Surface code.params vs (names_of l d i)) rs) (sym e) (surface_given l fx d (names_of l d) code.params vs (self_hold d) places rowable sized.points sized.normals sized.sights))
+      long_rows Surface k d varyings (subst (λ rs. AreRows c (λ i. varying_values Surface code.params (vs i) (names_of l d i)) rs) (sym e) (surface_given l fx d (names_of l d) code.params vs front fronts (self_hold d) places sized.points sized.normals sized.sights))
 
-  pub volume_long : t.kind ≡ Volume → (d : Variables) (varyings : List ℤ) → ((f : ℕ → Names) → Hold l d f → AreRows c (λ i. varying_values Volume code.params vs (f i)) varyings) → length varyings ≡ rows_of (varying_inputs code.kind code.params) * row_length c
+  pub volume_long : t.kind ≡ Volume → (d : Variables) (varyings : List ℤ) → ((f : ℕ → Names) → Hold l d f → AreRows c (λ i. varying_values Volume code.params (vs i) (f i)) varyings) → length varyings ≡ rows_of (varying_inputs code.kind code.params) * row_length c
   volume_long k d varyings given = long_rows Volume k d varyings (given (names_of l d) (self_hold d))

@@ -1,3 +1,4 @@
+pub mod Passing
 pub mod Begun
 pub mod Looks
 pub mod Starts
@@ -10,6 +11,7 @@ pub mod Dicing
 pub mod Stages
 pub mod GivenRows
 pub mod Plain
+pub mod Binding
 pub mod Laws
 pub mod BoundLaws
 pub mod LightBegins

@@ -1,5 +1,6 @@
 -- Lists of what a function gives at the first places.
-use Rattle.std.proofs.Common.{◌≡◌, ℕ, ◌+◌, ◌<◌, List, [], ◌∷◌, ◌++◌, length, get_or, sym, ap, ◌∙◌, arith}
+use Rattle.std.proofs.Common.{◌≡◌, ℕ, ◌+◌, ◌<◌, List, [], ◌∷◌, ◌++◌, length, map, get_or, sym, ap, ◌∙◌, arith}
+use Rattle.std.proofs.lemmas.List.{get_or-map, length-map}
 use Rattle.std.proofs.lemmas.List.FromFn.{length-map-range_with_len, get_or-map-range_with_len, map-range_with_len_more, fill_by_all}
 use Rattle.displace_shade.specs.Diced.{over}
 
@@ -14,3 +15,8 @@ over_at f c i d l = get_or-map-range_with_len f 0 c i i d l (omega arith)
 
 pub over_all : {A : Type 0} (f : ℕ → A) (xs : List A) (c : ℕ) (d : A) → length xs ≡ c → ((i : ℕ) → i < c → get_or xs i d ≡ f i) → xs ≡ over c f
 over_all f xs c d e h = fill_by_all f xs c d e h
+
+-- what a function makes of each
+pub over_map : {A B : Type 0} (h : A → B) (f : ℕ → A) (g : ℕ → B) (c : ℕ) (d : A) (e : B) → ((i : ℕ) → h (f i) ≡ g i) → map h (over c f) ≡ over c g
+over_map h f g c d e k =
+    over_all g (map h (over c f)) c e (length-map (over c f) h ∙ over_long f c) (λ i l. get_or-map h (over c f) i d e (let m = over_long f c in omega (arith, m, l)) ∙ ap h (over_at f c i d l) ∙ k i)

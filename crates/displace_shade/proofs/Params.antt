@@ -5,40 +5,56 @@ use Rattle.std.proofs.lemmas.Bool.{cond-true, cond-false}
 use Rattle.sl_ast.specs.declared.typed.Value.{Value}
 use Rattle.grid_code.specs.declared.slot.Slot.{Slot}
 use Rattle.grid_machine.specs.Run.{same_class}
-use Rattle.displace_shade.specs.Rows.{value_rows, values_of}
-use Rattle.displace_shade.specs.Given.{param_rows}
-
-params_from : (c : ℕ) (ps : List Slot) (vs : List Value) (k : ℕ) (p : Slot) (v : Value) → k < length ps → length vs ≡ length ps →
-    param_rows c (drop k ps) (drop k vs) ≡ cond (get_or ps k p).uniform (param_rows c (drop (k + 1) ps) (drop (k + 1) vs)) (value_rows c (get_or vs k v) ++ param_rows c (drop (k + 1) ps) (drop (k + 1) vs))
-params_from c ps vs k p v l e = ap (λ qs. param_rows c qs (drop k vs)) (drop_more ps k p l) ∙ ap (λ ws. param_rows c (get_or ps k p ∷ drop (k + 1) ps) ws) (drop_more vs k v (omega (arith, e, l)))
-
--- a varying one is pushed, a uniform one is passed over
-pub params_pushed : (c : ℕ) (ps : List Slot) (vs : List Value) (k : ℕ) (p : Slot) (v : Value) (all items new : List ℤ) → k < length ps → length vs ≡ length ps → (get_or ps k p).uniform ≡ false → new ≡ items ++ value_rows c (get_or vs k v) →
-    all ≡ items ++ param_rows c (drop k ps) (drop k vs) → all ≡ new ++ param_rows c (drop (k + 1) ps) (drop (k + 1) vs)
-params_pushed c ps vs k p v all items new l e u n h =
-    h ∙ ap (λ q. items ++ q) (params_from c ps vs k p v l e ∙ cond-false _ _ _ u) ∙ sym (append_assoc items (value_rows c (get_or vs k v)) _) ∙ ap (λ q. q ++ param_rows c (drop (k + 1) ps) (drop (k + 1) vs)) (sym n)
-
-pub params_passed : (c : ℕ) (ps : List Slot) (vs : List Value) (k : ℕ) (p : Slot) (v : Value) (all items new : List ℤ) → k < length ps → length vs ≡ length ps → (get_or ps k p).uniform ≡ true → new ≡ items →
-    all ≡ items ++ param_rows c (drop k ps) (drop k vs) → all ≡ new ++ param_rows c (drop (k + 1) ps) (drop (k + 1) vs)
-params_passed c ps vs k p v all items new l e u n h =
-    h ∙ ap (λ q. items ++ q) (params_from c ps vs k p v l e ∙ cond-true _ _ _ u) ∙ ap (λ q. q ++ param_rows c (drop (k + 1) ps) (drop (k + 1) vs)) (sym n)
+use Rattle.sl_ast.specs.declared.kinds.SlType.TheVariants.{Float}
+use Rattle.sl_ast.specs.Typed.{Local}
+use Rattle.displace_shade.specs.Points.{Leaf}
+use Rattle.displace_shade.specs.Variables.{bound_variable, value_or, values_at}
+use Rattle.displace_shade.specs.Rows.{values_of}
+use Rattle.displace_shade.specs.Given.{rows_or, param_rows}
 
 uniform_class : (u : Bool) → same_class u true ≡ u
 uniform_class true = refl
 uniform_class false = refl
 
-values_from : (ps : List Slot) (vs : List Value) (k : ℕ) (p : Slot) (v : Value) → k < length ps → length vs ≡ length ps →
-    values_of true (drop k ps) (drop k vs) ≡ cond (get_or ps k p).uniform (get_or vs k v ∷ values_of true (drop (k + 1) ps) (drop (k + 1) vs)) (values_of true (drop (k + 1) ps) (drop (k + 1) vs))
-values_from ps vs k p v l e =
-    ap (λ qs. values_of true qs (drop k vs)) (drop_more ps k p l) ∙ ap (λ ws. values_of true (get_or ps k p ∷ drop (k + 1) ps) ws) (drop_more vs k v (omega (arith, e, l)))
-    ∙ ap (λ b. cond b (get_or vs k v ∷ values_of true (drop (k + 1) ps) (drop (k + 1) vs)) (values_of true (drop (k + 1) ps) (drop (k + 1) vs))) (uniform_class (get_or ps k p).uniform)
+module _ (l : Leaf) (ps : List Local) (ss : List Slot) (vs : List Value) (named : length ps ≡ length ss) (alike : length vs ≡ length ss) (k : ℕ) (p : Local) (s : Slot) (v : Value) (there : k < length ss) where
+  abbrev rest : List ℤ
+  rest = param_rows l (drop (k + 1) ps) (drop (k + 1) ss) (drop (k + 1) vs)
 
-pub values_pushed : (ps : List Slot) (vs : List Value) (k : ℕ) (p : Slot) (v : Value) (all items new : List Value) → k < length ps → length vs ≡ length ps → (get_or ps k p).uniform ≡ true → new ≡ items ++ get_or vs k v ∷ [] →
-    all ≡ items ++ values_of true (drop k ps) (drop k vs) → all ≡ new ++ values_of true (drop (k + 1) ps) (drop (k + 1) vs)
-values_pushed ps vs k p v all items new l e u n h =
-    h ∙ ap (λ q. items ++ q) (values_from ps vs k p v l e ∙ cond-true _ _ _ u) ∙ sym (append_assoc items (get_or vs k v ∷ []) _) ∙ ap (λ q. q ++ values_of true (drop (k + 1) ps) (drop (k + 1) vs)) (sym n)
+  abbrev here : List ℤ
+  here = rows_or l (bound_variable (get_or ps k p).name l.prim.vars) (get_or vs k v)
 
-pub values_passed : (ps : List Slot) (vs : List Value) (k : ℕ) (p : Slot) (v : Value) (all items new : List Value) → k < length ps → length vs ≡ length ps → (get_or ps k p).uniform ≡ false → new ≡ items →
-    all ≡ items ++ values_of true (drop k ps) (drop k vs) → all ≡ new ++ values_of true (drop (k + 1) ps) (drop (k + 1) vs)
-values_passed ps vs k p v all items new l e u n h =
-    h ∙ ap (λ q. items ++ q) (values_from ps vs k p v l e ∙ cond-false _ _ _ u) ∙ ap (λ q. q ++ values_of true (drop (k + 1) ps) (drop (k + 1) vs)) (sym n)
+  params_from : param_rows l (drop k ps) (drop k ss) (drop k vs) ≡ cond (get_or ss k s).uniform rest (here ++ rest)
+  params_from =
+      ap (λ qs. param_rows l qs (drop k ss) (drop k vs)) (drop_more ps k p (omega (arith, named, there)))
+      ∙ ap (λ qs. param_rows l (get_or ps k p ∷ drop (k + 1) ps) qs (drop k vs)) (drop_more ss k s there)
+      ∙ ap (λ ws. param_rows l (get_or ps k p ∷ drop (k + 1) ps) (get_or ss k s ∷ drop (k + 1) ss) ws) (drop_more vs k v (omega (arith, alike, there)))
+
+  -- a varying one is pushed, a uniform one is passed over
+  pub params_pushed : (all items new : List ℤ) → (get_or ss k s).uniform ≡ false → new ≡ items ++ here → all ≡ items ++ param_rows l (drop k ps) (drop k ss) (drop k vs) → all ≡ new ++ rest
+  params_pushed all items new u n h = h ∙ ap (λ q. items ++ q) (params_from ∙ cond-false _ _ _ u) ∙ sym (append_assoc items here rest) ∙ ap (λ q. q ++ rest) (sym n)
+
+  pub params_passed : (all items new : List ℤ) → (get_or ss k s).uniform ≡ true → new ≡ items → all ≡ items ++ param_rows l (drop k ps) (drop k ss) (drop k vs) → all ≡ new ++ rest
+  params_passed all items new u n h = h ∙ ap (λ q. items ++ q) (params_from ∙ cond-true _ _ _ u) ∙ ap (λ q. q ++ rest) (sym n)
+
+  abbrev others : List Value
+  others = values_of true (drop (k + 1) ss) (values_at l (drop (k + 1) ps) (drop (k + 1) vs) 0)
+
+  abbrev value : Value
+  value = value_or l 0 (bound_variable (get_or ps k p).name l.prim.vars) (get_or vs k v)
+
+  values_from : values_of true (drop k ss) (values_at l (drop k ps) (drop k vs) 0) ≡ cond (get_or ss k s).uniform (value ∷ others) others
+  values_from =
+      ap (λ qs. values_of true (drop k ss) (values_at l qs (drop k vs) 0)) (drop_more ps k p (omega (arith, named, there)))
+      ∙ ap (λ ws. values_of true (drop k ss) (values_at l (get_or ps k p ∷ drop (k + 1) ps) ws 0)) (drop_more vs k v (omega (arith, alike, there)))
+      ∙ ap (λ qs. values_of true qs (value ∷ values_at l (drop (k + 1) ps) (drop (k + 1) vs) 0)) (drop_more ss k s there)
+      ∙ ap (λ b. cond b (value ∷ others) others) (uniform_class (get_or ss k s).uniform)
+
+  pub values_pushed : (all items new : List Value) → (get_or ss k s).uniform ≡ true → new ≡ items ++ value ∷ [] → all ≡ items ++ values_of true (drop k ss) (values_at l (drop k ps) (drop k vs) 0) → all ≡ new ++ others
+  values_pushed all items new u n h = h ∙ ap (λ q. items ++ q) (values_from ∙ cond-true _ _ _ u) ∙ sym (append_assoc items (value ∷ []) others) ∙ ap (λ q. q ++ others) (sym n)
+
+  pub values_passed : (all items new : List Value) → (get_or ss k s).uniform ≡ false → new ≡ items → all ≡ items ++ values_of true (drop k ss) (values_at l (drop k ps) (drop k vs) 0) → all ≡ new ++ others
+  values_passed all items new u n h = h ∙ ap (λ q. items ++ q) (values_from ∙ cond-false _ _ _ u) ∙ ap (λ q. q ++ others) (sym n)
+
+-- any parameter, where none is asked for
+pub no_name : Local
+no_name = record { name = []; kind = Float; uniform = true }

@@ -1,52 +1,66 @@
 -- The rows that the code of a tree leaves are what a run of the tree means.
-use Rattle.std.proofs.Common.{◌≡◌, ℕ, ◌+◌, ◌*◌, ◌<◌, ◌≤◌, true, cond, ℤ, List, [], ◌∷◌, map, refl, sym, ap, ◌∙◌, subst, arith}
+use Rattle.std.proofs.Common.{◌≡◌, ℕ, ◌+◌, ◌*◌, ◌<◌, ◌≤◌, true, cond, ℤ, List, [], ◌∷◌, ◌++◌, map, refl, sym, ap, ◌∙◌, subst, arith}
 use Rattle.std.proofs.Math.Nat.{mul-pos}
 use Rattle.std.proofs.lemmas.Bool.{cond-true}
 use Rattle.sl_ast.specs.declared.kinds.Predefined.{Predefined}
+use Rattle.sl_ast.specs.declared.kinds.Predefined.TheVariants as names
 use Rattle.sl_ast.specs.declared.kinds.SlKind.{SlKind}
 use Rattle.sl_ast.specs.declared.kinds.SlKind.TheVariants.{Surface, Displacement, Light, Volume}
 use Rattle.sl_ast.specs.declared.typed.Value.{Value}
-use Rattle.sl_ast.specs.Typed.{Tree}
-use Rattle.sl_ast.specs.Names.{name_type, writes}
+use Rattle.sl_ast.specs.Typed.{Local, Tree}
+use Rattle.sl_ast.specs.Names.{name_type, writes, has_surface}
 use Rattle.sl_ast.specs.Classes.{is_uniform_name}
 use Rattle.builtins.specs.Names.{place_of}
 use Rattle.builtins.specs.Values.{shape_of}
 use Rattle.grid_code.specs.Code.{Block}
-use Rattle.grid_code.specs.Names.{name_at}
+use Rattle.grid_code.specs.Names.{name_at, first_free}
 use Rattle.grid_code.specs.Masked.{State, Ground, read, masked}
 use Rattle.grid_code.specs.Shapes.{register_shape}
 use Rattle.grid_code.specs.declared.slot.Slot.{Slot}
 use Rattle.sl_meaning.specs.Environment.{Around}
 use Rattle.sl_meaning.specs.Lowered.{body_of, slots}
 use Rattle.sl_meaning.specs.Runs.{Names, most_turns, beginning, ran}
-use Rattle.mask_codegen.specs.Correct.{IsGround, Begins, Means}
+use Rattle.mask_codegen.specs.Correct.{IsGround, Holds, Begins, Means}
 use Rattle.grid_machine.specs.Run.{row_length, height, written_names, HoldRows, begun, Leaves}
 use Rattle.grid_machine.specs.Run as run
-use Rattle.displace_shade.specs.Rows.{HoldNames, AreRows, written_order, uniform_values, varying_values}
+use Rattle.displace_shade.specs.Rows.{HoldNames, AreRows, written_order, values_of, uniform_values, varying_values}
 use Rattle.displace_shade.proofs.Begun.{AreNames, values_counted}
 use Rattle.displace_shade.proofs.Looks.{Every, shape_of_reg, same_value}
 use Rattle.displace_shade.proofs.Starts.{AreParams, state_keeps, state_name, state_lit, state_param}
 
-pub begins : (t : Tree) (a : Around) (vs : List Value) (f : ℕ → Names) (ps : List Slot) (varyings : List ℤ) → 2 ≤ a.lines.columns → 2 ≤ a.lines.rows → AreParams ps t.params vs → AreNames (a.lines.columns * a.lines.rows) f →
-    AreRows (a.lines.columns * a.lines.rows) (λ i. varying_values t.kind ps vs (f i)) varyings →
-    Begins (slots t.params) a (λ i. beginning t.kind (f i) vs) (begun t.kind ps (a.lines.columns * a.lines.rows) (uniform_values t.kind ps vs (f 0)) varyings)
-begins t a vs f ps varyings wide tall params h rows =
+-- the values of parameters by places: those of each place, and the uniform ones the same at all
+pub record AreValues (ps : List Slot) (ls : List Local) (vs : ℕ → List Value) : Type 0 where
+  pub params : (i : ℕ) → AreParams ps ls (vs i)
+  pub steady : (i : ℕ) → values_of true ps (vs i) ≡ values_of true ps (vs 0)
+
+pub begins : (t : Tree) (a : Around) (vs : ℕ → List Value) (f : ℕ → Names) (ps : List Slot) (varyings : List ℤ) → 2 ≤ a.lines.columns → 2 ≤ a.lines.rows → AreValues ps t.params vs → AreNames (a.lines.columns * a.lines.rows) f →
+    AreRows (a.lines.columns * a.lines.rows) (λ i. varying_values t.kind ps (vs i) (f i)) varyings →
+    Begins (slots t.params) a (λ i. beginning t.kind (f i) (vs i)) (begun t.kind ps (a.lines.columns * a.lines.rows) (uniform_values t.kind ps (vs 0) (f 0)) varyings)
+begins t a vs f ps varyings wide tall values h rows =
     let c = a.lines.columns * a.lines.rows in
     let few : 0 < a.lines.columns * a.lines.rows = mul-pos (omega arith) (omega arith) in
-    let keeps = state_keeps c few t.kind ps t.params vs f varyings params h rows in
+    let keeps = state_keeps c few t.kind ps t.params (vs 0) f varyings (values.params 0) h in
     record {
       wide = wide;
       tall = tall;
       live = λ i l. ap (λ p. p i) keeps.live;
-      holds = λ i l. record {
-        named = λ p. state_name c few t.kind ps t.params vs f varyings params h rows p i l;
-        lit = state_lit c few t.kind ps t.params vs f varyings params h rows i l;
-        values = λ k m. state_param c few t.kind ps t.params vs f varyings params h rows k i l m;
-        turns = keeps.turns;
-        own = ap (λ p. p i) keeps.own;
-      };
-      exact = λ i l. values_counted t.params vs params.values;
+      holds = λ i l. at few i l;
+      exact = λ i l. values_counted t.params (vs i) (values.params i).values;
     }
+  where
+    at : 0 < a.lines.columns * a.lines.rows → (i : ℕ) → i < a.lines.columns * a.lines.rows → Holds i (slots t.params) first_free (beginning t.kind (f i) (vs i)) (begun t.kind ps (a.lines.columns * a.lines.rows) (uniform_values t.kind ps (vs 0) (f 0)) varyings)
+    at few i l =
+        let c = a.lines.columns * a.lines.rows in
+        let params = values.params i in
+        let r = rows.hold i l in
+        let keeps = state_keeps c few t.kind ps t.params (vs i) f varyings params h in
+        subst (λ us. Holds i (slots t.params) first_free (beginning t.kind (f i) (vs i)) (begun t.kind ps c (us ++ cond (has_surface t.kind) (f 0 names.Du ∷ f 0 names.Dv ∷ []) []) varyings)) (values.steady i) record {
+          named = λ p. state_name c few t.kind ps t.params (vs i) f varyings params h p i l r;
+          lit = state_lit c few t.kind ps t.params (vs i) f varyings params h i l r;
+          values = λ k m. state_param c few t.kind ps t.params (vs i) f varyings params h k i l r m;
+          turns = keeps.turns;
+          own = ap (λ p. p i) keeps.own;
+        }
 
 -- what a kind writes is written
 written_all : (kind : SlKind) → Every (λ p. writes kind p ≡ true) (written_order kind)
@@ -73,13 +87,13 @@ left_rows s after around rows w i kind h (p ∷ ps) e k at m r =
     )
 
 -- a run of the code on what it is given
-pub run_leaves : (t : Tree) (code : Block) (a : Around) (g : Ground) (vs : List Value) (f : ℕ → Names) (ps : List Slot) (varyings out : List ℤ) → Means (body_of t) (slots t.params) code → 2 ≤ a.lines.columns → 2 ≤ a.lines.rows → AreParams ps t.params vs →
-    AreNames (a.lines.columns * a.lines.rows) f → IsGround (a.lines.columns * a.lines.rows) g a → AreRows (a.lines.columns * a.lines.rows) (λ i. varying_values t.kind ps vs (f i)) varyings →
-    Leaves t.kind (a.lines.columns * a.lines.rows) out (masked code g (a.lines.columns * a.lines.rows) 65536 (begun t.kind ps (a.lines.columns * a.lines.rows) (uniform_values t.kind ps vs (f 0)) varyings)) →
-    (i : ℕ) → i < a.lines.columns * a.lines.rows → HoldNames (ran t a (λ j. vs) f i) (written_order t.kind) out (row_length (a.lines.columns * a.lines.rows)) 0 i
+pub run_leaves : (t : Tree) (code : Block) (a : Around) (g : Ground) (vs : ℕ → List Value) (f : ℕ → Names) (ps : List Slot) (varyings out : List ℤ) → Means (body_of t) (slots t.params) code → 2 ≤ a.lines.columns → 2 ≤ a.lines.rows → AreValues ps t.params vs →
+    AreNames (a.lines.columns * a.lines.rows) f → IsGround (a.lines.columns * a.lines.rows) g a → AreRows (a.lines.columns * a.lines.rows) (λ i. varying_values t.kind ps (vs i) (f i)) varyings →
+    Leaves t.kind (a.lines.columns * a.lines.rows) out (masked code g (a.lines.columns * a.lines.rows) 65536 (begun t.kind ps (a.lines.columns * a.lines.rows) (uniform_values t.kind ps (vs 0) (f 0)) varyings)) →
+    (i : ℕ) → i < a.lines.columns * a.lines.rows → HoldNames (ran t a vs f i) (written_order t.kind) out (row_length (a.lines.columns * a.lines.rows)) 0 i
 run_leaves t code a g vs f ps varyings out m wide tall params h ground given leaves i l =
     let c = a.lines.columns * a.lines.rows in
-    let s = begun t.kind ps c (uniform_values t.kind ps vs (f 0)) varyings in
-    let held = m.gives a g most_turns (λ j. beginning t.kind (f j) vs) s (begins t a vs f ps varyings wide tall params h given) ground i l in
+    let s = begun t.kind ps c (uniform_values t.kind ps (vs 0) (f 0)) varyings in
+    let held = m.gives a g most_turns (λ j. beginning t.kind (f j) (vs j)) s (begins t a vs f ps varyings wide tall params h given) ground i l in
     left_rows (masked code g c 65536 s) _ (f i) out (row_length c) i t.kind held.named (written_order t.kind) (written_all t.kind) 0 0 (omega arith)
     (subst (λ rs. HoldRows (row_length c) out i rs 0 (masked code g c 65536 s)) (written_is t.kind) (leaves i l))

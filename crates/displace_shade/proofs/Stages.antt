@@ -56,24 +56,24 @@ hold_steps l d f h some = (h.at 0 names.Du some, h.at 0 names.Dv some)
 
 -- ---- behind a run
 -- what isn't written is as it was
-kept : (t : Tree) (a : Around) (vs : List Value) (f : ℕ → Names) (i : ℕ) (p : Predefined) → writes t.kind p ≡ false → ran t a (λ j. vs) f i p ≡ f i p
+kept : (t : Tree) (a : Around) (vs : ℕ → List Value) (f : ℕ → Names) (i : ℕ) (p : Predefined) → writes t.kind p ≡ false → ran t a vs f i p ≡ f i p
 kept t a vs f i p e = cond-false (writes t.kind p) _ (f i p) e
 
-module _ (l : Leaf) (t : Tree) (a : Around) (vs : List Value) (f : ℕ → Names) (d e : Variables) (h : Hold l d f) (out : List ℤ) (left : (i : ℕ) → i < point_count l → HoldNames (ran t a (λ j. vs) f i) (written_order t.kind) out (row_length (point_count l)) 0 i) where
+module _ (l : Leaf) (t : Tree) (a : Around) (vs : ℕ → List Value) (f : ℕ → Names) (d e : Variables) (h : Hold l d f) (out : List ℤ) (left : (i : ℕ) → i < point_count l → HoldNames (ran t a vs f i) (written_order t.kind) out (row_length (point_count l)) 0 i) where
   abbrev triples : ℕ → ℕ → Vec3
   triples k = triple_in out (row_length (point_count l)) k
 
-  passed : (kind : SlKind) → t.kind ≡ kind → (i : ℕ) (p : Predefined) → i < point_count l → writes kind p ≡ false → ran t a (λ j. vs) f i p ≡ names_of l d i p
+  passed : (kind : SlKind) → t.kind ≡ kind → (i : ℕ) (p : Predefined) → i < point_count l → writes kind p ≡ false → ran t a vs f i p ≡ names_of l d i p
   passed kind k i p m w = kept t a vs f i p (ap (λ q. writes q p) k ∙ w) ∙ h.at i p m
 
   pub displaced_hold : t.kind ≡ Displacement → e.points.now ≡ over (point_count l) (triple_in out (row_length (point_count l)) 0) → e.normals.now ≡ over (point_count l) (triple_in out (row_length (point_count l)) 3) →
-      e.sights.now ≡ d.sights.now → e.colours.now ≡ d.colours.now → e.opacities.now ≡ d.opacities.now → Hold l e (ran t a (λ j. vs) f)
+      e.sights.now ≡ d.sights.now → e.colours.now ≡ d.colours.now → e.opacities.now ≡ d.opacities.now → Hold l e (ran t a vs f)
   displaced_hold k ep en es ec eo = record { at = λ i p m. at i p m }
     where
-      written : (i : ℕ) → i < point_count l → HoldNames (ran t a (λ j. vs) f i) (written_order Displacement) out (row_length (point_count l)) 0 i
-      written i m = subst (λ q. HoldNames (ran t a (λ j. vs) f i) (written_order q) out (row_length (point_count l)) 0 i) k (left i m)
+      written : (i : ℕ) → i < point_count l → HoldNames (ran t a vs f i) (written_order Displacement) out (row_length (point_count l)) 0 i
+      written i m = subst (λ q. HoldNames (ran t a vs f i) (written_order q) out (row_length (point_count l)) 0 i) k (left i m)
 
-      at : (i : ℕ) (p : Predefined) → i < point_count l → ran t a (λ j. vs) f i p ≡ names_of l e i p
+      at : (i : ℕ) (p : Predefined) → i < point_count l → ran t a vs f i p ≡ names_of l e i p
       at i names.P m = (written i m).0 ∙ ap (λ q. Triple q) (sym (ap (λ xs. get_or xs i origin) ep ∙ over_at (triples 0) (point_count l) i origin m))
       at i names.N m = (written i m).1.0 ∙ ap (λ q. Triple q) (sym (ap (λ xs. get_or xs i origin) en ∙ over_at (triples 3) (point_count l) i origin m))
       at i names.I m = passed Displacement k i names.I m refl ∙ ap (λ xs. Triple (get_or xs i origin)) (sym es)
@@ -81,12 +81,12 @@ module _ (l : Leaf) (t : Tree) (a : Around) (vs : List Value) (f : ℕ → Names
       at i names.Oi m = passed Displacement k i names.Oi m refl ∙ ap (λ xs. Triple (get_or xs i origin)) (sym eo)
       at i p m = passed Displacement k i p m refl
 
-  coloured : (kind : SlKind) → t.kind ≡ kind → ((i : ℕ) → i < point_count l → (ran t a (λ j. vs) f i names.Ci ≡ Triple (triples 0 i)) × (ran t a (λ j. vs) f i names.Oi ≡ Triple (triples 3 i))) → ((p : Predefined) → writes kind p ≡ writes Surface p) →
+  coloured : (kind : SlKind) → t.kind ≡ kind → ((i : ℕ) → i < point_count l → (ran t a vs f i names.Ci ≡ Triple (triples 0 i)) × (ran t a vs f i names.Oi ≡ Triple (triples 3 i))) → ((p : Predefined) → writes kind p ≡ writes Surface p) →
       e.colours.now ≡ over (point_count l) (triple_in out (row_length (point_count l)) 0) → e.opacities.now ≡ over (point_count l) (triple_in out (row_length (point_count l)) 3) →
-      e.points.now ≡ d.points.now → e.normals.now ≡ d.normals.now → e.sights.now ≡ d.sights.now → Hold l e (ran t a (λ j. vs) f)
+      e.points.now ≡ d.points.now → e.normals.now ≡ d.normals.now → e.sights.now ≡ d.sights.now → Hold l e (ran t a vs f)
   coloured kind k written same ec eo ep en es = record { at = λ i p m. at i p m }
     where
-      at : (i : ℕ) (p : Predefined) → i < point_count l → ran t a (λ j. vs) f i p ≡ names_of l e i p
+      at : (i : ℕ) (p : Predefined) → i < point_count l → ran t a vs f i p ≡ names_of l e i p
       at i names.Ci m = (written i m).0 ∙ ap (λ q. Triple q) (sym (ap (λ xs. get_or xs i origin) ec ∙ over_at (triples 0) (point_count l) i origin m))
       at i names.Oi m = (written i m).1 ∙ ap (λ q. Triple q) (sym (ap (λ xs. get_or xs i origin) eo ∙ over_at (triples 3) (point_count l) i origin m))
       at i names.P m = passed kind k i names.P m (same names.P) ∙ ap (λ xs. Triple (get_or xs i origin)) (sym ep)
@@ -95,12 +95,12 @@ module _ (l : Leaf) (t : Tree) (a : Around) (vs : List Value) (f : ℕ → Names
       at i p m = passed kind k i p m (same p)
 
   pub surface_hold : t.kind ≡ Surface → e.colours.now ≡ over (point_count l) (triple_in out (row_length (point_count l)) 0) → e.opacities.now ≡ over (point_count l) (triple_in out (row_length (point_count l)) 3) →
-      e.points.now ≡ d.points.now → e.normals.now ≡ d.normals.now → e.sights.now ≡ d.sights.now → Hold l e (ran t a (λ j. vs) f)
-  surface_hold k = coloured Surface k (λ i m. let w = subst (λ q. HoldNames (ran t a (λ j. vs) f i) (written_order q) out (row_length (point_count l)) 0 i) k (left i m) in (w.0, w.1.0)) (λ p. refl)
+      e.points.now ≡ d.points.now → e.normals.now ≡ d.normals.now → e.sights.now ≡ d.sights.now → Hold l e (ran t a vs f)
+  surface_hold k = coloured Surface k (λ i m. let w = subst (λ q. HoldNames (ran t a vs f i) (written_order q) out (row_length (point_count l)) 0 i) k (left i m) in (w.0, w.1.0)) (λ p. refl)
 
   pub volume_hold : t.kind ≡ Volume → e.colours.now ≡ over (point_count l) (triple_in out (row_length (point_count l)) 0) → e.opacities.now ≡ over (point_count l) (triple_in out (row_length (point_count l)) 3) →
-      e.points.now ≡ d.points.now → e.normals.now ≡ d.normals.now → e.sights.now ≡ d.sights.now → Hold l e (ran t a (λ j. vs) f)
-  volume_hold k = coloured Volume k (λ i m. let w = subst (λ q. HoldNames (ran t a (λ j. vs) f i) (written_order q) out (row_length (point_count l)) 0 i) k (left i m) in (w.0, w.1.0)) (λ p. refl)
+      e.points.now ≡ d.points.now → e.normals.now ≡ d.normals.now → e.sights.now ≡ d.sights.now → Hold l e (ran t a vs f)
+  volume_hold k = coloured Volume k (λ i m. let w = subst (λ q. HoldNames (ran t a vs f i) (written_order q) out (row_length (point_count l)) 0 i) k (left i m) in (w.0, w.1.0)) (λ p. refl)
 
 -- ---- behind the displacement: points kept near their old places, and seen from there
 pub placed_hold : (l : Leaf) (old d e : Variables) (f g : ℕ → Names) → Hold l old f → Hold l d g → length old.points.now ≡ point_count l →

@@ -31,7 +31,7 @@ use Rattle.mask_codegen.proofs.Relation.{place_small}
 use Rattle.displace_shade.specs.Sets.{AreValuesOf}
 use Rattle.grid_machine.specs.Run.{row_length, same_class, params_of, given_names, step_names, uniform_inputs, varying_inputs, assigned, loaded, started, fresh, begun}
 use Rattle.grid_machine.specs.Run as run
-use Rattle.displace_shade.specs.Rows.{AreRows, values_of, given_order, uniform_values, varying_values, slot_of}
+use Rattle.displace_shade.specs.Rows.{HoldList, values_of, given_order, uniform_values, varying_values, slot_of}
 use Rattle.displace_shade.proofs.Begun.{AreNames, values_counted, values_shaped}
 use Rattle.displace_shade.proofs.Looks.{Every, every_map, register_number, same_register, look, read_write, Keeps, write_keeps, keeps_on, live_on, assigned_keeps, loaded_keeps, assigned_look, Fit, loaded_look, Paired, look_on, look_apart, number_apart, class_apart, register_self, shape_of_reg, class_of_reg, number_of_reg}
 
@@ -237,7 +237,7 @@ names_apart q (p ∷ ps) m =
     let b = number_of_reg (is_uniform_name p) (shape_of (name_type p)) (place_of p) in
     (number_apart q (name_at p) (λ (e : register_number q ≡ register_number (name_at p)). omega (arith, a, b, e, m)), names_apart q ps m)
 
-module _ (c : ℕ) (few : 0 < c) (kind : SlKind) (ps : List Slot) (ls : List Local) (vs : List Value) (f : ℕ → Names) (varyings : List ℤ) (params : AreParams ps ls vs) (h : AreNames c f) (rows : AreRows c (λ i. varying_values kind ps vs (f i)) varyings) where
+module _ (c : ℕ) (few : 0 < c) (kind : SlKind) (ps : List Slot) (ls : List Local) (vs : List Value) (f : ℕ → Names) (varyings : List ℤ) (params : AreParams ps ls vs) (h : AreNames c f) where
   counted : length (map slot_of ps) ≡ length ps
   counted = length-map ps slot_of
 
@@ -270,37 +270,37 @@ module _ (c : ℕ) (few : 0 < c) (kind : SlKind) (ps : List Slot) (ls : List Loc
       (subst (λ q. Fit q (map (f i) (given_order kind))) (sym (names_is kind)) (names_fit (given_order kind) (f i) (λ p. h.shaped i p l) (names_varying kind)))
 
   -- what a register holds: of the variables, the parameters that vary, the steps and the uniform parameters, the first that is it
-  all_read : (q : Register) (i : ℕ) → i < c →
+  all_read : (q : Register) (i : ℕ) → i < c → HoldList (varying_values kind ps vs (f i)) varyings (row_length c) 0 i →
       read given_all q i ≡ look q (map name_at (given_order kind)) (map (f i) (given_order kind)) (look q (params_of false first_free ps) (values_of false ps vs) (look q (step_names kind) (step_values kind (f 0)) (look q (params_of true first_free ps) (values_of true ps vs) (read fresh q i))))
-  all_read q i l =
-      loaded_look c i (row_length c) varyings q (varying_inputs kind ps) (varying_values kind ps vs (f i)) 0 0 given_first l (first_live i) (inputs_fit i l) (rows.hold i l) (omega arith)
+  all_read q i l r =
+      loaded_look c i (row_length c) varyings q (varying_inputs kind ps) (varying_values kind ps vs (f i)) 0 0 given_first l (first_live i) (inputs_fit i l) r (omega arith)
       ∙ ap (look q (varying_inputs kind ps) (varying_values kind ps vs (f i))) (assigned_look c i q (uniform_inputs kind ps) (uniform_values kind ps vs (f 0)) fresh l refl
       ∙ look_on q (params_of true first_free ps) (step_names kind) (values_of true ps vs) (step_values kind (f 0)) (read fresh q i) (params_paired true first_free ps vs long))
       ∙ look_on q (params_of false first_free ps) (given_names kind) (values_of false ps vs) (map (f i) (given_order kind)) _ (params_paired false first_free ps vs long)
       ∙ ap (λ rs. look q rs (map (f i) (given_order kind)) (look q (params_of false first_free ps) (values_of false ps vs) (look q (step_names kind) (step_values kind (f 0)) (look q (params_of true first_free ps) (values_of true ps vs) (read fresh q i))))) (names_is kind)
 
-  name_read : (p : Predefined) (i : ℕ) → i < c → read given_all (name_at p) i ≡ before kind (f 0) (f i) p
-  name_read p i l =
+  name_read : (p : Predefined) (i : ℕ) → i < c → HoldList (varying_values kind ps vs (f i)) varyings (row_length c) 0 i → read given_all (name_at p) i ≡ before kind (f 0) (f i) p
+  name_read p i l r =
       let q = name_at p in
-      all_read q i l
+      all_read q i l r
       ∙ ap (look q (map name_at (given_order kind)) (map (f i) (given_order kind))) (look_apart q (params_of false first_free ps) (values_of false ps vs) _ (below_params q false first_free ps (name_number p)))
       ∙ ap (λ d. look q (map name_at (given_order kind)) (map (f i) (given_order kind)) (look q (step_names kind) (step_values kind (f 0)) d))
       (look_apart q (params_of true first_free ps) (values_of true ps vs) (read fresh q i) (below_params q true first_free ps (name_number p)) ∙ fresh_read (is_uniform_name p) (shape_of (name_type p)) (place_of p) i ∙ zero_is (shape_of (name_type p)))
 
   -- a register behind those of the variables holds what the parameters' have
-  high_read : (q : Register) (i : ℕ) → i < c → 21 ≤ register_number q → read given_all q i ≡ look q (params_of false first_free ps) (values_of false ps vs) (look q (params_of true first_free ps) (values_of true ps vs) (read fresh q i))
-  high_read q i l m =
-      all_read q i l ∙ look_apart q (map name_at (given_order kind)) (map (f i) (given_order kind)) _ (names_apart q (given_order kind) m)
+  high_read : (q : Register) (i : ℕ) → i < c → HoldList (varying_values kind ps vs (f i)) varyings (row_length c) 0 i → 21 ≤ register_number q → read given_all q i ≡ look q (params_of false first_free ps) (values_of false ps vs) (look q (params_of true first_free ps) (values_of true ps vs) (read fresh q i))
+  high_read q i l r m =
+      all_read q i l r ∙ look_apart q (map name_at (given_order kind)) (map (f i) (given_order kind)) _ (names_apart q (given_order kind) m)
       ∙ ap (look q (params_of false first_free ps) (values_of false ps vs)) (look_apart q (step_names kind) (step_values kind (f 0)) _ (steps_apart kind q m))
 
-  class_read : (u : Bool) (i k : ℕ) → i < c → k < length ps → (get_or (map slot_of ps) k core.no_slot).uniform ≡ u → read given_all (reg u (shape_of (get_or (map slot_of ps) k core.no_slot).kind) (first_free + k)) i ≡ get_or vs k zero_value
-  class_read true i k l m e =
+  class_read : (u : Bool) (i k : ℕ) → i < c → HoldList (varying_values kind ps vs (f i)) varyings (row_length c) 0 i → k < length ps → (get_or (map slot_of ps) k core.no_slot).uniform ≡ u → read given_all (reg u (shape_of (get_or (map slot_of ps) k core.no_slot).kind) (first_free + k)) i ≡ get_or vs k zero_value
+  class_read true i k l r m e =
       let q = reg true (shape_of (get_or (map slot_of ps) k core.no_slot).kind) (first_free + k) in
-      high_read q i l (omega arith) ∙ look_apart q (params_of false first_free ps) (values_of false ps vs) _ (other_params q false first_free ps (λ z. true≢false z))
+      high_read q i l r (omega arith) ∙ look_apart q (params_of false first_free ps) (values_of false ps vs) _ (other_params q false first_free ps (λ z. true≢false z))
       ∙ param_look true first_free ps vs (read fresh q i) k long m e
-  class_read false i k l m e =
+  class_read false i k l r m e =
       let q = reg false (shape_of (get_or (map slot_of ps) k core.no_slot).kind) (first_free + k) in
-      high_read q i l (omega arith) ∙ param_look false first_free ps vs (look q (params_of true first_free ps) (values_of true ps vs) (read fresh q i)) k long m e
+      high_read q i l r (omega arith) ∙ param_look false first_free ps vs (look q (params_of true first_free ps) (values_of true ps vs) (read fresh q i)) k long m e
 
   abbrev state : State
   state = begun kind ps c (uniform_values kind ps vs (f 0)) varyings
@@ -308,21 +308,21 @@ module _ (c : ℕ) (few : 0 < c) (kind : SlKind) (ps : List Slot) (ls : List Loc
   pub state_keeps : Keeps fresh state
   state_keeps = keeps_on fresh given_all state all_keeps (started_keeps kind c given_all)
 
-  pub state_name : (p : Predefined) (i : ℕ) → i < c → read state (name_at p) i ≡ runs.begun kind (f i) p
-  state_name p i l =
-      started_name kind c i given_all (before kind (f 0) (f i)) l (all_live i) (λ q. name_read q i l) p
+  pub state_name : (p : Predefined) (i : ℕ) → i < c → HoldList (varying_values kind ps vs (f i)) varyings (row_length c) 0 i → read state (name_at p) i ≡ runs.begun kind (f i) p
+  state_name p i l r =
+      started_name kind c i given_all (before kind (f 0) (f i)) l (all_live i) (λ q. name_read q i l r) p
       ∙ behind_is kind (f 0) (f i) p record { eye = h.eye i l; towards = h.towards i l; colour = h.colour i l } (h.steady i names.Du l refl) (h.steady i names.Dv l refl)
 
-  pub state_lit : (i : ℕ) → i < c → read state lit_at i ≡ truth false
-  state_lit i l =
-      started_other kind c i given_all lit_at l (all_live i) (omega arith) ∙ high_read lit_at i l (omega arith)
+  pub state_lit : (i : ℕ) → i < c → HoldList (varying_values kind ps vs (f i)) varyings (row_length c) 0 i → read state lit_at i ≡ truth false
+  state_lit i l r =
+      started_other kind c i given_all lit_at l (all_live i) (omega arith) ∙ high_read lit_at i l r (omega arith)
       ∙ look_apart lit_at (params_of false first_free ps) (values_of false ps vs) _ (below_params lit_at false first_free ps (omega arith))
       ∙ look_apart lit_at (params_of true first_free ps) (values_of true ps vs) _ (below_params lit_at true first_free ps (omega arith))
 
-  pub state_param : (k i : ℕ) → i < c → k < length (slots ls) → read state (slot_at (get_or (slots ls) k core.no_slot) (first_free + k)) i ≡ get_or vs k zero_value
-  state_param k i l m =
+  pub state_param : (k i : ℕ) → i < c → HoldList (varying_values kind ps vs (f i)) varyings (row_length c) 0 i → k < length (slots ls) → read state (slot_at (get_or (slots ls) k core.no_slot) (first_free + k)) i ≡ get_or vs k zero_value
+  state_param k i l r m =
       let there : k < length ps = subst (λ n. k < n) (ap (λ xs. length xs) (sym params.slots) ∙ counted) m in
       subst (λ ss. read state (slot_at (get_or ss k core.no_slot) (first_free + k)) i ≡ get_or vs k zero_value) params.slots
       (let s = get_or (map slot_of ps) k core.no_slot in
       let b = number_of_reg s.uniform (shape_of s.kind) (first_free + k) in
-      started_other kind c i given_all (slot_at s (first_free + k)) l (all_live i) (omega (arith, b)) ∙ class_read s.uniform i k l there refl)
+      started_other kind c i given_all (slot_at s (first_free + k)) l (all_live i) (omega (arith, b)) ∙ class_read s.uniform i k l r there refl)

@@ -18,6 +18,7 @@ use Rattle.builtins.specs.Values.{triple_of}
 use Rattle.scene_state.specs.declared.uses.ShaderUse.{ShaderUse}
 use Rattle.displace_shade.specs.Sets.{SetValue}
 use Rattle.displace_shade.specs.Points.{Leaf}
+use Rattle.displace_shade.specs.Variables.{cs_at, os_at}
 use Rattle.displace_shade.specs.Shaded.{Bound, bound_at, opacity, shaded_names}
 
 -- the node of that number, on the first line
@@ -40,10 +41,10 @@ constant_tree = record {
   place = at 0;
 }
 
--- each point of a leaf, displaced or not, has the primitive's opacity times its colour, and its opacity put into 0 to 1
+-- each point of a leaf, displaced or not, has the opacity times the colour that its primitive gives there, and that opacity put into 0 to 1
 pub record IsFlat (l : Leaf) (s : SetValue) (uses : List ShaderUse) : Type 0 where
-  pub colour : (i : ℕ) → triple_of (shaded_names l s uses i names.Ci) ≡ each_two mul l.prim.os l.prim.cs
-  pub opacity : (i : ℕ) → opacity (triple_of (shaded_names l s uses i names.Oi)) ≡ opacity l.prim.os
+  pub colour : (i : ℕ) → triple_of (shaded_names l s uses i names.Ci) ≡ each_two mul (os_at l i) (cs_at l i)
+  pub opacity : (i : ℕ) → opacity (triple_of (shaded_names l s uses i names.Oi)) ≡ opacity (os_at l i)
 
 abbrev pub ConstantLaw : Type 0
 ConstantLaw = (l : Leaf) (s : SetValue) (uses : List ShaderUse) (b : Bound) → bound_at s uses l.prim.surface ≡ Some b → b.tree ≡ constant_tree → l.prim.atmosphere ≡ None → IsFlat l s uses

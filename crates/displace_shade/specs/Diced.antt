@@ -6,7 +6,8 @@ use Rattle.fixed_math.specs.declared.vec3.Vec3.{Vec3}
 use Rattle.sl_ast.specs.declared.kinds.Predefined.TheVariants as names
 use Rattle.sl_ast.specs.declared.typed.Value.TheVariants.{Triple}
 use Rattle.sl_meaning.specs.Runs.{Names}
-use Rattle.displace_shade.specs.Points.{Leaf, columns, rows, u_at, v_at, dpdu, dpdv, diced_names, normal_of}
+use Rattle.displace_shade.specs.Points.{Leaf, columns, rows, u_at, v_at, dpdu, dpdv, normal_of}
+use Rattle.displace_shade.specs.Variables.{s_at, t_at, cs_at, os_at, diced_names}
 use Rattle.displace_shade.specs.declared.leaf.Along.{Along}
 use Rattle.displace_shade.specs.declared.leaf.Along.TheVariants.{U, V}
 use Rattle.displace_shade.specs.Shaded.{GridValue}
@@ -62,6 +63,10 @@ pub record ArePlaces (l : Leaf) (f : Places) : Type 0 where
   pub normals : f.normals.now ≡ over (point_count l) (normal_of l)
   pub u : f.u.now ≡ over (point_count l) (u_at l)
   pub v : f.v.now ≡ over (point_count l) (v_at l)
+  pub s : f.s.now ≡ over (point_count l) (s_at l)
+  pub t : f.t.now ≡ over (point_count l) (t_at l)
+  pub cs : f.cs.now ≡ over (point_count l) (cs_at l)
+  pub os : f.os.now ≡ over (point_count l) (os_at l)
   pub dpdu : f.dpdu.now ≡ over (point_count l) (dpdu l)
   pub dpdv : f.dpdv.now ≡ over (point_count l) (dpdv l)
 

@@ -9,11 +9,8 @@ use Rattle.dice.specs.Grids.{line_count, line_at}
 use Rattle.dice.specs.Normals.{normal}
 use Rattle.dice.specs.Placed.{parameter_of, step_of, derivative_of}
 use Rattle.scene_state.specs.Scene.{PrimValue}
-use Rattle.sl_ast.specs.declared.kinds.Predefined.TheVariants as names
-use Rattle.sl_ast.specs.declared.typed.Value.TheVariants.{Number, Triple}
 use Rattle.builtins.specs.Triples.{negated}
 use Rattle.builtins.specs.Differences.{Lines}
-use Rattle.sl_meaning.specs.Runs.{Names, nothing}
 
 -- a part of a primitive of a frame, in 2 ^ p + 1 columns and 2 ^ q + 1 rows
 pub record Leaf : Type 0 where
@@ -91,24 +88,6 @@ dpdu l i = derivative_of (patch_columns l.prim) (patch_du l.prim.patch (own_u l 
 
 abbrev pub dpdv : Leaf → ℕ → Vec3
 dpdv l i = derivative_of (patch_rows l.prim) (patch_dv l.prim.patch (own_u l i) (own_v l i))
-
--- the variables at place i
-abbrev pub diced_names : Leaf → ℕ → Names
-diced_names l i names.P = Triple (point_at l i)
-diced_names l i names.N = Triple (normal_of l i)
-diced_names l i names.Ng = Triple (normal_of l i)
-diced_names l i names.I = Triple (sight l.camera (point_at l i))
-diced_names l i names.U = Number (u_at l i)
-diced_names l i names.V = Number (v_at l i)
-diced_names l i names.Du = Number (lines l).du
-diced_names l i names.Dv = Number (lines l).dv
-diced_names l i names.S = Number (u_at l i)
-diced_names l i names.T = Number (v_at l i)
-diced_names l i names.Cs = Triple l.prim.cs
-diced_names l i names.Os = Triple l.prim.os
-diced_names l i names.DPdu = Triple (dpdu l i)
-diced_names l i names.DPdv = Triple (dpdv l i)
-diced_names l i name = nothing name
 
 -- worked: the normal of a patch turned over, and that of a flat primitive; what a camera without perspective sees
 abbrev a_normal : Vec3

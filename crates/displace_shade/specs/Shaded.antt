@@ -16,7 +16,8 @@ use Rattle.builtins.specs.Values.{triple_of}
 use Rattle.sl_meaning.specs.Environment.{Around}
 use Rattle.sl_meaning.specs.Runs.{Names, ran, light_answer}
 use Rattle.displace_shade.specs.Sets.{SetValue}
-use Rattle.displace_shade.specs.Points.{Leaf, columns, rows, lines, diced_names, sight}
+use Rattle.displace_shade.specs.Points.{Leaf, columns, rows, lines, sight}
+use Rattle.displace_shade.specs.Variables.{values_at, diced_names}
 
 -- the shader of a use with what it is bound to and its space
 pub record Bound : Type 0 where
@@ -57,13 +58,13 @@ abbrev pub lights_from : Leaf → SetValue → List ShaderUse → List ℕ → L
 lights_from l s uses [] = []
 lights_from l s uses (n ∷ ns) = with_light l (bound_at s uses n) (lights_from l s uses ns)
 
--- a run of one shader over the grid; where there is none, nothing changes
+-- a run of one shader over the grid, its parameters by places; where there is none, nothing changes
 abbrev pub around : Leaf → Bound → List (Vec3 → Light) → Around
 around l b lights = record { lines = lines l; spaces = spaces_of l b; lights = lights }
 
 abbrev pub shaded_by : Leaf → Option Bound → List (Vec3 → Light) → (ℕ → Names) → ℕ → Names
 shaded_by l None lights before = before
-shaded_by l (Some b) lights before = ran b.tree (around l b lights) (λ i. b.values) before
+shaded_by l (Some b) lights before = ran b.tree (around l b lights) (values_at l b.tree.params b.values) before
 
 -- a coordinate moves no further than the bound
 abbrev pub kept_near : ℤ → ℤ → ℤ → ℤ

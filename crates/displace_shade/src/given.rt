@@ -1,36 +1,17 @@
 // What runs of shaders are given.
 ghost use Rattle.std.specs.Prelude.{◌≡◌, ◌≤◌, ◌++◌, true, length, IfOk};
-ghost use Rattle.displace_shade.specs.Rows.{values_of};
+ghost use Rattle.sl_ast.specs.TreeView.{tree_of};
 ghost use Rattle.displace_shade.specs.Given.{param_rows, with_points, with_sights, with_parameters, with_look, with_rest, surface_rows as surface_list, displacement_rows as displacement_list, volume_rows as volume_list};
 
+use crate::arguments::params_given;
+use crate::bound::BoundShader;
+use crate::leaf::Leaf;
 use crate::places::Places;
-use crate::rows::{push_numbers, push_triples, push_value};
+use crate::rows::{push_numbers, push_triples};
 use crate::variables::Variables;
-use builtins::copied;
 use bumpalo::Bump;
-use fixed_math::{NoMemory, Num, Vec3};
-use grid_code::Slot;
-use sl_ast::Value;
-use std::alloc::{Allocator, Global};
-
-/// Appends the rows of the parameters that vary, each with its value at all points.
-fn push_params<A: Allocator>(
-    rows: &mut Vec<Num, A>,
-    params: &[Slot],
-    values: &[Value],
-    points: usize,
-) -> Result<(), NoMemory>
-    requires few { points ≤ 289 }
-    requires alike { length values.now ≡ length params.now }
-    ensures { IfOk result (λ _. rows.new.items ≡ rows.old.items ++ param_rows points params.now values.now) }
-{
-    for k in 0..params.len() {
-        if !params[k].uniform {
-            push_value(rows, &values[k], points)?;
-        }
-    }
-    Ok(())
-}
+use fixed_math::{NoMemory, Num};
+use std::alloc::Allocator;
 
 /// Appends points and normals.
 fn push_points<A: Allocator>(rows: &mut Vec<Num, A>, variables: &Variables) -> Result<(), NoMemory>
@@ -60,39 +41,34 @@ fn push_sights<A: Allocator>(
 fn push_parameters<A: Allocator>(rows: &mut Vec<Num, A>, places: &Places) -> Result<(), NoMemory>
     requires u { length places.now.u.now ≤ 289 }
     requires v { length places.now.v.now ≤ 289 }
+    requires s { length places.now.s.now ≤ 289 }
+    requires t { length places.now.t.now ≤ 289 }
     ensures { IfOk result (λ _. rows.new.items ≡ with_parameters rows.old.items places.now) }
 {
     push_numbers(rows, places.u)?;
     push_numbers(rows, places.v)?;
-    push_numbers(rows, places.u)?;
-    push_numbers(rows, places.v)
+    push_numbers(rows, places.s)?;
+    push_numbers(rows, places.t)
 }
 
 /// Appends a primitive's colour and opacity, and the derivatives of the place.
-fn push_look<A: Allocator>(
-    rows: &mut Vec<Num, A>,
-    points: usize,
-    cs: &Vec3,
-    os: &Vec3,
-    places: &Places,
-) -> Result<(), NoMemory>
-    requires few { points ≤ 289 }
+fn push_look<A: Allocator>(rows: &mut Vec<Num, A>, places: &Places) -> Result<(), NoMemory>
+    requires cs { length places.now.cs.now ≤ 289 }
+    requires os { length places.now.os.now ≤ 289 }
     requires dpdu { length places.now.dpdu.now ≤ 289 }
     requires dpdv { length places.now.dpdv.now ≤ 289 }
-    ensures { IfOk result (λ _. rows.new.items ≡ with_look rows.old.items points cs.now os.now places.now) }
+    ensures { IfOk result (λ _. rows.new.items ≡ with_look rows.old.items places.now) }
 {
-    push_value(rows, &Value::Triple(*cs), points)?;
-    push_value(rows, &Value::Triple(*os), points)?;
+    push_triples(rows, places.cs)?;
+    push_triples(rows, places.os)?;
     push_triples(rows, places.dpdu)?;
     push_triples(rows, places.dpdv)
 }
 
-/// Appends what shaders on a surface are given beside points and normals, of a primitive of that colour and opacity.
+/// Appends what shaders on a surface are given beside points and normals.
 fn push_rest<A: Allocator>(
     rows: &mut Vec<Num, A>,
     points: usize,
-    cs: &Vec3,
-    os: &Vec3,
     places: &Places,
     variables: &Variables,
 ) -> Result<(), NoMemory>
@@ -101,71 +77,79 @@ fn push_rest<A: Allocator>(
     requires geometric { length places.now.normals.now ≡ points }
     requires u { length places.now.u.now ≡ points }
     requires v { length places.now.v.now ≡ points }
+    requires s { length places.now.s.now ≡ points }
+    requires t { length places.now.t.now ≡ points }
+    requires cs { length places.now.cs.now ≡ points }
+    requires os { length places.now.os.now ≡ points }
     requires dpdu { length places.now.dpdu.now ≡ points }
     requires dpdv { length places.now.dpdv.now ≡ points }
-    ensures { IfOk result (λ _. rows.new.items ≡ with_rest rows.old.items points cs.now os.now places.now variables.now) }
+    ensures { IfOk result (λ _. rows.new.items ≡ with_rest rows.old.items places.now variables.now) }
 {
     push_sights(rows, places, variables)?;
     push_parameters(rows, places)?;
-    push_look(rows, points, cs, os, places)
+    push_look(rows, places)
 }
 
 /// The rows that a surface is given.
 pub(crate) fn surface_rows<'a>(
     arena: &'a Bump,
-    params: &[Slot],
-    values: &[Value],
+    leaf: &Leaf,
+    bound: &BoundShader,
     points: usize,
-    cs: &Vec3,
-    os: &Vec3,
     places: &Places,
     variables: &Variables,
 ) -> Result<Vec<Num, &'a Bump>, NoMemory>
     requires few { points ≤ 289 }
-    requires alike { length values.now ≡ length params.now }
+    requires named { length (tree_of bound.now.compiled.now.tree).params ≡ length bound.now.compiled.now.code.params }
+    requires counted { length bound.now.values.now ≡ length bound.now.compiled.now.code.params }
     requires points { length variables.now.points.now ≡ points }
     requires normals { length variables.now.normals.now ≡ points }
     requires sights { length variables.now.sights.now ≡ points }
     requires geometric { length places.now.normals.now ≡ points }
     requires u { length places.now.u.now ≡ points }
     requires v { length places.now.v.now ≡ points }
+    requires s { length places.now.s.now ≡ points }
+    requires t { length places.now.t.now ≡ points }
+    requires cs { length places.now.cs.now ≡ points }
+    requires os { length places.now.os.now ≡ points }
     requires dpdu { length places.now.dpdu.now ≡ points }
     requires dpdv { length places.now.dpdv.now ≡ points }
-    ensures { IfOk result (λ rows. rows.items ≡ surface_list points params.now values.now cs.now os.now places.now variables.now) }
+    ensures { IfOk result (λ rows. rows.items ≡ surface_list (param_rows leaf.now (tree_of bound.now.compiled.now.tree).params bound.now.compiled.now.code.params bound.now.values.now) places.now variables.now) }
 {
-    let mut rows = Vec::new(arena);
-    push_params(&mut rows, params, values, points)?;
+    let mut rows = params_given(arena, leaf, bound)?;
     push_points(&mut rows, variables)?;
-    push_rest(&mut rows, points, cs, os, places, variables)?;
+    push_rest(&mut rows, points, places, variables)?;
     Ok(rows)
 }
 
 /// The rows that a displacement is given.
 pub(crate) fn displacement_rows<'a>(
     arena: &'a Bump,
-    params: &[Slot],
-    values: &[Value],
+    leaf: &Leaf,
+    bound: &BoundShader,
     points: usize,
-    cs: &Vec3,
-    os: &Vec3,
     places: &Places,
     variables: &Variables,
 ) -> Result<Vec<Num, &'a Bump>, NoMemory>
     requires few { points ≤ 289 }
-    requires alike { length values.now ≡ length params.now }
+    requires named { length (tree_of bound.now.compiled.now.tree).params ≡ length bound.now.compiled.now.code.params }
+    requires counted { length bound.now.values.now ≡ length bound.now.compiled.now.code.params }
     requires points { length variables.now.points.now ≡ points }
     requires normals { length variables.now.normals.now ≡ points }
     requires sights { length variables.now.sights.now ≡ points }
     requires geometric { length places.now.normals.now ≡ points }
     requires u { length places.now.u.now ≡ points }
     requires v { length places.now.v.now ≡ points }
+    requires s { length places.now.s.now ≡ points }
+    requires t { length places.now.t.now ≡ points }
+    requires cs { length places.now.cs.now ≡ points }
+    requires os { length places.now.os.now ≡ points }
     requires dpdu { length places.now.dpdu.now ≡ points }
     requires dpdv { length places.now.dpdv.now ≡ points }
-    ensures { IfOk result (λ rows. rows.items ≡ displacement_list points params.now values.now cs.now os.now places.now variables.now) }
+    ensures { IfOk result (λ rows. rows.items ≡ displacement_list (param_rows leaf.now (tree_of bound.now.compiled.now.tree).params bound.now.compiled.now.code.params bound.now.values.now) places.now variables.now) }
 {
-    let mut rows = Vec::new(arena);
-    push_params(&mut rows, params, values, points)?;
-    push_rest(&mut rows, points, cs, os, places, variables)?;
+    let mut rows = params_given(arena, leaf, bound)?;
+    push_rest(&mut rows, points, places, variables)?;
     push_points(&mut rows, variables)?;
     Ok(rows)
 }
@@ -173,42 +157,24 @@ pub(crate) fn displacement_rows<'a>(
 /// The rows that a volume is given.
 pub(crate) fn volume_rows<'a>(
     arena: &'a Bump,
-    params: &[Slot],
-    values: &[Value],
+    leaf: &Leaf,
+    bound: &BoundShader,
     points: usize,
     variables: &Variables,
 ) -> Result<Vec<Num, &'a Bump>, NoMemory>
     requires few { points ≤ 289 }
-    requires alike { length values.now ≡ length params.now }
+    requires named { length (tree_of bound.now.compiled.now.tree).params ≡ length bound.now.compiled.now.code.params }
+    requires counted { length bound.now.values.now ≡ length bound.now.compiled.now.code.params }
     requires points { length variables.now.points.now ≡ points }
     requires sights { length variables.now.sights.now ≡ points }
     requires colours { length variables.now.colours.now ≡ points }
     requires opacities { length variables.now.opacities.now ≡ points }
-    ensures { IfOk result (λ rows. rows.items ≡ volume_list points params.now values.now variables.now) }
+    ensures { IfOk result (λ rows. rows.items ≡ volume_list (param_rows leaf.now (tree_of bound.now.compiled.now.tree).params bound.now.compiled.now.code.params bound.now.values.now) variables.now) }
 {
-    let mut rows = Vec::new(arena);
-    push_params(&mut rows, params, values, points)?;
+    let mut rows = params_given(arena, leaf, bound)?;
     push_triples(&mut rows, variables.points)?;
     push_triples(&mut rows, variables.sights)?;
     push_triples(&mut rows, variables.colours)?;
     push_triples(&mut rows, variables.opacities)?;
     Ok(rows)
-}
-
-/// The values of the uniform parameters.
-pub(crate) fn uniform_values(
-    alloc: Global,
-    params: &[Slot],
-    values: &[Value],
-) -> Result<Vec<Value>, NoMemory>
-    requires { length values.now ≡ length params.now }
-    ensures { IfOk result (λ given. given.items ≡ values_of true params.now values.now) }
-{
-    let mut given = Vec::new(alloc);
-    for k in 0..params.len() {
-        if params[k].uniform {
-            given.push(copied(alloc, &values[k])?)?;
-        }
-    }
-    Ok(given)
 }

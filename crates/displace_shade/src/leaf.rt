@@ -7,7 +7,7 @@ ghost use Rattle.displace_shade.specs.Diced.{point_count, parameter_at, derivati
 use dice::{line_at, placed_derivative, placed_parameter, placed_step};
 use fixed_math::{Num, Vec3};
 use patches::{Dyadic, Piece, Surface};
-use scene_state::Prim;
+use scene_state::{Prim, Variable};
 use std::marker::Model;
 use transforms::{Affine, Camera};
 
@@ -75,7 +75,7 @@ impl<'s> Leaf<'s> {
     }
 
     /// The patch's own parameter along u at place `i`.
-    fn own_u(&self, i: usize) -> Dyadic
+    pub(crate) fn own_u(&self, i: usize) -> Dyadic
         requires { i < point_count self.now }
         ensures { result ≡ own_u self.now i }
     {
@@ -85,7 +85,7 @@ impl<'s> Leaf<'s> {
     }
 
     /// The patch's own parameter along v at place `i`.
-    fn own_v(&self, i: usize) -> Dyadic
+    pub(crate) fn own_v(&self, i: usize) -> Dyadic
         requires { i < point_count self.now }
         ensures { result ≡ own_v self.now i }
     {
@@ -162,6 +162,54 @@ impl<'s> Leaf<'s> {
     {
         let prim = self.prim;
         prim.atmosphere
+    }
+
+    /// The map from its primitive's object space to camera space.
+    pub(crate) fn object(&self) -> &Affine
+        ensures { result.now ≡ self.now.prim.object }
+    {
+        let prim = self.prim;
+        &prim.object
+    }
+
+    /// The colour of its primitive.
+    pub(crate) fn cs(&self) -> &Vec3
+        ensures { result.now ≡ self.now.prim.cs }
+    {
+        let prim = self.prim;
+        &prim.cs
+    }
+
+    /// The opacity of its primitive.
+    pub(crate) fn os(&self) -> &Vec3
+        ensures { result.now ≡ self.now.prim.os }
+    {
+        let prim = self.prim;
+        &prim.os
+    }
+
+    /// The normal of its primitive, if that is flat.
+    pub(crate) fn flat(&self) -> &Option<Vec3>
+        ensures { result.now ≡ self.now.prim.flat }
+    {
+        let prim = self.prim;
+        &prim.flat
+    }
+
+    /// Whether its primitive is turned over.
+    pub(crate) fn flip(&self) -> bool
+        ensures { result ≡ self.now.prim.flip }
+    {
+        let prim = self.prim;
+        prim.flip
+    }
+
+    /// The variables of its primitive.
+    pub(crate) fn variables(&self) -> &[Variable]
+        ensures { result.now ≡ self.now.prim.vars }
+    {
+        let prim = self.prim;
+        prim.vars.as_slice()
     }
 
     /// The uses of its primitive's lights.

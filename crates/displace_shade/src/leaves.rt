@@ -9,10 +9,11 @@ ghost use Rattle.displace_shade.specs.Points.{sight};
 ghost use Rattle.displace_shade.specs.Shaded.{bound_at as bound_at_use, bound_for, shaded_by, moved, shaded};
 ghost use Rattle.displace_shade.specs.Diced.{point_count, over, Hold, IsSized, IsColoured, ArePlaces, grid_value};
 ghost use Rattle.displace_shade.specs.Shop.{set_value};
+ghost use Rattle.displace_shade.specs.Bindings.{FitUseVariables, FitSomeVariables, FitsPrim};
 ghost use Rattle.displace_shade.specs.Lamps.{IsLamp, lamp_light};
 
 use crate::bound::bound_at;
-use crate::diced::{first_variables, grid_of, places_of};
+use crate::diced::{diced, first_variables, geometric_normals, grid_of, places_of};
 use crate::lamps::{Lamp, lamps_of};
 use crate::leaf::Leaf;
 use crate::moves::{kept_points, sights};
@@ -45,6 +46,7 @@ fn displaced_by<'a>(
 ) -> Result<Variables<'a>, NoMemory>
     requires fits { Fits (set_value shaders.now.set.now) shaders.now.uses.now }
     requires use_of { IsUse shaders.now.uses.now requested.Displacement n }
+    requires variables { FitUseVariables (set_value shaders.now.set.now) shaders.now.uses.now n leaf.now.prim.vars }
     requires places { ArePlaces leaf.now places.now }
     requires sized { IsSized leaf.now variables.now }
     ensures sized { IfOk result (λ e. IsSized leaf.now e) }
@@ -65,6 +67,7 @@ fn displaced<'a>(
 ) -> Result<Variables<'a>, NoMemory>
     requires fits { Fits (set_value shaders.now.set.now) shaders.now.uses.now }
     requires use_of { IsSomeUse shaders.now.uses.now requested.Displacement shader }
+    requires variables { FitSomeVariables (set_value shaders.now.set.now) shaders.now.uses.now shader leaf.now.prim.vars }
     requires places { ArePlaces leaf.now places.now }
     requires sized { IsSized leaf.now variables.now }
     ensures sized { IfOk result (λ e. IsSized leaf.now e) }
@@ -116,6 +119,7 @@ fn coloured<'a, 's>(
 ) -> Result<Variables<'a>, NoMemory>
     requires fits { Fits (set_value shaders.now.set.now) shaders.now.uses.now }
     requires use_of { IsUse shaders.now.uses.now requested.Surface n }
+    requires variables { FitUseVariables (set_value shaders.now.set.now) shaders.now.uses.now n leaf.now.prim.vars }
     requires lamps { All (IsLamp leaf.now) lamps.now }
     requires places { ArePlaces leaf.now places.now }
     requires sized { IsSized leaf.now variables.now }
@@ -137,6 +141,7 @@ fn dimmed_by<'a>(
 ) -> Result<Variables<'a>, NoMemory>
     requires fits { Fits (set_value shaders.now.set.now) shaders.now.uses.now }
     requires use_of { IsUse shaders.now.uses.now requested.Volume n }
+    requires variables { FitUseVariables (set_value shaders.now.set.now) shaders.now.uses.now n leaf.now.prim.vars }
     requires sized { IsSized leaf.now variables.now }
     requires coloured { IsColoured leaf.now variables.now }
     ensures sized { IfOk result (λ e. IsSized leaf.now e) }
@@ -157,6 +162,7 @@ fn dimmed<'a>(
 ) -> Result<Variables<'a>, NoMemory>
     requires fits { Fits (set_value shaders.now.set.now) shaders.now.uses.now }
     requires use_of { IsSomeUse shaders.now.uses.now requested.Volume shader }
+    requires variables { FitSomeVariables (set_value shaders.now.set.now) shaders.now.uses.now shader leaf.now.prim.vars }
     requires sized { IsSized leaf.now variables.now }
     requires coloured { IsColoured leaf.now variables.now }
     ensures sized { IfOk result (λ e. IsSized leaf.now e) }
@@ -177,10 +183,13 @@ pub(crate) fn shaded_leaf<'a>(
 ) -> Result<GridRef<'a>, NoMemory>
     requires fits { Fits (set_value shaders.now.set.now) shaders.now.uses.now }
     requires uses { HasUses shaders.now.uses.now leaf.now.prim }
+    requires variables { FitsPrim (set_value shaders.now.set.now) shaders.now.uses.now leaf.now.prim }
     ensures { IfOk result (λ grid. grid_value grid ≡ shaded leaf.now (set_value shaders.now.set.now) shaders.now.uses.now) }
 {
-    let first = first_variables(arena, leaf)?;
-    let places = places_of(arena, leaf, first.normals)?;
+    let bare = diced(arena, leaf)?;
+    let geometric = geometric_normals(arena, leaf, bare.n)?;
+    let first = first_variables(arena, leaf, bare.p, geometric)?;
+    let places = places_of(arena, leaf, geometric)?;
     let free = displaced(shaders, arena, leaf, &places, &first, leaf.displacement())?;
     let near = kept_near(arena, leaf, &first, &free)?;
     let lamps = lamps_of(arena, shaders.set, shaders.uses, leaf)?;

@@ -21,7 +21,7 @@ fn negated(v: &Vec3) -> Vec3
     }
 }
 
-fn turned(flip: bool, normal: &Vec3) -> Vec3
+pub(crate) fn turned(flip: bool, normal: &Vec3) -> Vec3
     ensures { result ≡ turned_by flip normal.now }
 {
     if flip { negated(normal) } else { *normal }

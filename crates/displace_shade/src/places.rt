@@ -7,12 +7,17 @@ use bumpalo::Bump;
 use bumpalo::collections::into_bump_slice;
 use fixed_math::{NoMemory, Num, Vec3};
 
-/// What doesn't change at the points of a grid while shaders run, by rows: geometric normals, u and v, and the derivatives by them.
+/// What doesn't change at the points of a grid while shaders run, by rows: geometric normals, u and v, s and t, the primitive's colour and
+/// opacity, and the derivatives by u and v.
 #[derive(Clone, Copy)]
 pub(crate) struct Places<'a> {
     pub(crate) normals: &'a [Vec3],
     pub(crate) u: &'a [Num],
     pub(crate) v: &'a [Num],
+    pub(crate) s: &'a [Num],
+    pub(crate) t: &'a [Num],
+    pub(crate) cs: &'a [Vec3],
+    pub(crate) os: &'a [Vec3],
     pub(crate) dpdu: &'a [Vec3],
     pub(crate) dpdv: &'a [Vec3],
 }

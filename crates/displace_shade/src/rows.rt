@@ -48,7 +48,7 @@ pub(crate) fn push_numbers<A: Allocator>(
 }
 
 /// Appends a row of one coordinate of triples.
-fn push_parts<A: Allocator>(
+pub(crate) fn push_parts<A: Allocator>(
     rows: &mut Vec<Num, A>,
     triples: &[Vec3],
     axis: Axis,

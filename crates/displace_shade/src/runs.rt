@@ -15,12 +15,15 @@ ghost use Rattle.displace_shade.specs.Shaded.{spaces_of as maps_of, around};
 ghost use Rattle.grid_machine.specs.Run.{row_length, rows_of, uniform_inputs, varying_inputs, written_names, lines_given, begun, Leaves};
 ghost use Rattle.displace_shade.specs.Rows.{AreRaws, values_of};
 ghost use Rattle.displace_shade.specs.Diced.{point_count, over, triple_in, Hold, IsSized, IsColoured, ArePlaces};
-ghost use Rattle.displace_shade.specs.Given.{displacement_rows as displacement_list, surface_rows as surface_list, volume_rows as volume_list};
+ghost use Rattle.displace_shade.specs.Given.{param_rows, displacement_rows as displacement_list, surface_rows as surface_list, volume_rows as volume_list};
 ghost use Rattle.displace_shade.specs.Shop.{bound_value, Runs};
+ghost use Rattle.displace_shade.specs.Variables.{values_at};
+ghost use Rattle.displace_shade.specs.Bindings.{FitVariables};
 ghost use Rattle.displace_shade.specs.Lamps.{IsLamp, lamp_light, lamp_asked};
 
+use crate::arguments::uniform_values;
 use crate::bound::BoundShader;
-use crate::given::{displacement_rows, surface_rows, uniform_values, volume_rows};
+use crate::given::{displacement_rows, surface_rows, volume_rows};
 use crate::lamps::{Lamp, Lamps, kept};
 use crate::leaf::Leaf;
 use crate::left::triples_from;
@@ -53,12 +56,11 @@ fn spaces_of(leaf: &Leaf, space: &Affine) -> Spaces
 
 /// The uniform values of a shader on a surface: those of its parameters and the steps of u and v.
 fn surface_values(alloc: Global, leaf: &Leaf, bound: &BoundShader) -> Result<Vec<Value>, NoMemory>
-    requires { length bound.now.values.now ≡ length bound.now.compiled.now.code.params }
-    ensures { IfOk result (λ given. given.items ≡ values_of true bound.now.compiled.now.code.params bound.now.values.now ++ values.Number (lines leaf.now).du ∷ values.Number (lines leaf.now).dv ∷ []) }
+    requires named { length (tree_of bound.now.compiled.now.tree).params ≡ length bound.now.compiled.now.code.params }
+    requires counted { length bound.now.values.now ≡ length bound.now.compiled.now.code.params }
+    ensures { IfOk result (λ given. given.items ≡ values_of true bound.now.compiled.now.code.params (values_at leaf.now (tree_of bound.now.compiled.now.tree).params bound.now.values.now 0) ++ values.Number (lines leaf.now).du ∷ values.Number (lines leaf.now).dv ∷ []) }
 {
-    let compiled = bound.compiled;
-    let code = compiled.code();
-    let mut given = uniform_values(alloc, code.params.as_slice(), bound.values)?;
+    let mut given = uniform_values(alloc, leaf, bound)?;
     given.push(Value::Number(leaf.du()))?;
     given.push(Value::Number(leaf.dv()))?;
     Ok(given)
@@ -127,25 +129,14 @@ fn displacement_given<'a>(
     places: &Places,
     variables: &Variables,
 ) -> Result<Vec<Num, &'a Bump>, NoMemory>
+    requires named { length (tree_of bound.now.compiled.now.tree).params ≡ length bound.now.compiled.now.code.params }
     requires counted { length bound.now.values.now ≡ length bound.now.compiled.now.code.params }
     requires places { ArePlaces leaf.now places.now }
     requires sized { IsSized leaf.now variables.now }
-    ensures { IfOk result (λ rows. rows.items ≡ displacement_list (point_count leaf.now) bound.now.compiled.now.code.params bound.now.values.now leaf.now.prim.cs leaf.now.prim.os places.now variables.now) }
+    ensures { IfOk result (λ rows. rows.items ≡ displacement_list (param_rows leaf.now (tree_of bound.now.compiled.now.tree).params bound.now.compiled.now.code.params bound.now.values.now) places.now variables.now) }
 {
-    let prim = leaf.prim;
     let points = leaf.point_count();
-    let compiled = bound.compiled;
-    let code = compiled.code();
-    displacement_rows(
-        arena,
-        code.params.as_slice(),
-        bound.values,
-        points,
-        &prim.cs,
-        &prim.os,
-        places,
-        variables,
-    )
+    displacement_rows(arena, leaf, bound, points, places, variables)
 }
 
 /// The variables behind a run of a displacement, which no light reaches.
@@ -158,11 +149,12 @@ pub(crate) fn displace<'a>(
     variables: &Variables<'a>,
 ) -> Result<Variables<'a>, NoMemory>
     requires runs { Runs bound.now }
+    requires variables { FitVariables (tree_of bound.now.compiled.now.tree).params leaf.now.prim.vars }
     requires kind { (tree_of bound.now.compiled.now.tree).kind ≡ kinds.Displacement }
     requires places { ArePlaces leaf.now places.now }
     requires sized { IsSized leaf.now variables.now }
     ensures sized { IfOk result (λ e. IsSized leaf.now e) }
-    ensures hold { IfOk result (λ e. (f : ℕ → Names) → Hold leaf.now variables.now f → Hold leaf.now e (ran (tree_of bound.now.compiled.now.tree) (around leaf.now (bound_value bound.now) []) (λ i. bound.now.values.now) f)) }
+    ensures hold { IfOk result (λ e. (f : ℕ → Names) → Hold leaf.now variables.now f → Hold leaf.now e (ran (tree_of bound.now.compiled.now.tree) (around leaf.now (bound_value bound.now) []) (values_at leaf.now (tree_of bound.now.compiled.now.tree).params bound.now.values.now) f)) }
 {
     let rows = displacement_given(arena, leaf, bound, places, variables)?;
     let uniforms = surface_values(alloc, leaf, bound)?;
@@ -186,25 +178,14 @@ fn surface_given<'a>(
     places: &Places,
     variables: &Variables,
 ) -> Result<Vec<Num, &'a Bump>, NoMemory>
+    requires named { length (tree_of bound.now.compiled.now.tree).params ≡ length bound.now.compiled.now.code.params }
     requires counted { length bound.now.values.now ≡ length bound.now.compiled.now.code.params }
     requires places { ArePlaces leaf.now places.now }
     requires sized { IsSized leaf.now variables.now }
-    ensures { IfOk result (λ rows. rows.items ≡ surface_list (point_count leaf.now) bound.now.compiled.now.code.params bound.now.values.now leaf.now.prim.cs leaf.now.prim.os places.now variables.now) }
+    ensures { IfOk result (λ rows. rows.items ≡ surface_list (param_rows leaf.now (tree_of bound.now.compiled.now.tree).params bound.now.compiled.now.code.params bound.now.values.now) places.now variables.now) }
 {
-    let prim = leaf.prim;
     let points = leaf.point_count();
-    let compiled = bound.compiled;
-    let code = compiled.code();
-    surface_rows(
-        arena,
-        code.params.as_slice(),
-        bound.values,
-        points,
-        &prim.cs,
-        &prim.os,
-        places,
-        variables,
-    )
+    surface_rows(arena, leaf, bound, points, places, variables)
 }
 
 /// The variables behind a run of a surface under lights.
@@ -218,13 +199,14 @@ pub(crate) fn colour<'a, 's>(
     variables: &Variables<'a>,
 ) -> Result<Variables<'a>, NoMemory>
     requires runs { Runs bound.now }
+    requires variables { FitVariables (tree_of bound.now.compiled.now.tree).params leaf.now.prim.vars }
     requires kind { (tree_of bound.now.compiled.now.tree).kind ≡ kinds.Surface }
     requires lamps { All (IsLamp leaf.now) lamps.now }
     requires places { ArePlaces leaf.now places.now }
     requires sized { IsSized leaf.now variables.now }
     ensures sized { IfOk result (λ e. IsSized leaf.now e) }
     ensures coloured { IfOk result (λ e. IsColoured leaf.now e) }
-    ensures hold { IfOk result (λ e. (f : ℕ → Names) → Hold leaf.now variables.now f → Hold leaf.now e (ran (tree_of bound.now.compiled.now.tree) (around leaf.now (bound_value bound.now) (map (lamp_light leaf.now) lamps.now)) (λ i. bound.now.values.now) f)) }
+    ensures hold { IfOk result (λ e. (f : ℕ → Names) → Hold leaf.now variables.now f → Hold leaf.now e (ran (tree_of bound.now.compiled.now.tree) (around leaf.now (bound_value bound.now) (map (lamp_light leaf.now) lamps.now)) (values_at leaf.now (tree_of bound.now.compiled.now.tree).params bound.now.values.now) f)) }
 {
     let rows = surface_given(arena, leaf, bound, places, variables)?;
     let uniforms = surface_values(alloc, leaf, bound)?;
@@ -247,31 +229,14 @@ fn volume_given<'a>(
     bound: &BoundShader,
     variables: &Variables,
 ) -> Result<Vec<Num, &'a Bump>, NoMemory>
+    requires named { length (tree_of bound.now.compiled.now.tree).params ≡ length bound.now.compiled.now.code.params }
     requires counted { length bound.now.values.now ≡ length bound.now.compiled.now.code.params }
     requires sized { IsSized leaf.now variables.now }
     requires coloured { IsColoured leaf.now variables.now }
-    ensures { IfOk result (λ rows. rows.items ≡ volume_list (point_count leaf.now) bound.now.compiled.now.code.params bound.now.values.now variables.now) }
+    ensures { IfOk result (λ rows. rows.items ≡ volume_list (param_rows leaf.now (tree_of bound.now.compiled.now.tree).params bound.now.compiled.now.code.params bound.now.values.now) variables.now) }
 {
     let points = leaf.point_count();
-    let compiled = bound.compiled;
-    let code = compiled.code();
-    volume_rows(
-        arena,
-        code.params.as_slice(),
-        bound.values,
-        points,
-        variables,
-    )
-}
-
-/// The uniform values of a volume.
-fn volume_values(alloc: Global, bound: &BoundShader) -> Result<Vec<Value>, NoMemory>
-    requires { length bound.now.values.now ≡ length bound.now.compiled.now.code.params }
-    ensures { IfOk result (λ given. given.items ≡ values_of true bound.now.compiled.now.code.params bound.now.values.now) }
-{
-    let compiled = bound.compiled;
-    let code = compiled.code();
-    uniform_values(alloc, code.params.as_slice(), bound.values)
+    volume_rows(arena, leaf, bound, points, variables)
 }
 
 /// The variables behind a run of a volume, which no light reaches.
@@ -283,15 +248,16 @@ pub(crate) fn dim<'a>(
     variables: &Variables<'a>,
 ) -> Result<Variables<'a>, NoMemory>
     requires runs { Runs bound.now }
+    requires variables { FitVariables (tree_of bound.now.compiled.now.tree).params leaf.now.prim.vars }
     requires kind { (tree_of bound.now.compiled.now.tree).kind ≡ kinds.Volume }
     requires sized { IsSized leaf.now variables.now }
     requires coloured { IsColoured leaf.now variables.now }
     ensures sized { IfOk result (λ e. IsSized leaf.now e) }
     ensures coloured { IfOk result (λ e. IsColoured leaf.now e) }
-    ensures hold { IfOk result (λ e. (f : ℕ → Names) → Hold leaf.now variables.now f → Hold leaf.now e (ran (tree_of bound.now.compiled.now.tree) (around leaf.now (bound_value bound.now) []) (λ i. bound.now.values.now) f)) }
+    ensures hold { IfOk result (λ e. (f : ℕ → Names) → Hold leaf.now variables.now f → Hold leaf.now e (ran (tree_of bound.now.compiled.now.tree) (around leaf.now (bound_value bound.now) []) (values_at leaf.now (tree_of bound.now.compiled.now.tree).params bound.now.values.now) f)) }
 {
     let rows = volume_given(arena, leaf, bound, variables)?;
-    let uniforms = volume_values(alloc, bound)?;
+    let uniforms = uniform_values(alloc, leaf, bound)?;
     let out = run_on(arena, leaf, bound, &[], &uniforms, &rows)?;
     let colours = triples_left(arena, leaf, &out, 0)?;
     let opacities = triples_left(arena, leaf, &out, 3)?;

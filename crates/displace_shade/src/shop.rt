@@ -2,6 +2,7 @@ ghost use Rattle.std.specs.Prelude.{◌≡◌, ◌≤◌, ◌<◌, ◌+◌, All,
 ghost use Rattle.scene_state.specs.Scene.{FrameValue, PrimValue, HasUses};
 ghost use Rattle.displace_shade.specs.Sets.{Fits};
 ghost use Rattle.displace_shade.specs.Shaded.{shaded};
+ghost use Rattle.displace_shade.specs.Bindings.{FitsPrim};
 ghost use Rattle.displace_shade.specs.Diced.{grid_value};
 ghost use Rattle.displace_shade.specs.Shop.{set_value, leaf_of};
 
@@ -12,8 +13,27 @@ use bumpalo::Bump;
 use dice::GridRef;
 use fixed_math::NoMemory;
 use patches::Piece;
-use scene_state::{Frame, Scene};
+use scene_state::{Frame, Scene, ShaderUse};
 use std::alloc::Global;
+
+/// The leaf of a piece of a primitive of a frame.
+fn leaf_at<'s>(frame: &'s Frame, piece: &'s Piece, p: u8, q: u8) -> Leaf<'s>
+    requires prim { piece.now.prim < length frame.now.prims }
+    requires columns { p ≤ 4 }
+    requires rows { q ≤ 4 }
+    ensures leaf { (prim : PrimValue) → slice_get frame.now.prims piece.now.prim ≡ Some prim → result ≡ leaf_of frame.now prim piece.now p q }
+    ensures prim { slice_get frame.now.prims piece.now.prim ≡ Some result.prim }
+{
+    let prims = frame.prims.as_slice();
+    Leaf {
+        camera: &frame.camera,
+        world: &frame.world,
+        prim: &prims[piece.prim as usize],
+        piece,
+        p,
+        q,
+    }
+}
 
 /// The shaded grid of a piece of a primitive of a frame.
 fn shaded_piece<'a>(
@@ -27,21 +47,31 @@ fn shaded_piece<'a>(
     requires fits { Fits (set_value shaders.now.set.now) shaders.now.uses.now }
     requires prim { piece.now.prim < length frame.now.prims }
     requires uses { All (HasUses shaders.now.uses.now) frame.now.prims }
+    requires variables { (prim : PrimValue) → slice_get frame.now.prims piece.now.prim ≡ Some prim → FitsPrim (set_value shaders.now.set.now) shaders.now.uses.now prim }
     requires columns { p ≤ 4 }
     requires rows { q ≤ 4 }
     ensures { IfOk result (λ grid. (prim : PrimValue) → slice_get frame.now.prims piece.now.prim ≡ Some prim → grid_value grid ≡ shaded (leaf_of frame.now prim piece.now p q) (set_value shaders.now.set.now) shaders.now.uses.now) }
 {
-    let prims = frame.prims.as_slice();
-    let leaf = Leaf {
-        camera: &frame.camera,
-        world: &frame.world,
-        prim: &prims[piece.prim as usize],
-        piece,
-        p,
-        q,
-    };
+    let leaf = leaf_at(frame, piece, p, q);
     let grid = shaded_leaf(shaders, arena, &leaf)?;
     Ok(grid)
+}
+
+/// The uses of a scene.
+fn uses_of(scene: &Scene) -> &[ShaderUse]
+    ensures { result.now ≡ scene.now.uses }
+{
+    scene.uses.as_slice()
+}
+
+/// A frame of a scene, whose primitives have uses of the scene.
+fn frame_at(scene: &Scene, frame: usize) -> &Frame
+    requires { frame < length scene.now.frames }
+    ensures frame { slice_get scene.now.frames frame ≡ Some result.now }
+    ensures uses { All (HasUses scene.now.uses) result.now.prims }
+{
+    let frames = scene.frames.as_slice();
+    &frames[frame]
 }
 
 /// The shaders of a scene, and how many grids they have shaded.
@@ -74,7 +104,7 @@ impl Shop {
 
     /// The shaded grid of a piece in the arena, of 2^`p` + 1 columns and 2^`q` + 1 rows: displacement, surface and volume over its points, one
     /// after another, the surface under the lights of the primitive. The shop's shaders are those of the scene, the frame and the piece's
-    /// primitive are there, and `p` and `q` are at most 4. The count rises by one, unless memory is wanting.
+    /// primitive are there and its variables fit its shaders, and `p` and `q` are at most 4. The count rises by one, unless memory is wanting.
     pub fn shade<'a>(
         &mut self,
         arena: &'a Bump,
@@ -87,6 +117,7 @@ impl Shop {
         requires fits { Fits (set_value self.old.set) scene.now.uses }
         requires frame { frame < length scene.now.frames }
         requires prim { (f : FrameValue) → slice_get scene.now.frames frame ≡ Some f → piece.now.prim < length f.prims }
+        requires variables { (f : FrameValue) (prim : PrimValue) → slice_get scene.now.frames frame ≡ Some f → slice_get f.prims piece.now.prim ≡ Some prim → FitsPrim (set_value self.old.set) scene.now.uses prim }
         requires columns { p ≤ 4 }
         requires rows { q ≤ 4 }
         requires count { self.old.count < 18446744073709551615 }
@@ -94,13 +125,13 @@ impl Shop {
         ensures set { self.new.set ≡ self.old.set }
         ensures count { MatchResult result (λ _. self.new.count ≡ self.old.count + 1) (λ _. self.new.count ≡ self.old.count) }
     {
-        let frames = scene.frames.as_slice();
+        let frame = frame_at(scene, frame);
         let shaders = Shaders {
             alloc: self.alloc,
             set: &self.set,
-            uses: scene.uses.as_slice(),
+            uses: uses_of(scene),
         };
-        let grid = shaded_piece(&shaders, arena, &frames[frame], piece, p, q)?;
+        let grid = shaded_piece(&shaders, arena, frame, piece, p, q)?;
         self.count += 1;
         Ok(grid)
     }

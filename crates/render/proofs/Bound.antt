@@ -13,13 +13,13 @@ use Rattle.render.specs.declared.refusal.Refusal.{Refusal}
 use Rattle.render.specs.declared.read.ReadShader.{ReadShader}
 use Rattle.render.specs.declared.shaders.UsedShaders.{UsedShaders}
 use Rattle.fixed_math.specs.Names.{last_place}
-use Rattle.render.specs.Causes.{Cause, or_else, first_of}
+use Rattle.render.specs.Causes.{Cause, first_of}
 use Rattle.render.specs.Shaders.{shader_tree}
 use Rattle.render.specs.Bindings.{binding_fault, cause_at, use_refused, param_name}
 use Rattle.rib_reader.specs.Holding.{is_at, is_named, holding}
 use Rattle.render.specs.Reading.{IsReadOf, ArePlaced, named_use, is_among, name_of}
 use Rattle.render.specs.Answers.{Because, Clears}
-use Rattle.render.proofs.ReadAll.{because_first}
+use Rattle.render.proofs.Firsts.{first_next, first_here}
 use Rattle.render.proofs.Names.{itself}
 use Rattle.render.proofs.Places.{use_placed, as_many, shader_named, within, unplaced, among_placed}
 
@@ -27,20 +27,13 @@ use Rattle.render.proofs.Places.{use_placed, as_many, shader_named, within, unpl
 abbrev pub bound_from : Files → List ShaderUse → Option Cause
 bound_from files uses = first_of (map (λ u. use_refused u (shader_tree files u.name)) uses)
 
-ahead : (uses : List ShaderUse) (i : ℕ) (u : ShaderUse) → i < length uses → u ≡ get_or uses i u → drop i uses ≡ u ∷ drop (i + 1) uses
-ahead uses i u low is =
-    drop-cons uses i u low ∙ ap (λ v. v ∷ drop (suc i) uses) (sym is) ∙ ap (λ k. u ∷ drop k uses) (sym (add-one i))
-
 pub bound_next : (files : Files) (uses : List ShaderUse) (i : ℕ) (u : ShaderUse) (total : Option Cause) → i < length uses → u ≡ get_or uses i u
     → use_refused u (shader_tree files u.name) ≡ None → bound_from files (drop i uses) ≡ total → bound_from files (drop (i + 1) uses) ≡ total
-bound_next files uses i u total low is none so_far =
-    sym (ap (λ o. or_else o (bound_from files (drop (i + 1) uses))) none) ∙ ap (bound_from files) (sym (ahead uses i u low is)) ∙ so_far
+bound_next files uses i u total low is none so_far = first_next (λ v. use_refused v (shader_tree files v.name)) uses i u total low is none so_far
 
 pub unbound_next : (files : Files) (uses : List ShaderUse) (i : ℕ) (u : ShaderUse) (total : Option Cause) (r : Refusal) → i < length uses → u ≡ get_or uses i u
     → Because r (use_refused u (shader_tree files u.name)) → bound_from files (drop i uses) ≡ total → Because r total
-unbound_next files uses i u total r low is because so_far =
-    subst (λ o. Because r o) (ap (bound_from files) (sym (ahead uses i u low is)) ∙ so_far)
-    (because_first r (use_refused u (shader_tree files u.name)) (bound_from files (drop (i + 1) uses)) because)
+unbound_next files uses i u total r low is because so_far = first_here (λ v. use_refused v (shader_tree files v.name)) uses i u total r low is because so_far
 
 -- the place of a use
 pub place_of_use : (uses : List ShaderUse) (shaders : UsedShaders) (read : List ReadShader) (places : List ℕ) (i : ℕ) (u : ShaderUse) → ArePlaced uses shaders

@@ -12,6 +12,9 @@ pub mod Names
 pub mod Places
 pub mod FileNames
 pub mod ReadAll
+pub mod Firsts
+pub mod StockFlat
+pub mod Fitting
 pub mod Bound
 pub mod Fetched
 pub mod SoFar

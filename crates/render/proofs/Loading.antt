@@ -15,12 +15,13 @@ use Rattle.render.specs.Command.{Source, Demo, Command}
 use Rattle.render.specs.Notes.{scene_name}
 use Rattle.render.specs.Shaders.{shader_names, shaders_refused, shaders_asked}
 use Rattle.render.specs.Bindings.{uses_refused}
-use Rattle.render.specs.Verdict.{text_of_source, names_of_source, scene_of_text, accepted, accepted_scene, asked_for_scene, asked_for_text, asked_for_command}
+use Rattle.render.specs.PrimBindings.{frames_refused, prims_refused}
+use Rattle.render.specs.Verdict.{text_of_source, names_of_source, scene_of_text, accepted, accepted_scene, bound_scene, asked_for_scene, asked_for_text, asked_for_command}
 use Rattle.displace_shade.specs.Shop.{set_value}
 use Rattle.render.specs.declared.accepted.Accepted.{Accepted}
 use Rattle.render.specs.declared.shaders.UsedShaders.{UsedShaders}
-use Rattle.render.specs.Set.{accepted_with}
-use Rattle.render.specs.Reading.{name_of, ArePlaced, IsReadOf, set_read}
+use Rattle.render.specs.Set.{set_of, accepted_with}
+use Rattle.render.specs.Reading.{name_of, tree_read, ArePlaced, IsReadOf, set_read}
 use Rattle.render.specs.Answers.{Because, GivesText, accepted_in}
 use Rattle.render.proofs.ReadAll.{none_refused}
 use Rattle.render.proofs.SetSame.{set_same}
@@ -58,14 +59,22 @@ pub shaders_refuse : (held : Option Files) (text : List ℕ) (scene : SceneValue
 shaders_refuse None text scene r is because = tt
 shaders_refuse (Some files) text scene r is because =
     subst (λ q. Because r (cause_in (accepted_scene files q))) (sym is)
-    (because_unless r (shaders_refused files (shader_names scene.uses)) (unless (uses_refused files scene.uses) (Ok (accepted_with files scene))) because)
+    (because_unless r (shaders_refused files (shader_names scene.uses)) (bound_scene files scene) because)
 
 -- what is accepted of a scene whose shaders are read
 shaders_read : (files : Files) (text : List ℕ) (scene : SceneValue) (shaders : List ReadShader) → scene_of_text text ≡ Ok scene
-    → map name_of shaders ≡ shader_names scene.uses → All (IsReadOf files) shaders → accepted files text ≡ unless (uses_refused files scene.uses) (Ok (accepted_with files scene))
+    → map name_of shaders ≡ shader_names scene.uses → All (IsReadOf files) shaders → accepted files text ≡ bound_scene files scene
 shaders_read files text scene shaders is names all =
-    ap (accepted_scene files) is ∙ ap (λ o. unless o (unless (uses_refused files scene.uses) (Ok (accepted_with files scene)))) (none_refused files (shader_names scene.uses) shaders names all)
+    ap (accepted_scene files) is ∙ ap (λ o. unless o (bound_scene files scene)) (none_refused files (shader_names scene.uses) shaders names all)
 
+-- and whose requests fit them
+requests_fit : (files : Files) (text : List ℕ) (scene : SceneValue) (shaders : List ReadShader) → scene_of_text text ≡ Ok scene
+    → map name_of shaders ≡ shader_names scene.uses → All (IsReadOf files) shaders → uses_refused files scene.uses ≡ None
+    → accepted files text ≡ unless (prims_refused (set_of files scene.uses) scene.frames) (Ok (accepted_with files scene))
+requests_fit files text scene shaders is names all fit =
+    shaders_read files text scene shaders is names all ∙ ap (λ o. unless o (unless (prims_refused (set_of files scene.uses) scene.frames) (Ok (accepted_with files scene)))) fit
+
+-- a request is refused
 pub unbound : (held : Option Files) (text : List ℕ) (scene : SceneValue) (shaders : List ReadShader) (r : Refusal)
     → scene_of_text text ≡ Ok scene → map name_of shaders ≡ shader_names scene.uses → AllRead held shaders
     → ((files : Files) → All (IsReadOf files) shaders → Because r (uses_refused files scene.uses))
@@ -73,17 +82,35 @@ pub unbound : (held : Option Files) (text : List ℕ) (scene : SceneValue) (shad
 unbound None text scene shaders r is names read because = tt
 unbound (Some files) text scene shaders r is names read because =
     subst (λ q. Because r (cause_in q)) (sym (shaders_read files text scene shaders is names read))
-    (because_unless r (uses_refused files scene.uses) (Ok (accepted_with files scene)) (because files read))
+    (because_unless r (uses_refused files scene.uses) (unless (prims_refused (set_of files scene.uses) scene.frames) (Ok (accepted_with files scene))) (because files read))
+
+-- by the shaders that are read, the same primitive is the first whose variables don't fit
+prims_same : (files : Files) (scene : SceneValue) (shaders : UsedShaders) → map name_of shaders.read ≡ shader_names scene.uses → All (IsReadOf files) shaders.read → ArePlaced scene.uses shaders
+    → frames_refused (map tree_read shaders.read) shaders.of_use scene.frames ≡ prims_refused (set_of files scene.uses) scene.frames
+prims_same files scene shaders names read placed = ap (λ s. prims_refused s scene.frames) (set_same files scene.uses shaders read names placed)
+
+-- a primitive is refused for its variables
+pub unfit : (held : Option Files) (text : List ℕ) (scene : SceneValue) (shaders : UsedShaders) (r : Refusal)
+    → scene_of_text text ≡ Ok scene → map name_of shaders.read ≡ shader_names scene.uses → AllRead held shaders.read → ArePlaced scene.uses shaders
+    → ((files : Files) → All (IsReadOf files) shaders.read → uses_refused files scene.uses ≡ None)
+    → Because r (frames_refused (map tree_read shaders.read) shaders.of_use scene.frames)
+    → Told held (λ files. Because r (cause_in (accepted files text)))
+unfit None text scene shaders r is names read placed fits because = tt
+unfit (Some files) text scene shaders r is names read placed fits because =
+    subst (λ q. Because r (cause_in q)) (sym (requests_fit files text scene shaders.read is names read (fits files read)))
+    (because_unless r (prims_refused (set_of files scene.uses) scene.frames) (Ok (accepted_with files scene)) (subst (λ o. Because r o) (prims_same files scene shaders names read placed) because))
 
 pub bound : (held : Option Files) (text : List ℕ) (scene : SceneValue) (shaders : UsedShaders) (a : Accepted)
     → scene_of_text text ≡ Ok scene → map name_of shaders.read ≡ shader_names scene.uses → AllRead held shaders.read → ArePlaced scene.uses shaders
     → ((files : Files) → All (IsReadOf files) shaders.read → uses_refused files scene.uses ≡ None)
+    → frames_refused (map tree_read shaders.read) shaders.of_use scene.frames ≡ None
     → a.scene ≡ scene → set_value a.set ≡ set_read shaders scene.uses
     → Told held (λ files. accepted files text ≡ Ok (accepted_in a))
-bound None text scene shaders a is names read placed fits same set = tt
-bound (Some files) text scene shaders a is names read placed fits same set =
+bound None text scene shaders a is names read placed fits prims same set = tt
+bound (Some files) text scene shaders a is names read placed fits prims same set =
     let whole : accepted_in a ≡ accepted_with files scene = rw (same, set, set_same files scene.uses shaders read names placed) refl in
-    shaders_read files text scene shaders.read is names read ∙ ap (λ o. unless o (Ok (accepted_with files scene))) (fits files read)
+    requests_fit files text scene shaders.read is names read (fits files read)
+    ∙ ap (λ o. unless o (Ok (accepted_with files scene))) (sym (prims_same files scene shaders names read placed) ∙ prims)
     ∙ ap (λ v. Ok v) (sym whole)
 
 -- the scene's file alone is asked for

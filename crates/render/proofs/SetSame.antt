@@ -24,7 +24,7 @@ abbrev pub Once : List (List ℕ) → Type 0
 Once [] = Unit {0}
 Once (n ∷ ns) = (is_among n ns ≡ false) × Once ns
 
-or_false : (a b : Bool) → (a || b) ≡ false → (a ≡ false) × (b ≡ false)
+pub or_false : (a b : Bool) → (a || b) ≡ false → (a ≡ false) × (b ≡ false)
 or_false true b e = absurd (cc e)
 or_false false b e = (refl, e)
 
@@ -106,7 +106,7 @@ there [] k name e = absurd (cc e)
 there (s ∷ ss) zero name e = (s, refl, cc e)
 there (s ∷ ss) (suc k) name e = there ss k name e
 
-each_there : {A : Type 0} (P : A → Type 0) (xs : List A) (k : ℕ) (x : A) → All P xs → slice_get xs k ≡ Some x → P x
+pub each_there : {A : Type 0} (P : A → Type 0) (xs : List A) (k : ℕ) (x : A) → All P xs → slice_get xs k ≡ Some x → P x
 each_there P [] k x all e = absurd (cc e)
 each_there P (y ∷ ys) zero x all e = let same : y ≡ x = cc e in subst P same (All-head P y ys all)
 each_there P (y ∷ ys) (suc k) x all e = each_there P ys k x (All-tail P y ys all) e

@@ -6,11 +6,13 @@ pub mod Notes
 pub mod Pictures
 pub mod Shaders
 pub mod Bindings
+pub mod PrimBindings
 pub mod Bound
 pub mod Set
 pub mod Shopped
 pub mod Summary
 pub mod Verdict
+pub mod Stocked
 pub mod Run
 pub mod Answers
 pub mod Reading

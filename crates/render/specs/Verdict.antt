@@ -17,7 +17,8 @@ use Rattle.render.specs.Codes.{status_of_code, of_lex, of_request, of_state}
 use Rattle.render.specs.Command.{Source, File, Demo, Command, command_of}
 use Rattle.render.specs.Shaders.{shader_names, shaders_refused, shaders_asked}
 use Rattle.render.specs.Bindings.{uses_refused}
-use Rattle.render.specs.Set.{AcceptedValue, accepted_with}
+use Rattle.render.specs.PrimBindings.{prims_refused}
+use Rattle.render.specs.Set.{AcceptedValue, set_of, accepted_with}
 use Rattle.render.specs.Pictures.{frames_of}
 
 -- the most bytes of a scene file
@@ -45,9 +46,13 @@ scene_of_tokens (Err (code, line)) = Err (At Scene line (of_lex code))
 unfoldable pub scene_of_text : List ℕ → Reads SceneValue
 scene_of_text text = scene_of_tokens (tokens.tokens_of text)
 
--- a scene is accepted where its shaders are right, by first use, and then the parameters of its shader requests
+-- a scene is accepted where its shaders are right, by first use, and then the parameters of its shader requests, and then the variables of
+-- its primitives
+abbrev pub bound_scene : Files → SceneValue → Reads AcceptedValue
+bound_scene files scene = unless (uses_refused files scene.uses) (unless (prims_refused (set_of files scene.uses) scene.frames) (Ok (accepted_with files scene)))
+
 abbrev pub accepted_scene : Files → Reads SceneValue → Reads AcceptedValue
-accepted_scene files (Ok scene) = unless (shaders_refused files (shader_names scene.uses)) (unless (uses_refused files scene.uses) (Ok (accepted_with files scene)))
+accepted_scene files (Ok scene) = unless (shaders_refused files (shader_names scene.uses)) (bound_scene files scene)
 accepted_scene files (Err cause) = Err cause
 
 -- the accepted scene of a text with its shaders, over the files that are held

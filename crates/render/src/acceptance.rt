@@ -9,6 +9,7 @@ ghost use Rattle.render.specs.Verdict.{scene_of_state, scene_of_requests, scene_
 ghost use Rattle.outside.specs.Library.{Files};
 ghost use Rattle.render.specs.Shaders.{shader_names, shaders_asked};
 ghost use Rattle.render.specs.Bindings.{uses_refused};
+ghost use Rattle.render.specs.PrimBindings.{FitPrims};
 ghost use Rattle.displace_shade.specs.Sets.{Fits, FitUses};
 ghost use Rattle.displace_shade.specs.Shop.{set_value};
 ghost use Rattle.render.specs.Reading.{IsReadOf, ReadsShaders, ArePlaced, name_of, tree_read, tree_compiled, all_values};
@@ -21,6 +22,7 @@ use crate::code::{of_lex, of_request, of_state};
 use crate::read::ReadShader;
 use crate::refusal::{Refusal, in_scene};
 use crate::shaders::{UsedShaders, read_shaders};
+use crate::variables::check_variables;
 use displace_shade::ShaderSet;
 use fixed_math::{List, NoMemory};
 use mask_codegen::{CodeFault, Compiled, compile};
@@ -144,14 +146,15 @@ fn set_of(
 
 /// The accepted scene of a text of at most 16,777,216 bytes with its shaders, which are asked of the library by first use, each
 /// once: the file `x.sl` of the shader x, or the stock's text where there is no such file. Or the first fault: of the scene, of its
-/// shaders by first use, then of the parameters of its shader requests (RenderMan Interface 3.2, section 11.3.3). The set of
-/// shaders fits the scene, which has at most 1,000 frames.
+/// shaders by first use, then of the parameters of its shader requests (RenderMan Interface 3.2, section 11.3.3), then of the
+/// variables of its primitives. The set of shaders fits the scene, which has at most 1,000 frames, and so do the variables fit it.
 pub fn accept<L: Library>(alloc: Global, text: &[u8], library: &mut L) -> Result<Accepted, Refusal>
     requires { length text.now ≤ 16777216 }
     ensures held { L.held library.new ≡ L.held library.old }
     ensures asked { Told (L.held library.old) (λ files. AsksFront (asked_for_scene files (scene_of_text text.now)) (L.asked library.old) (L.asked library.new)) }
     ensures gives { Told (L.held library.old) (λ files. Gives accepted_in result (accepted files text.now)) }
     ensures fits { IfOk result (λ a. Fits (set_value a.set) a.scene.uses) }
+    ensures variables { IfOk result (λ a. FitPrims (set_value a.set) a.scene.uses a.scene.frames) }
     ensures few { IfOk result (λ a. length a.scene.frames ≤ 1000) }
     ensures later { L.faults library.old ≤ L.faults library.new }
     ensures read { IsErrOf result ReadFault → Rose (L.faults library.old) (L.faults library.new) }
@@ -159,6 +162,7 @@ pub fn accept<L: Library>(alloc: Global, text: &[u8], library: &mut L) -> Result
     let scene = read_scene(alloc, text)?;
     let shaders = read_used(alloc, library, &scene)?;
     let bound = bind_used(alloc, &scene, &shaders)?;
+    check_variables(&shaders, &scene)?;
     let set = set_of(alloc, shaders, bound)?;
     Ok(Accepted { scene, set })
 }

@@ -26,7 +26,8 @@ use scene_state::{ShaderKind, ShaderUse};
 use sl_ast::{SlKind, SlType, Tree, Value};
 use std::alloc::Global;
 
-fn is_of_type(declared: SlType, kind: Kind) -> bool
+// Whether a value of that kind is one of the declared type; points, vectors and normals are told apart.
+pub(crate) fn is_of_type(declared: SlType, kind: Kind) -> bool
     ensures { result ≡ spec.is_of_type declared kind }
 {
     match (declared, kind) {

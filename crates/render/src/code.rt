@@ -69,7 +69,7 @@ pub enum Code {
     T11,
     /// A parameter of a shader request that the shader doesn't declare.
     B1,
-    /// A parameter of another kind than the shader declares.
+    /// A value for a parameter of another kind than the shader declares; or a primitive's, which varies where the parameter is uniform.
     B2,
     /// A shader of another kind than the request's.
     B3,

@@ -1,8 +1,9 @@
 // The picture of a frame: the micropolygons of its primitives, leaf by leaf, hidden in one tile that has all its samples.
-ghost use Rattle.std.specs.Prelude.{◌≡◌, ◌≤◌, ◌<◌, ◌+◌, ◌*◌, ◌^◌, ◌++◌, ◌∷◌, [], Some, length, map, IfOk, OnOk, IfSome, MatchOption, slice_get};
+ghost use Rattle.std.specs.Prelude.{◌≡◌, ◌≤◌, ◌<◌, ◌+◌, ◌*◌, ◌^◌, ◌++◌, ◌∷◌, [], Some, All, length, map, IfOk, OnOk, IfSome, MatchOption, slice_get};
 ghost use Rattle.bound_split.specs.Leaves.{pending};
 ghost use Rattle.bound_split.specs.declared.splits.Decision.TheVariants.{Dice};
 ghost use Rattle.displace_shade.specs.Sets.{Fits};
+ghost use Rattle.displace_shade.specs.Bindings.{FitsPrim};
 ghost use Rattle.displace_shade.specs.Shop.{set_value};
 ghost use Rattle.displace_shade.specs.Diced.{grid_value};
 ghost use Rattle.hider.specs.Cells.{still};
@@ -60,6 +61,7 @@ fn hide_leaf(
     tile: &mut Tile,
 ) -> Result<(), NoMemory>
     requires fits { Fits (set_value shop.old.set) shown.now.scene.now.uses }
+    requires variables { FitsPrim (set_value shop.old.set) shown.now.scene.now.uses prim.now }
     requires there { slice_get shown.now.frame.now.prims leaf.now.piece.prim ≡ Some prim.now }
     requires sizes { decide shown.now.frame.now.camera prim.now leaf.now.piece ≡ Dice leaf.now.p leaf.now.q }
     requires p { leaf.now.p ≤ 4 }
@@ -103,6 +105,7 @@ fn hide_prim(
     tile: &mut Tile,
 ) -> Result<(), NoMemory>
     requires fits { Fits (set_value shop.old.set) shown.now.scene.now.uses }
+    requires variables { FitsPrim (set_value shop.old.set) shown.now.scene.now.uses prim.now }
     requires there { slice_get shown.now.frame.now.prims number ≡ Some prim.now }
     requires count { shop.old.count + 65536 ≤ 2 ^ 62 }
     ensures grid { tile.new.grid ≡ tile.old.grid }
@@ -142,6 +145,7 @@ fn new_tile(alloc: Global, frame: &Frame) -> Result<Tile, NoMemory>
 // A tile in which all primitives of a frame are hidden.
 fn tile_in(alloc: Global, shop: &mut Shop, shown: &FrameIn<'_>) -> Result<Tile, NoMemory>
     requires fits { Fits (set_value shop.old.set) shown.now.scene.now.uses }
+    requires variables { All (FitsPrim (set_value shop.old.set) shown.now.scene.now.uses) shown.now.frame.now.prims }
     requires count { shop.old.count + 2 ^ 32 ≤ 2 ^ 62 }
     ensures grid { IfOk result (λ tile. tile.grid ≡ frame_grid shown.now.frame.now.camera.width shown.now.frame.now.camera.height shown.now.frame.now.options) }
     ensures shows { IfOk result (λ tile. Shows tile (fragments shown.now.frame.now.camera (micropolygons (shaded_by shown.now.scene.now shop.old) shown.now.frame.now))) }
@@ -186,6 +190,7 @@ fn picture(alloc: Global, frame: &Frame, tile: Tile, shadings: u64) -> Result<Dr
 /// The picture of a frame, shaded by the shop's set.
 pub(crate) fn draw(alloc: Global, shop: &mut Shop, shown: &FrameIn<'_>) -> Result<Drawn, NoMemory>
     requires fits { Fits (set_value shop.old.set) shown.now.scene.now.uses }
+    requires variables { All (FitsPrim (set_value shop.old.set) shown.now.scene.now.uses) shown.now.frame.now.prims }
     requires count { shop.old.count + 2 ^ 32 ≤ 2 ^ 62 }
     ensures shadings { IfOk result (λ d. d.shadings ≡ length (frame_leaves shown.now.frame.now)) }
     ensures picture { IfOk result (λ d. d.header.items ++ d.band.items ≡ picture_bytes (shaded_by shown.now.scene.now shop.old) shown.now.frame.now) }

@@ -5,6 +5,7 @@ ghost use Rattle.outside.specs.Library.{Files, held_as};
 ghost use Rattle.outside.specs.Asked.{AsksAll, AsksFront};
 ghost use Rattle.render.specs.Verdict.{text_of_held, text_of_source, names_of_source, verdict_of_command, asked_for_command};
 ghost use Rattle.displace_shade.specs.Sets.{Fits};
+ghost use Rattle.render.specs.PrimBindings.{FitPrims};
 ghost use Rattle.displace_shade.specs.Shop.{set_value};
 ghost use Rattle.render.specs.Command.{source_view, command_view};
 ghost use Rattle.render.specs.Notes.{scene_name};
@@ -77,6 +78,7 @@ pub(crate) fn load<L: Library>(
     ensures asked { Told (L.held library.old) (λ files. AsksFront (asked_for_command (Some (command_view command.now)) files) (L.asked library.old) (L.asked library.new)) }
     ensures loads { Told (L.held library.old) (λ files. LoadsNamed (scene_name (source_view command.now.source)) command.now.action result (verdict_of_command (Some (command_view command.now)) files)) }
     ensures fits { IfOk result (λ o. IfSome o (λ a. Fits (set_value a.set) a.scene.uses)) }
+    ensures variables { IfOk result (λ o. IfSome o (λ a. FitPrims (set_value a.set) a.scene.uses a.scene.frames)) }
     ensures few { IfOk result (λ o. IfSome o (λ a. length a.scene.frames ≤ 1000)) }
     ensures later { L.faults library.old ≤ L.faults library.new }
     ensures read { IsErrOf result ReadFault → Rose (L.faults library.old) (L.faults library.new) }

@@ -1,9 +1,11 @@
 // Pictures to a sink.
-ghost use Rattle.std.specs.Prelude.{◌≡◌, ◌≢◌, ◌≤◌, ◌+◌, ◌^◌, ◌∷◌, [], ◌++◌, true, false, length, map, option_map, string_bytes, IfOk, OnOk, OnErr, IsErrOf, Err};
+ghost use Rattle.std.specs.Prelude.{◌≡◌, ◌≢◌, ◌≤◌, ◌+◌, ◌^◌, ◌∷◌, [], ◌++◌, true, false, All, length, map, option_map, string_bytes, IfOk, OnOk, OnErr, IsErrOf, Err};
 ghost use Rattle.outside.specs.Causes.{HasCause, Rose};
 ghost use Rattle.outside.specs.Frames.{Adds, AddsPart, AddsFront, whole, PutsAll, PutsFront};
 ghost use Rattle.displace_shade.specs.Sets.{Fits};
+ghost use Rattle.displace_shade.specs.Bindings.{FitsPrim};
 ghost use Rattle.displace_shade.specs.Shop.{set_value};
+ghost use Rattle.render.specs.PrimBindings.{FitPrims};
 ghost use Rattle.render.specs.Pictures.{picture_bytes, picture_of, frames_of};
 ghost use Rattle.render.specs.Summary.{summary_line, summary_of};
 ghost use Rattle.render.specs.Shopped.{shaded_by};
@@ -74,6 +76,7 @@ fn finished(
     stats: bool,
 ) -> Result<(Drawn, Option<String>), NoMemory>
     requires fits { Fits (set_value shop.old.set) shown.now.scene.now.uses }
+    requires variables { All (FitsPrim (set_value shop.old.set) shown.now.scene.now.uses) shown.now.frame.now.prims }
     requires count { shop.old.count + 2 ^ 32 ≤ 2 ^ 62 }
     ensures picture { IfOk result (λ d. d.0.header.items ++ d.0.band.items ≡ picture_bytes (shaded_by shown.now.scene.now shop.old) shown.now.frame.now) }
     ensures summary { IfOk result (λ d. option_map string_bytes d.1 ≡ summary_of stats shown.now.frame.now) }
@@ -107,6 +110,7 @@ fn write_frame<O: FrameSink, N: Notes>(
 ) -> Result<(), Stop>
     requires closed { O.is_open sink.old ≡ false }
     requires fits { Fits (set_value shop.old.set) shown.now.scene.now.uses }
+    requires variables { All (FitsPrim (set_value shop.old.set) shown.now.scene.now.uses) shown.now.frame.now.prims }
     requires count { shop.old.count + 2 ^ 32 ≤ 2 ^ 62 }
     ensures closed { result ≢ Err Stopped → O.is_open sink.new ≡ false }
     ensures ok { OnOk result (Adds (whole (picture_of (shaded_by shown.now.scene.now shop.old) shown.now.frame.now) ∷ []) (O.written sink.old) (O.written sink.new)) }
@@ -144,6 +148,7 @@ fn write_frames<O: FrameSink, N: Notes>(
 ) -> Result<(), Stop>
     requires closed { O.is_open sink.old ≡ false }
     requires fits { Fits (set_value shop.old.set) scene.now.uses }
+    requires variables { FitPrims (set_value shop.old.set) scene.now.uses scene.now.frames }
     requires few { length scene.now.frames ≤ 1000 }
     requires count { shop.old.count ≡ 0 }
     ensures closed { result ≢ Err Stopped → O.is_open sink.new ≡ false }
@@ -175,6 +180,7 @@ pub(crate) fn write_pictures<O: FrameSink, N: Notes>(
 ) -> Result<(), Stop>
     requires closed { O.is_open sink.old ≡ false }
     requires fits { Fits (set_value accepted.set) accepted.scene.uses }
+    requires variables { FitPrims (set_value accepted.set) accepted.scene.uses accepted.scene.frames }
     requires few { length accepted.scene.frames ≤ 1000 }
     ensures closed { result ≢ Err Stopped → O.is_open sink.new ≡ false }
     ensures ok { OnOk result (Adds (map whole (frames_of (accepted_in accepted))) (O.written sink.old) (O.written sink.new)) }

@@ -3,6 +3,7 @@ use Rattle.scene_state.specs.declared.uses.ShaderKind.TheVariants as requested
 use Rattle.displace_shade.specs.Diced.{Hold}
 use Rattle.displace_shade.specs.Shaded.{shaded_by}
 use Rattle.displace_shade.specs.Lamps.{lamp_light}
+use Rattle.displace_shade.specs.Shop.{bound_value}
 use Rattle.displace_shade.proofs.BoundLaws.{if_ok, use_there, of_surface}
 use Rattle.displace_shade.proofs.leaves.coloured.Goals as goal
 
@@ -15,3 +16,6 @@ colour-requires-clause-kind c = of_surface _ (c.bound_at-bound.ensures.kind requ
 pub returns-clause-hold : goal.returns-clause-hold
 returns-clause-hold c =
     if_ok c.colour.result _ _ (λ e h f k. subst (λ o. Hold c.args.leaf.now e (shaded_by c.args.leaf.now o (map (lamp_light c.args.leaf.now) c.args.lamps.now) f)) (sym c.bound_at-bound.ensures.found) (h f k)) c.colour.ensures.hold
+
+pub colour-requires-clause-variables : goal.colour-requires-clause-variables
+colour-requires-clause-variables c = c.requires.variables (bound_value c.bound_at-bound.result) c.bound_at-bound.ensures.found

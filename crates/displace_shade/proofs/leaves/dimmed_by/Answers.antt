@@ -2,6 +2,7 @@ use Rattle.std.proofs.Common.{[], sym, subst}
 use Rattle.scene_state.specs.declared.uses.ShaderKind.TheVariants as requested
 use Rattle.displace_shade.specs.Diced.{Hold}
 use Rattle.displace_shade.specs.Shaded.{shaded_by}
+use Rattle.displace_shade.specs.Shop.{bound_value}
 use Rattle.displace_shade.proofs.BoundLaws.{if_ok, use_there, of_volume}
 use Rattle.displace_shade.proofs.leaves.dimmed_by.Goals as goal
 
@@ -14,3 +15,6 @@ dim-requires-clause-kind c = of_volume _ (c.bound_at-bound.ensures.kind requeste
 pub returns-clause-hold : goal.returns-clause-hold
 returns-clause-hold c =
     if_ok c.dim.result _ _ (λ e h f k. subst (λ o. Hold c.args.leaf.now e (shaded_by c.args.leaf.now o [] f)) (sym c.bound_at-bound.ensures.found) (h f k)) c.dim.ensures.hold
+
+pub dim-requires-clause-variables : goal.dim-requires-clause-variables
+dim-requires-clause-variables c = c.requires.variables (bound_value c.bound_at-bound.result) c.bound_at-bound.ensures.found

@@ -2,6 +2,7 @@ use Rattle.std.proofs.Common.{[], sym, subst}
 use Rattle.scene_state.specs.declared.uses.ShaderKind.TheVariants as requested
 use Rattle.displace_shade.specs.Diced.{Hold}
 use Rattle.displace_shade.specs.Shaded.{shaded_by}
+use Rattle.displace_shade.specs.Shop.{bound_value}
 use Rattle.displace_shade.proofs.BoundLaws.{if_ok, use_there, of_displacement}
 use Rattle.displace_shade.proofs.leaves.displaced_by.Goals as goal
 
@@ -14,3 +15,6 @@ displace-requires-clause-kind c = of_displacement _ (c.bound_at-bound.ensures.ki
 pub returns-clause-hold : goal.returns-clause-hold
 returns-clause-hold c =
     if_ok c.displace.result _ _ (λ e h f k. subst (λ o. Hold c.args.leaf.now e (shaded_by c.args.leaf.now o [] f)) (sym c.bound_at-bound.ensures.found) (h f k)) c.displace.ensures.hold
+
+pub displace-requires-clause-variables : goal.displace-requires-clause-variables
+displace-requires-clause-variables c = c.requires.variables (bound_value c.bound_at-bound.result) c.bound_at-bound.ensures.found

@@ -2,37 +2,39 @@ use Rattle.std.proofs.Common.{[], map, sym, ap, subst, ◌∙◌}
 use Rattle.scene_state.specs.Scene.{IsUse, IsSomeUse}
 use Rattle.scene_state.specs.declared.uses.ShaderKind.TheVariants as requested
 use Rattle.displace_shade.specs.Diced.{Hold}
-use Rattle.displace_shade.specs.Points.{diced_names}
+use Rattle.displace_shade.specs.Variables.{diced_names}
 use Rattle.displace_shade.specs.Shaded.{bound_at, bound_for, lights_from, shaded_by, displaced}
+use Rattle.displace_shade.specs.Bindings.{FitUseVariables, FitSomeVariables}
 use Rattle.displace_shade.specs.Lamps.{lamp_light}
 use Rattle.displace_shade.specs.Shop.{set_value}
 use Rattle.displace_shade.proofs.Dicing.{first_hold, first_places, first_sized}
 use Rattle.displace_shade.proofs.Stages.{placed_hold, near_sized, grid_is}
 use Rattle.displace_shade.proofs.leaves.shaded_leaf.Goals as goal
 
+pub geometric_normals-requires : goal.geometric_normals-requires
+geometric_normals-requires c = c.in_ok-bare.ensures.normals
+
+pub first_variables-requires : goal.first_variables-requires
+first_variables-requires c = c.in_ok-geometric.ensures
+
 pub displaced-requires-clause-places : goal.displaced-requires-clause-places
-displaced-requires-clause-places c =
-    let d = c.in_ok-first.ensures in
-    let f = c.in_ok-places.ensures in
-    first_places c.args.leaf.now c.in_ok-places.places (f.normals ∙ d.normals) f.u f.v f.dpdu f.dpdv
+displaced-requires-clause-places c = let f = c.in_ok-places.ensures in first_places c.args.leaf.now c.in_ok-places.places (f.normals ∙ c.in_ok-geometric.ensures) f.u f.v f.s f.t f.cs f.os f.dpdu f.dpdv
 
 pub displaced-requires-clause-sized : goal.displaced-requires-clause-sized
-displaced-requires-clause-sized c = let d = c.in_ok-first.ensures in first_sized c.args.leaf.now c.in_ok-first.first d.points d.normals d.sights
+displaced-requires-clause-sized c = let d = c.in_ok-first.ensures in let b = c.in_ok-bare.ensures in first_sized c.args.leaf.now c.in_ok-first.first c.in_ok-bare.bare.p.now b.points d.points d.normals d.sights
 
 pub kept_near-requires-clause-old : goal.kept_near-requires-clause-old
-kept_near-requires-clause-old c = let d = c.in_ok-first.ensures in first_sized c.args.leaf.now c.in_ok-first.first d.points d.normals d.sights
+kept_near-requires-clause-old c = let d = c.in_ok-first.ensures in let b = c.in_ok-bare.ensures in first_sized c.args.leaf.now c.in_ok-first.first c.in_ok-bare.bare.p.now b.points d.points d.normals d.sights
 
 pub coloured-requires-clause-places : goal.coloured-requires-clause-places
-coloured-requires-clause-places c =
-    let d = c.in_ok-first.ensures in
-    let f = c.in_ok-places.ensures in
-    first_places c.args.leaf.now c.in_ok-places.places (f.normals ∙ d.normals) f.u f.v f.dpdu f.dpdv
+coloured-requires-clause-places c = let f = c.in_ok-places.ensures in first_places c.args.leaf.now c.in_ok-places.places (f.normals ∙ c.in_ok-geometric.ensures) f.u f.v f.s f.t f.cs f.os f.dpdu f.dpdv
 
 pub coloured-requires-clause-sized : goal.coloured-requires-clause-sized
 coloured-requires-clause-sized c =
     let d = c.in_ok-first.ensures in
+    let b = c.in_ok-bare.ensures in
     let n = c.in_ok-near.ensures in
-    near_sized c.args.leaf.now c.in_ok-first.first c.in_ok-free.free c.in_ok-near.near (first_sized c.args.leaf.now c.in_ok-first.first d.points d.normals d.sights) c.in_ok-free.ensures.sized n.points n.sights n.normals
+    near_sized c.args.leaf.now c.in_ok-first.first c.in_ok-free.free c.in_ok-near.near (first_sized c.args.leaf.now c.in_ok-first.first c.in_ok-bare.bare.p.now b.points d.points d.normals d.sights) c.in_ok-free.ensures.sized n.points n.sights n.normals
 
 pub grid_of-requires-clause-points : goal.grid_of-requires-clause-points
 grid_of-requires-clause-points c = c.in_ok-last.ensures.sized.points
@@ -52,8 +54,9 @@ returns c =
     let n = c.in_ok-near.ensures in
     let g = c.in_ok-grid.ensures in
     let lights = lights_from l s uses l.prim.lights in
-    let sized = first_sized l c.in_ok-first.first d.points d.normals d.sights in
-    let before = first_hold l c.in_ok-first.first d.points d.normals d.sights d.colours d.opacities in
+    let b = c.in_ok-bare.ensures in
+    let sized = first_sized l c.in_ok-first.first c.in_ok-bare.bare.p.now b.points d.points d.normals d.sights in
+    let before = first_hold l c.in_ok-first.first c.in_ok-bare.bare.p.now b.points d.points d.normals d.sights d.colours d.opacities in
     let free = subst (λ n. Hold l c.in_ok-free.free (shaded_by l (bound_for s uses n) [] (diced_names l))) c.displacement.ensures (c.in_ok-free.ensures.hold (diced_names l) before) in
     let near = placed_hold l c.in_ok-first.first c.in_ok-free.free c.in_ok-near.near (diced_names l) (shaded_by l (bound_for s uses l.prim.displacement) [] (diced_names l)) before free sized.points n.points n.sights n.normals n.colours n.opacities in
     let lamps = ap (map (lamp_light l)) c.deref.ensures.value ∙ c.in_ok-lamps.ensures.lights in
@@ -74,3 +77,12 @@ dimmed-requires-clause-use_of c = subst (λ n. IsSomeUse c.args.shaders.now.uses
 
 pub lamps_of-requires-clause-use_of : goal.lamps_of-requires-clause-use_of
 lamps_of-requires-clause-use_of c = c.requires.uses.lights
+
+pub displaced-requires-clause-variables : goal.displaced-requires-clause-variables
+displaced-requires-clause-variables c = subst (λ n. FitSomeVariables (set_value c.args.shaders.now.set.now) c.args.shaders.now.uses.now n c.args.leaf.now.prim.vars) (sym c.displacement.ensures) c.requires.variables.displacement
+
+pub coloured-requires-clause-variables : goal.coloured-requires-clause-variables
+coloured-requires-clause-variables c = subst (λ n. FitUseVariables (set_value c.args.shaders.now.set.now) c.args.shaders.now.uses.now n c.args.leaf.now.prim.vars) (sym c.surface.ensures) c.requires.variables.surface
+
+pub dimmed-requires-clause-variables : goal.dimmed-requires-clause-variables
+dimmed-requires-clause-variables c = subst (λ n. FitSomeVariables (set_value c.args.shaders.now.set.now) c.args.shaders.now.uses.now n c.args.leaf.now.prim.vars) (sym c.atmosphere.ensures) c.requires.variables.atmosphere

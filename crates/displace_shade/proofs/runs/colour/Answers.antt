@@ -7,18 +7,26 @@ use Rattle.mask_codegen.specs.Correct.{Answers}
 use Rattle.displace_shade.specs.Lamps.{lamp_light, lamp_asked}
 use Rattle.displace_shade.specs.Points.{columns, rows}
 use Rattle.displace_shade.specs.Rows.{AreRaws}
+use Rattle.displace_shade.specs.Variables.{values_at}
+use Rattle.displace_shade.specs.Given.{param_rows}
 use Rattle.displace_shade.specs.Diced.{point_count, over, triple_in}
 use Rattle.displace_shade.proofs.Over.{over_long}
 use Rattle.displace_shade.proofs.Laws.{surface_law, look_shapes, look_long}
-use Rattle.displace_shade.proofs.BoundLaws.{bound_count, bound_rowable}
+use Rattle.displace_shade.proofs.BoundLaws.{bound_count, bound_names, bound_values, bound_rows}
 use Rattle.displace_shade.proofs.LampLaws.{lamps_answer}
 use Rattle.displace_shade.proofs.runs.colour.Goals as goal
+
+pub surface_given-requires-clause-named : goal.surface_given-requires-clause-named
+surface_given-requires-clause-named c = bound_names c.args.bound.now c.requires.runs
 
 pub surface_given-requires-clause-counted : goal.surface_given-requires-clause-counted
 surface_given-requires-clause-counted c = bound_count c.args.bound.now c.requires.runs
 
-pub surface_values-requires : goal.surface_values-requires
-surface_values-requires c = bound_count c.args.bound.now c.requires.runs
+pub surface_values-requires-clause-named : goal.surface_values-requires-clause-named
+surface_values-requires-clause-named c = bound_names c.args.bound.now c.requires.runs
+
+pub surface_values-requires-clause-counted : goal.surface_values-requires-clause-counted
+surface_values-requires-clause-counted c = bound_count c.args.bound.now c.requires.runs
 
 pub run_on-requires-clause-kind : goal.run_on-requires-clause-kind
 run_on-requires-clause-kind c = ap is_light (c.requires.runs.code.kind ∙ c.requires.kind)
@@ -30,13 +38,13 @@ pub run_on-requires-clause-uniforms : goal.run_on-requires-clause-uniforms
 run_on-requires-clause-uniforms c =
     let b = c.args.bound.now in
     let r = c.requires.runs in
-    look_shapes c.args.leaf.now (tree_of b.compiled.now.tree) b.compiled.now.code b.values.now b.space.now r.code r.values (bound_rowable b r) c.requires.kind c.deref.result.now (c.deref.ensures.value ∙ c.in_ok-uniforms.ensures)
+    look_shapes c.args.leaf.now (tree_of b.compiled.now.tree) b.compiled.now.code b.values.now b.space.now r.code (values_at c.args.leaf.now (tree_of b.compiled.now.tree).params b.values.now) (bound_values b r c.args.leaf.now c.requires.variables) (param_rows c.args.leaf.now (tree_of b.compiled.now.tree).params b.compiled.now.code.params b.values.now) (bound_rows b r c.args.leaf.now c.requires.variables) c.requires.kind c.deref.result.now (c.deref.ensures.value ∙ c.in_ok-uniforms.ensures)
 
 pub run_on-requires-clause-rows : goal.run_on-requires-clause-rows
 run_on-requires-clause-rows c =
     let b = c.args.bound.now in
     let r = c.requires.runs in
-    look_long c.args.leaf.now (tree_of b.compiled.now.tree) b.compiled.now.code b.values.now b.space.now r.code r.values (bound_rowable b r) c.requires.kind c.args.places.now c.args.variables.now c.deref-2.result.now c.requires.places c.requires.sized (c.deref-2.ensures.value ∙ c.in_ok-rows.ensures)
+    look_long c.args.leaf.now (tree_of b.compiled.now.tree) b.compiled.now.code b.values.now b.space.now r.code (values_at c.args.leaf.now (tree_of b.compiled.now.tree).params b.values.now) (bound_values b r c.args.leaf.now c.requires.variables) (param_rows c.args.leaf.now (tree_of b.compiled.now.tree).params b.compiled.now.code.params b.values.now) (bound_rows b r c.args.leaf.now c.requires.variables) c.requires.kind c.args.places.now c.args.variables.now c.deref-2.result.now c.requires.places c.requires.sized (c.deref-2.ensures.value ∙ c.in_ok-rows.ensures)
 
 pub triples_left-requires-clause-small : goal.triples_left-requires-clause-small
 triples_left-requires-clause-small c = subst AreRaws (sym c.deref-3.ensures.value) c.in_ok-out.ensures.small
@@ -61,6 +69,6 @@ returns-clause-hold c =
     let asked = map (lamp_asked ls n) c.args.lamps.now in
     let lights = map (lamp_light c.args.leaf.now) c.args.lamps.now in
     let answers : Answers n asked lights = lamps_answer c.args.leaf.now ls (cells_from c.args.leaf.now.p) (cells_from c.args.leaf.now.q) c.args.lamps.now c.requires.lamps in
-    λ f h. surface_law c.args.leaf.now (tree_of b.compiled.now.tree) b.compiled.now.code b.values.now b.space.now r.code r.values (bound_rowable b r) c.requires.kind c.args.places.now c.args.variables.now _ asked lights c.deref.result.now c.deref-2.result.now c.in_ok-out.out.items
+    λ f h. surface_law c.args.leaf.now (tree_of b.compiled.now.tree) b.compiled.now.code b.values.now b.space.now r.code (values_at c.args.leaf.now (tree_of b.compiled.now.tree).params b.values.now) (bound_values b r c.args.leaf.now c.requires.variables) (param_rows c.args.leaf.now (tree_of b.compiled.now.tree).params b.compiled.now.code.params b.values.now) (bound_rows b r c.args.leaf.now c.requires.variables) c.requires.kind c.args.places.now c.args.variables.now _ asked lights c.deref.result.now c.deref-2.result.now c.in_ok-out.out.items
     answers c.requires.places c.requires.sized (c.deref.ensures.value ∙ c.in_ok-uniforms.ensures) (c.deref-2.ensures.value ∙ c.in_ok-rows.ensures) c.in_ok-out.ensures.values
     (c.in_ok-colours.ensures ∙ ap (λ o. over n (triple_in o (row_length n) 0)) c.deref-3.ensures.value) (c.in_ok-opacities.ensures ∙ ap (λ o. over n (triple_in o (row_length n) 3)) c.deref-4.ensures.value) refl refl refl f h

@@ -1,12 +1,23 @@
-use Rattle.std.proofs.Common.{◌∙◌, List, sym, ap, subst, map}
+use Rattle.std.proofs.Common.{◌≡◌, ◌∙◌, List, sym, ap, subst, map}
+use Rattle.std.specs.Prelude.{slice_get}
+use Rattle.scene_state.specs.Scene.{FrameValue}
 use Rattle.hider.specs.declared.cell.Cell.{Cell}
 use Rattle.hider.specs.Cells.{Micropolygon, still}
 use Rattle.bound_split.specs.declared.splits.Decision.{Decision}
 use Rattle.displace_shade.specs.Shaded.{GridValue}
+use Rattle.displace_shade.specs.Bindings.{FitsPrim}
+use Rattle.displace_shade.specs.Shop.{set_value}
 use Rattle.render.specs.Pictures.{grid_cells, diced_cells, leaf_cells, leaf_micropolygons}
 use Rattle.render.specs.Sampled.{ShowsMore}
 use Rattle.render.specs.Shopped.{shaded_by}
 use Rattle.render.proofs.draw.hide_leaf.Goals as goal
+
+pub shade-requires-clause-variables : goal.shade-requires-clause-variables
+shade-requires-clause-variables c f prim frame there =
+    let shown = c.args.shown.now in
+    let same_frame : shown.frame.now ≡ f = cc (sym shown.there ∙ frame) in
+    let same : c.args.prim.now ≡ prim = cc (sym c.requires.there ∙ ap (λ (g : FrameValue). slice_get g.prims c.args.leaf.now.piece.prim) same_frame ∙ there) in
+    subst (FitsPrim (set_value c.args.shop.now.set) shown.scene.now.uses) same c.requires.variables
 
 pub returns-clause-shows : goal.returns-clause-shows
 unfolding leaf_micropolygons diced_cells

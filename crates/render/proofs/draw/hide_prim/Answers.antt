@@ -3,6 +3,7 @@ use Rattle.std.specs.Prelude.{slice_get}
 use Rattle.patches.specs.Parts.{Part, whole_of}
 use Rattle.bound_split.specs.Leaves.{leaves, pending}
 use Rattle.displace_shade.specs.Sets.{Fits}
+use Rattle.displace_shade.specs.Bindings.{FitsPrim}
 use Rattle.displace_shade.specs.Shop.{set_value}
 use Rattle.displace_shade.specs.declared.set.ShaderSet.{ShaderSet}
 use Rattle.render.specs.Pictures.{decide, leaf_micropolygons, prim_micropolygons}
@@ -31,6 +32,10 @@ loop-leaf-init c =
 pub hide_leaf-requires-clause-fits : goal.hide_leaf-requires-clause-fits
 hide_leaf-requires-clause-fits c =
     subst (λ (s : ShaderSet). Fits (set_value s) c.args.shown.now.scene.now.uses) (sym c.loop-leaf.invariant.set) c.requires.fits
+
+pub hide_leaf-requires-clause-variables : goal.hide_leaf-requires-clause-variables
+hide_leaf-requires-clause-variables c =
+    subst (λ (s : ShaderSet). FitsPrim (set_value s) c.args.shown.now.scene.now.uses c.args.prim.now) (sym c.loop-leaf.invariant.set) c.requires.variables
 
 pub hide_leaf-requires-clause-there : goal.hide_leaf-requires-clause-there
 hide_leaf-requires-clause-there c =

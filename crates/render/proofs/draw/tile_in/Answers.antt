@@ -1,9 +1,11 @@
-use Rattle.std.proofs.Common.{◌≡◌, ◌<◌, Some, take, ap, sym, ◌∙◌, subst, List, length, arith}
+use Rattle.std.proofs.Common.{◌≡◌, ◌<◌, Some, All, take, ap, sym, ◌∙◌, subst, List, length, arith}
 use Rattle.std.specs.Prelude.{slice_get}
 use Rattle.std.proofs.lemmas.List.{take_all}
+use Rattle.std.proofs.lemmas.List.Elements.{All-get_or}
 use Rattle.std.proofs.lemmas.Option.{slice_get-get_or}
 use Rattle.scene_state.specs.Scene.{PrimValue}
 use Rattle.displace_shade.specs.Sets.{Fits}
+use Rattle.displace_shade.specs.Bindings.{FitsPrim}
 use Rattle.displace_shade.specs.Shop.{set_value}
 use Rattle.displace_shade.specs.declared.set.ShaderSet.{ShaderSet}
 use Rattle.render.specs.Shopped.{shaded_by}
@@ -23,6 +25,15 @@ hide_prim-requires-clause-there c =
     let p = c.index-prims-number.result in
     ap (λ (ps : List PrimValue). slice_get ps c.loop-number.number) (sym c.prims_of-prims.ensures.prims)
     ∙ slice_get-get_or c.prims_of-prims.result.now c.loop-number.number p c.loop-number-test.true ∙ ap (λ (q : PrimValue). Some q) (sym c.index-prims-number.is)
+
+pub hide_prim-requires-clause-variables : goal.hide_prim-requires-clause-variables
+hide_prim-requires-clause-variables c =
+    let p = c.index-prims-number.result in
+    let fits : PrimValue → Type 0 = FitsPrim (set_value c.loop-number.shop.set) c.args.shown.now.scene.now.uses in
+    let all : All fits c.prims_of-prims.result.now =
+    subst (λ (ps : List PrimValue). All fits ps) (sym c.prims_of-prims.ensures.prims)
+    (subst (λ (s : ShaderSet). All (FitsPrim (set_value s) c.args.shown.now.scene.now.uses) c.args.shown.now.frame.now.prims) (sym c.loop-number.invariant.set) c.requires.variables) in
+    subst fits (sym c.index-prims-number.is) (All-get_or fits c.prims_of-prims.result.now c.loop-number.number p c.loop-number-test.true all)
 
 pub hide_prim-requires-clause-count : goal.hide_prim-requires-clause-count
 hide_prim-requires-clause-count c =

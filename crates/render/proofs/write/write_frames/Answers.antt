@@ -1,11 +1,14 @@
-use Rattle.std.proofs.Common.{◌<◌, ◌∷◌, [], ◌∙◌, ap, sym, subst, List, length, map, arith}
+use Rattle.std.proofs.Common.{◌<◌, ◌∷◌, [], ◌∙◌, ap, sym, subst, List, All, length, map, arith}
+use Rattle.std.proofs.lemmas.List.Elements.{All-get_or}
 use Rattle.std.specs.Prelude.{OnErr}
 use Rattle.outside.specs.Frames.{whole, Adds, AddsPart, AddsFront}
 use Rattle.outside.proofs.Entries.{adds_front-err, adds-next}
 use Rattle.scene_state.specs.Scene.{FrameValue}
 use Rattle.displace_shade.specs.Sets.{Fits}
+use Rattle.displace_shade.specs.Bindings.{FitsPrim}
 use Rattle.displace_shade.specs.Shop.{set_value}
 use Rattle.displace_shade.specs.declared.set.ShaderSet.{ShaderSet}
+use Rattle.render.specs.PrimBindings.{FitPrims}
 use Rattle.render.specs.Pictures.{picture_of}
 use Rattle.render.specs.Shopped.{shaded_by}
 use Rattle.render.proofs.write.write_frames.Goals as goal
@@ -13,6 +16,16 @@ use Rattle.render.proofs.write.write_frames.Goals as goal
 pub write_frame-requires-clause-fits : goal.write_frame-requires-clause-fits
 write_frame-requires-clause-fits g c =
     subst (λ (s : ShaderSet). Fits (set_value s) c.args.scene.now.uses) (sym c.loop-index.invariant.set) c.requires.fits
+
+pub write_frame-requires-clause-variables : goal.write_frame-requires-clause-variables
+write_frame-requires-clause-variables g c =
+    let fs = c.frames_in-frames.result.now in
+    let f = c.index-frames-index.result in
+    let fit : FrameValue → Type 0 = λ f. All (FitsPrim (set_value c.loop-index.shop.set) c.args.scene.now.uses) f.prims in
+    let all : All fit fs =
+    subst (λ (fs : List FrameValue). All fit fs) (sym c.frames_in-frames.ensures)
+    (subst (λ (s : ShaderSet). FitPrims (set_value s) c.args.scene.now.uses c.args.scene.now.frames) (sym c.loop-index.invariant.set) c.requires.variables) in
+    subst fit (sym c.index-frames-index.is) (All-get_or fit fs c.loop-index.index f c.loop-index-test.true all)
 
 pub write_frame-requires-clause-count : goal.write_frame-requires-clause-count
 write_frame-requires-clause-count g c =

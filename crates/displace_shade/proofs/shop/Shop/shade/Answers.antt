@@ -1,0 +1,25 @@
+use Rattle.std.proofs.Common.{◌≡◌, All, sym, ap, subst, ◌∙◌}
+use Rattle.std.specs.Prelude.{Some, slice_get}
+use Rattle.scene_state.specs.Scene.{HasUses}
+use Rattle.displace_shade.specs.Shaded.{shaded}
+use Rattle.displace_shade.specs.Bindings.{FitsPrim}
+use Rattle.displace_shade.specs.Diced.{grid_value}
+use Rattle.displace_shade.specs.Shop.{set_value, leaf_of}
+use Rattle.displace_shade.proofs.BoundLaws.{some_is}
+use Rattle.displace_shade.proofs.shop.Shop.shade.Goals as goal
+
+pub shaded_piece-requires-clause-variables : goal.shaded_piece-requires-clause-variables
+shaded_piece-requires-clause-variables c = λ prim e. subst (λ us. FitsPrim (set_value c.args.self.now.set) us prim) (sym c.uses_of.ensures) (c.requires.variables c.frame_at-frame.result.now prim c.frame_at-frame.ensures.frame e)
+
+pub shaded_piece-requires-clause-prim : goal.shaded_piece-requires-clause-prim
+shaded_piece-requires-clause-prim c = c.requires.prim c.frame_at-frame.result.now c.frame_at-frame.ensures.frame
+
+pub shaded_piece-requires-clause-uses : goal.shaded_piece-requires-clause-uses
+shaded_piece-requires-clause-uses c = subst (λ us. All (HasUses us) c.frame_at-frame.result.now.prims) (sym c.uses_of.ensures) c.frame_at-frame.ensures.uses
+
+pub returns-clause-grid : goal.returns-clause-grid
+returns-clause-grid c =
+    let x = c.frame_at-frame.result.now in
+    let s = set_value c.args.self.now.set in
+    λ f prim ef ep. subst (λ g. slice_get g.prims c.args.piece.now.prim ≡ Some prim → grid_value c.in_ok-grid.grid ≡ shaded (leaf_of g prim c.args.piece.now c.args.p c.args.q) s c.args.scene.now.uses) (some_is x f (sym c.frame_at-frame.ensures.frame ∙ ef))
+    (λ e. c.in_ok-grid.ensures prim e ∙ ap (λ us. shaded (leaf_of x prim c.args.piece.now c.args.p c.args.q) s us) c.uses_of.ensures) ep

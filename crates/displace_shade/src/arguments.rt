@@ -1,0 +1,215 @@
+// The values of a shader's parameters on a leaf: those of its primitive's variables, else those that are bound to them.
+ghost use Rattle.std.specs.Prelude.{◌≡◌, ◌≤◌, ◌++◌, [], true, length, map, IfOk};
+ghost use Rattle.sl_ast.specs.TreeView.{tree_of};
+ghost use Rattle.sl_ast.specs.TypedView.{local_of};
+ghost use Rattle.displace_shade.specs.Variables.{spread as spread_of, text_of as text_list, bound_variable as bound_of, value_by as value_with, value_at as value_in, value_or as value_else, values_at};
+ghost use Rattle.displace_shade.specs.Rows.{values_of};
+ghost use Rattle.displace_shade.specs.Given.{rows_by, variable_rows, rows_or, param_rows};
+
+use crate::bound::BoundShader;
+use crate::corners::{between, corners_of, is_varying};
+use crate::leaf::Leaf;
+use crate::named::bound_variable;
+use crate::rows::{push_parts, push_triples, push_value};
+use crate::spread::spread;
+use builtins::copied;
+use bumpalo::Bump;
+use fixed_math::{Axis, NoMemory, Num, Text, Vec3};
+use grid_code::Slot;
+use rib_reader::{Kind, Values};
+use scene_state::Variable;
+use sl_ast::{ParamDecl, Value};
+use std::alloc::{Allocator, Global};
+
+fn kind_of(variable: &Variable) -> Kind
+    ensures { result ≡ variable.now.kind }
+{
+    variable.kind
+}
+
+fn held_by(variable: &Variable) -> &Values
+    ensures { result.now ≡ variable.now.values }
+{
+    &variable.values
+}
+
+/// The text of a variable's value, empty where it has none.
+fn text_of(alloc: Global, values: &Values) -> Result<Text, NoMemory>
+    ensures { IfOk result (λ t. t ≡ text_list values.now) }
+{
+    match values {
+        Values::Numbers(_) => Text::from_bytes(alloc, b""),
+        Values::Strings(texts) => match texts.as_slice().first() {
+            Some(text) => text.copied(alloc),
+            None => Text::from_bytes(alloc, b""),
+        },
+    }
+}
+
+/// A variable's value as a shader has it, whose numbers are these at a point.
+fn value_by(alloc: Global, kind: Kind, values: &Values, at: Vec3) -> Result<Value, NoMemory>
+    ensures { IfOk result (λ v. v ≡ value_with kind (text_list values.now) at) }
+{
+    match kind {
+        Kind::Float | Kind::Pair => Ok(Value::Number(at.x)),
+        Kind::Str => Ok(Value::Word(text_of(alloc, values)?)),
+        Kind::Color | Kind::Point | Kind::Vector | Kind::Normal => Ok(Value::Triple(at)),
+    }
+}
+
+/// The numbers of a variable's value at the first point.
+fn first_of(leaf: &Leaf, variable: &Variable) -> Vec3
+    ensures { result ≡ spread_of leaf.now variable.now 0 }
+{
+    let corners = corners_of(false, variable, leaf.object());
+    between(is_varying(variable), &corners, leaf.own_u(0), leaf.own_v(0))
+}
+
+/// A variable's value at the first point.
+fn value_at(alloc: Global, leaf: &Leaf, variable: &Variable) -> Result<Value, NoMemory>
+    ensures { IfOk result (λ v. v ≡ value_in leaf.now variable.now 0) }
+{
+    let value = value_by(
+        alloc,
+        kind_of(variable),
+        held_by(variable),
+        first_of(leaf, variable),
+    )?;
+    Ok(value)
+}
+
+/// A parameter's value at the first point.
+fn value_or(alloc: Global, leaf: &Leaf, name: &Text, value: &Value) -> Result<Value, NoMemory>
+    ensures { IfOk result (λ v. v ≡ value_else leaf.now 0 (bound_of name.now leaf.now.prim.vars) value.now) }
+{
+    match bound_variable(leaf.variables(), name) {
+        None => copied(alloc, value),
+        Some(variable) => value_at(alloc, leaf, variable),
+    }
+}
+
+/// Appends the rows of numbers of that kind at all points.
+fn push_by<A: Allocator>(
+    rows: &mut Vec<Num, A>,
+    kind: Kind,
+    numbers: &[Vec3],
+) -> Result<(), NoMemory>
+    requires { length numbers.now ≤ 289 }
+    ensures { IfOk result (λ _. rows.new.items ≡ rows.old.items ++ rows_by kind numbers.now) }
+{
+    match kind {
+        Kind::Float | Kind::Pair => push_parts(rows, numbers, Axis::X),
+        Kind::Str => Ok(()),
+        Kind::Color | Kind::Point | Kind::Vector | Kind::Normal => push_triples(rows, numbers),
+    }
+}
+
+/// Appends the rows of a variable's value at all points.
+fn push_variable<A: Allocator>(
+    rows: &mut Vec<Num, A>,
+    arena: &Bump,
+    leaf: &Leaf,
+    variable: &Variable,
+) -> Result<(), NoMemory>
+    ensures { IfOk result (λ _. rows.new.items ≡ rows.old.items ++ variable_rows leaf.now variable.now) }
+{
+    let _points = leaf.point_count();
+    let numbers = spread(arena, leaf, variable, false)?;
+    push_by(rows, kind_of(variable), numbers)?;
+    Ok(())
+}
+
+/// Appends the rows of a parameter's value at all points.
+fn push_or<A: Allocator>(
+    rows: &mut Vec<Num, A>,
+    arena: &Bump,
+    leaf: &Leaf,
+    name: &Text,
+    value: &Value,
+) -> Result<(), NoMemory>
+    ensures { IfOk result (λ _. rows.new.items ≡ rows.old.items ++ rows_or leaf.now (bound_of name.now leaf.now.prim.vars) value.now) }
+{
+    match bound_variable(leaf.variables(), name) {
+        None => push_value(rows, value, leaf.point_count()),
+        Some(variable) => push_variable(rows, arena, leaf, variable),
+    }
+}
+
+/// Appends the rows of the parameters that vary.
+fn push_params<A: Allocator>(
+    rows: &mut Vec<Num, A>,
+    arena: &Bump,
+    leaf: &Leaf,
+    names: &[ParamDecl],
+    params: &[Slot],
+    values: &[Value],
+) -> Result<(), NoMemory>
+    requires named { length names.now ≡ length params.now }
+    requires alike { length values.now ≡ length params.now }
+    ensures { IfOk result (λ _. rows.new.items ≡ rows.old.items ++ param_rows leaf.now (map local_of names.now) params.now values.now) }
+{
+    for k in 0..params.len() {
+        if !params[k].uniform {
+            push_or(rows, arena, leaf, &names[k].name, &values[k])?;
+        }
+    }
+    Ok(())
+}
+
+/// The rows of a shader's parameters that vary.
+pub(crate) fn params_given<'a>(
+    arena: &'a Bump,
+    leaf: &Leaf,
+    bound: &BoundShader,
+) -> Result<Vec<Num, &'a Bump>, NoMemory>
+    requires named { length (tree_of bound.now.compiled.now.tree).params ≡ length bound.now.compiled.now.code.params }
+    requires counted { length bound.now.values.now ≡ length bound.now.compiled.now.code.params }
+    ensures { IfOk result (λ rows. rows.items ≡ param_rows leaf.now (tree_of bound.now.compiled.now.tree).params bound.now.compiled.now.code.params bound.now.values.now) }
+{
+    let compiled = bound.compiled;
+    let code = compiled.code();
+    let names = compiled.params();
+    let params = code.params.as_slice();
+    let mut rows = Vec::new(arena);
+    push_params(&mut rows, arena, leaf, names, params, bound.values)?;
+    Ok(rows)
+}
+
+/// The values of the parameters that don't vary.
+fn values_by(
+    alloc: Global,
+    leaf: &Leaf,
+    names: &[ParamDecl],
+    params: &[Slot],
+    values: &[Value],
+) -> Result<Vec<Value>, NoMemory>
+    requires named { length names.now ≡ length params.now }
+    requires alike { length values.now ≡ length params.now }
+    ensures { IfOk result (λ given. given.items ≡ values_of true params.now (values_at leaf.now (map local_of names.now) values.now 0)) }
+{
+    let mut given = Vec::new(alloc);
+    for k in 0..params.len() {
+        if params[k].uniform {
+            given.push(value_or(alloc, leaf, &names[k].name, &values[k])?)?;
+        }
+    }
+    Ok(given)
+}
+
+/// The values of a shader's parameters that don't vary.
+pub(crate) fn uniform_values(
+    alloc: Global,
+    leaf: &Leaf,
+    bound: &BoundShader,
+) -> Result<Vec<Value>, NoMemory>
+    requires named { length (tree_of bound.now.compiled.now.tree).params ≡ length bound.now.compiled.now.code.params }
+    requires counted { length bound.now.values.now ≡ length bound.now.compiled.now.code.params }
+    ensures { IfOk result (λ given. given.items ≡ values_of true bound.now.compiled.now.code.params (values_at leaf.now (tree_of bound.now.compiled.now.tree).params bound.now.values.now 0)) }
+{
+    let compiled = bound.compiled;
+    let code = compiled.code();
+    let names = compiled.params();
+    let params = code.params.as_slice();
+    let given = values_by(alloc, leaf, names, params, bound.values)?;
+    Ok(given)
+}

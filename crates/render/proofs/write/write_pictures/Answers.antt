@@ -1,0 +1,10 @@
+use Rattle.std.proofs.Common.{sym, subst}
+use Rattle.displace_shade.specs.Shop.{set_value}
+use Rattle.displace_shade.specs.declared.set.ShaderSet.{ShaderSet}
+use Rattle.render.specs.PrimBindings.{FitPrims}
+use Rattle.render.proofs.write.write_pictures.Goals as goal
+
+pub write_frames-requires-clause-variables : goal.write_frames-requires-clause-variables
+write_frames-requires-clause-variables g c =
+    let scene = c.args.accepted.scene in
+    subst (λ (s : ShaderSet). FitPrims (set_value s) scene.uses scene.frames) (sym c.new-shop.ensures.set) c.requires.variables
