@@ -6,7 +6,7 @@ use Rattle.std.proofs.Math.ListN.{drop_of_length-le}
 use Rattle.std.proofs.lemmas.Bool.Decides.{nat_tests}
 use Rattle.std.proofs.lemmas.Bool.{false≢true}
 use Rattle.std.proofs.lemmas.List.{append-nil, length-map, length-take-le, length-drop}
-use Rattle.std.proofs.lemmas.List.Elements.{All-filter, All-from_get_or}
+use Rattle.std.proofs.lemmas.List.Elements.{All-filter}
 use Rattle.std.specs.List.{list_all}
 use Rattle.rib_reader.specs.declared.params.Class.{Class}
 use Rattle.rib_reader.specs.declared.params.Class.TheVariants.{Constant, Uniform, Varying, Vertex, FaceVarying}
@@ -20,12 +20,12 @@ use Rattle.rib_reader.specs.Lists.{width, count, is_of_kind, is_points}
 use Rattle.mesh_basis.specs.declared.shape.Shape.{Shape}
 use Rattle.mesh_basis.specs.declared.counts.Counts.{Counts}
 use Rattle.mesh_basis.specs.Counts.{linear_count, cubic_count, count_along, both, counts_of}
-use Rattle.mesh_basis.specs.Polygons.{piece_count, piece_corners}
-use Rattle.scene_state.specs.Faces.{FaceValues, are_places}
+use Rattle.mesh_basis.specs.Polygons.{piece_count}
+use Rattle.scene_state.specs.Faces.{are_places}
 use Rattle.scene_state.specs.Scene.{IsVariable, corners}
 use Rattle.scene_state.specs.declared.piece.Extent.{Extent}
 use Rattle.scene_state.specs.declared.piece.Piece.{Piece}
-use Rattle.scene_state.specs.Variables.{variables_in, values_in, is_counted, are_counted, places_of, varies, items_at, taken, variable_of, IsIn, IsOfKind, IsThere, IsBelow, IsPiece, corners_along, HasSides, mesh_extent, corner_in, mesh_piece, faces_extent, face_piece}
+use Rattle.scene_state.specs.Variables.{variables_in, values_in, is_counted, are_counted, places_of, varies, items_at, taken, variable_of, IsIn, IsOfKind, IsThere, IsBelow, IsPiece, corners_along, HasSides, mesh_extent, corner_in, mesh_piece, face_piece}
 use Rattle.scene_state.proofs.Keeping.{all_none, all_one, all_first, all_then, all_either}
 
 both_true : (a b : Bool) → (a && b) ≡ true → (a ≡ true) × (b ≡ true)

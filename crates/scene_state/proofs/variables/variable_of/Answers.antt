@@ -1,5 +1,4 @@
-use Rattle.std.proofs.Common.{◌≡◌, ◌∙◌, ap, sym, subst, rules, true, ◌*◌, length}
-use Rattle.rib_reader.specs.declared.params.Values.{Values}
+use Rattle.std.proofs.Common.{◌≡◌, ◌∙◌, ap, sym, rules, ◌*◌, length}
 use Rattle.rib_reader.specs.Lists.{count, width, is_of_kind}
 use Rattle.scene_state.specs.Scene.{corners}
 use Rattle.scene_state.proofs.Values.{is_variable}

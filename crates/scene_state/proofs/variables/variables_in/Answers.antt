@@ -1,4 +1,4 @@
-use Rattle.std.proofs.Common.{◌≡◌, ◌∙◌, ap, sym, subst, not, filter, map, All}
+use Rattle.std.proofs.Common.{◌∙◌, ap, sym, subst, not, filter, map, All}
 use Rattle.rib_reader.specs.Lists.{is_points}
 use Rattle.rib_reader.specs.declared.params.Param.{Param}
 use Rattle.rib_reader.specs.Holding.{holding}

@@ -1,4 +1,4 @@
-use Rattle.std.proofs.Common.{◌≡◌, ◌<◌, ◌∙◌, ap, sym, subst, arith, Some, All, length}
+use Rattle.std.proofs.Common.{◌<◌, ◌∙◌, ap, sym, subst, arith, Some, All, length}
 use Rattle.rib_reader.specs.Reading.{plain}
 use Rattle.mesh_basis.specs.Polygons.{piece_of, piece_count}
 use Rattle.scene_state.specs.Variables.{variables_in, face_piece, IsThere}

@@ -1,4 +1,4 @@
-use Rattle.std.proofs.Common.{◌≡◌, ◌∙◌, ap, List, [], ◌∷◌, ◌++◌}
+use Rattle.std.proofs.Common.{◌∙◌, ap, List, [], ◌∷◌, ◌++◌}
 use Rattle.rib_reader.specs.Reading.{plain}
 use Rattle.scene_state.specs.Scene.{PrimValue, VariableValue}
 use Rattle.scene_state.specs.Shaders.{all_placed}

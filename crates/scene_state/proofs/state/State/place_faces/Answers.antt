@@ -1,4 +1,4 @@
-use Rattle.std.proofs.Common.{◌≡◌, ◌∙◌, ap, sym, subst, refl, arith, ◌+◌, ◌-◌, ◌<◌, ◌≤◌, true, length, take, drop, slice_index_or}
+use Rattle.std.proofs.Common.{◌≡◌, ◌∙◌, ap, sym, subst, arith, ◌+◌, ◌-◌, ◌<◌, ◌≤◌, true, length, take, drop, slice_index_or}
 use Rattle.rib_reader.specs.Reading.{plain}
 use Rattle.mesh_basis.specs.Polygons.{piece_count}
 use Rattle.scene_state.specs.Faces.{are_places}
