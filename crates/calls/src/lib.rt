@@ -1,11 +1,20 @@
-//! Tests of what only a call shows: numbers and texts, the memory forms of files, frames and notes, tokens and requests, and
-//! surfaces with their maps, splits and sample places. What a text or a command's words can show is a case of `conformance`.
+//! Tests of what only a call shows: numbers and texts, the memory forms of files, frames and notes, tokens and requests, surfaces
+//! with their maps, splits and sample places, and operations of shaders on values. What a text or a command's words can show is a
+//! case of `conformance`.
 #![tactic(auto)]
 
 #[cfg(test)]
 mod files;
 #[cfg(test)]
 mod numbers;
+#[cfg(test)]
+mod operations;
+#[cfg(test)]
+mod operations_in_spaces;
+#[cfg(test)]
+mod operations_on_numbers;
+#[cfg(test)]
+mod operations_on_triples;
 #[cfg(test)]
 mod scene_text;
 #[cfg(test)]
