@@ -6,6 +6,8 @@
 #[cfg(test)]
 mod files;
 #[cfg(test)]
+mod meshes;
+#[cfg(test)]
 mod numbers;
 #[cfg(test)]
 mod operations;
@@ -19,3 +21,5 @@ mod operations_on_triples;
 mod scene_text;
 #[cfg(test)]
 mod surfaces;
+#[cfg(test)]
+mod texts;

@@ -3,6 +3,7 @@
 // A table is a text for each operation. Its rows, which `;` separates, are the operands, which `,` separates, and behind `=` the
 // value, all as raws: one of a number, three of a triple. The places have negative numbers, zero, halves and both ends of the range.
 // The values were computed from the formulas of docs/SHADING.md by a program that shares nothing with this one.
+use crate::texts::{raw, triple};
 use builtins::applied;
 use fixed_math::{Num, Vec3};
 use sl_ast::{Value, ValueOperation as Op};
@@ -10,21 +11,13 @@ use std::alloc::Global;
 use std::test::Fail;
 use transforms::{Affine, Spaces};
 
-fn raw(word: &str) -> Result<Num, Fail> {
-    let raw: i64 = word.parse()?;
-    Ok(Num::sat(raw as i128))
-}
-
 /// The value of these raws: a number, or a triple.
 pub fn value(cell: &str) -> Result<Value, Fail> {
-    let mut words = cell.split_whitespace();
-    let x = raw(words.next().ok_or("no raw")?)?;
-    let Some(y) = words.next() else {
-        return Ok(Value::Number(x));
-    };
-    let y = raw(y)?;
-    let z = raw(words.next().ok_or("no third raw")?)?;
-    Ok(Value::Triple(Vec3 { x, y, z }))
+    if cell.trim().contains(' ') {
+        Ok(Value::Triple(triple(cell)?))
+    } else {
+        Ok(Value::Number(raw(Some(cell.trim()))?))
+    }
 }
 
 /// The raws of a value, as a table has them; a text has none.
@@ -40,21 +33,13 @@ pub fn written(alloc: Global, value: &Value) -> Result<String, Fail> {
 /// turned over in depth, and shader space is camera space. What is seen lies at depths from one to five.
 pub fn spaces() -> Result<Spaces, Fail> {
     Ok(Spaces {
-        world: Affine::translate(triple(65536, 131072, 196608)),
-        object: Affine::scale(triple(131072, 32768, -65536))?,
+        world: Affine::translate(triple("65536 131072 196608")?),
+        object: Affine::scale(triple("131072 32768 -65536")?)?,
         shader: Affine::identity(),
         near: Num::sat(65536),
         far: Num::sat(327680),
         flip: false,
     })
-}
-
-fn triple(x: i128, y: i128, z: i128) -> Vec3 {
-    Vec3 {
-        x: Num::sat(x),
-        y: Num::sat(y),
-        z: Num::sat(z),
-    }
 }
 
 /// The raws of what an operation gives on these operands.
