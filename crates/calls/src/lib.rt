@@ -6,6 +6,8 @@
 #[cfg(test)]
 mod files;
 #[cfg(test)]
+mod hiding;
+#[cfg(test)]
 mod meshes;
 #[cfg(test)]
 mod numbers;
