@@ -1,12 +1,29 @@
-//! Tests of what only a call shows: numbers and texts, the memory forms of files, frames and notes, tokens and requests, and
-//! surfaces with their maps, splits and sample places. What a text or a command's words can show is a case of `conformance`.
+//! Tests of what only a call shows: numbers and texts, the memory forms of files, frames and notes, tokens and requests, surfaces
+//! with their maps, splits and sample places, meshes and polygons, operations of shaders on values, tiles of samples, filters and
+//! levels. What a text or a command's words can show is a case of `conformance`.
 #![tactic(auto)]
 
 #[cfg(test)]
 mod files;
 #[cfg(test)]
+mod filters;
+#[cfg(test)]
+mod hiding;
+#[cfg(test)]
+mod meshes;
+#[cfg(test)]
 mod numbers;
+#[cfg(test)]
+mod operations;
+#[cfg(test)]
+mod operations_in_spaces;
+#[cfg(test)]
+mod operations_on_numbers;
+#[cfg(test)]
+mod operations_on_triples;
 #[cfg(test)]
 mod scene_text;
 #[cfg(test)]
 mod surfaces;
+#[cfg(test)]
+mod texts;
