@@ -73,7 +73,7 @@ KINDS = {
     "switched": (full('LightSource "a" 1\n' * 64, "Illuminate 1 0 Illuminate 1 1\n"), "-"),
     # blocks and depth
     "blocks_64": (full("", "AttributeBegin\n" * 64 + "AttributeEnd\n" * 64), "-"),
-    "frames_named": (full('Display "' + "a" * (MOST // 2) + '" "file" "rgb"\n', "FrameBegin 1 FrameEnd\n", share=0.502), "-"),
+    "frames_named": (full('Display "' + "a" * (MOST // 2) + '" "file" "rgb"\n', "FrameBegin 1 FrameEnd\n"), "-"),
     "blocks_open": (full("", "AttributeBegin\n"), "kind.rib:65: M1"),
     "brackets": ("[" * MOST, "kind.rib:1: S3"),
     "arrays": (full("Option ", "[1]"), "-"),
