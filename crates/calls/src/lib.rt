@@ -4,6 +4,8 @@
 #![tactic(auto)]
 
 #[cfg(test)]
+mod compiled;
+#[cfg(test)]
 mod differences;
 #[cfg(test)]
 mod files;
