@@ -4,6 +4,10 @@
 #![tactic(auto)]
 
 #[cfg(test)]
+mod compiled;
+#[cfg(test)]
+mod differences;
+#[cfg(test)]
 mod files;
 #[cfg(test)]
 mod filters;
@@ -23,6 +27,10 @@ mod operations_on_numbers;
 mod operations_on_triples;
 #[cfg(test)]
 mod scene_text;
+#[cfg(test)]
+mod shading;
+#[cfg(test)]
+mod sums;
 #[cfg(test)]
 mod surfaces;
 #[cfg(test)]
