@@ -1,6 +1,6 @@
 //! Tests of what only a call shows: numbers and texts, the memory forms of files, frames and notes, tokens and requests, surfaces
-//! with their maps, splits and sample places, meshes and polygons, operations of shaders on values, tiles of samples, filters and
-//! levels. What a text or a command's words can show is a case of `conformance`.
+//! with their maps, splits and sample places, meshes and polygons, operations of shaders on values, shaders at the points of grids,
+//! tiles of samples, filters and levels. What a text or a command's words can show is a case of `conformance`.
 #![tactic(auto)]
 
 #[cfg(test)]
