@@ -35,3 +35,5 @@ mod sums;
 mod surfaces;
 #[cfg(test)]
 mod texts;
+#[cfg(test)]
+mod tour;

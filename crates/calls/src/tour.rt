@@ -1,0 +1,236 @@
+// The numbers of docs/TOUR.md: the scene of examples/tour.rib from its bytes to its pixels. They were computed from the formulas by a
+// program that shares nothing with this one.
+use crate::shading::Texts;
+use crate::texts::written;
+use bound_split::{Walk, halves};
+use bumpalo::Bump;
+use filter_ppm::{Sums, pixel_levels, weight};
+use fixed_math::{Num, Vec3};
+use hider::{Cell, GridCells, Quad, Tile, cells_of_grid, covers, quad_of, sample_at};
+use outside::{MemoryLibrary, MemoryNotes, MemorySink};
+use patches::{Dyadic, Piece, Surface};
+use render::run;
+use rib_lex::{TokenKind, tokens};
+use rib_reader::{Arg, Values, requests};
+use scene_state::Options;
+use std::alloc::Global;
+use std::test::Fail;
+use transforms::Camera;
+
+const SCENE: &[u8] = b"# The scene of docs/TOUR.md
+Format 32 32 1
+PixelSamples 2 2
+PixelFilter \"triangle\" 2 2
+Display \"tour.ppm\" \"file\" \"rgb\"
+Projection \"perspective\" \"fov\" [90]
+WorldBegin
+Translate 0 0 2
+Surface \"fade\"
+Patch \"bilinear\" \"P\" [-2 -2 0  2 -2 0  -2 2 0  2 2 2]
+WorldEnd
+";
+
+const FADE: &[u8] = b"/* Red grows along u, green along v. */
+surface fade() { Ci = color (u, v, 0.25); Oi = 1; }
+";
+
+fn tour() -> Texts<'static> {
+    Texts {
+        scene: SCENE,
+        file: "fade.sl",
+        shader: FADE,
+    }
+}
+
+#[test]
+fn forty_six_tokens(rt: HostRuntime) -> Result<(), Fail> {
+    let tokens = tokens(rt.alloc(), SCENE)?;
+    assert_eq!(rt; tokens.len(), 46);
+    for (token, name, line) in [
+        (tokens.first(), "Format", 2),
+        (tokens.last(), "WorldEnd", 11),
+    ] {
+        let token = token.ok_or("a token")?;
+        assert_eq!(rt; token.line, line);
+        assert!(rt; matches!(&token.kind, TokenKind::Name(it) if it.as_str() == name));
+    }
+    Ok(())
+}
+
+#[test]
+fn ten_requests(rt: HostRuntime) -> Result<(), Fail> {
+    let requests = requests(rt.alloc(), &tokens(rt.alloc(), SCENE)?)?;
+    assert_eq!(rt; requests.len(), 10);
+    let patch = requests.get(8).ok_or("a patch")?;
+    assert!(rt; matches!(patch.args.as_slice(), [Arg::Str(it)] if it.as_str() == "bilinear"));
+    let [points] = patch.params.as_slice() else {
+        return Err("a list")?;
+    };
+    assert!(rt; matches!(&points.values, Values::Numbers(it) if it.len() == 12));
+    Ok(())
+}
+
+#[test]
+fn corners_in_camera_space(rt: HostRuntime) -> Result<(), Fail> {
+    let accepted = tour().accepted(rt.alloc())?;
+    let frame = accepted.scene.frames.as_slice().first().ok_or("a frame")?;
+    let prim = frame.prims.as_slice().first().ok_or("a primitive")?;
+    let mut corners = Vec::new(rt.alloc());
+    for (u, v) in [(0, 0), (4096, 0), (0, 4096), (4096, 4096)] {
+        corners.push(prim.patch.point(Dyadic::new(u), Dyadic::new(v)))?;
+    }
+    assert_eq!(rt;
+        written(rt.alloc(), &corners)?.as_str(),
+        "-131072 -131072 131072, 131072 -131072 131072, -131072 131072 131072, 131072 131072 262144"
+    );
+    Ok(())
+}
+
+#[test]
+fn four_leaves(rt: HostRuntime) -> Result<(), Fail> {
+    let accepted = tour().accepted(rt.alloc())?;
+    let frame = accepted.scene.frames.as_slice().first().ok_or("a frame")?;
+    let prim = frame.prims.as_slice().first().ok_or("a primitive")?;
+    let mut walk = Walk::new(Piece::whole(0));
+    for (i, j) in [(0, 0), (0, 1), (1, 0), (1, 1)] {
+        let leaf = walk
+            .next(&prim.patch, &frame.camera, Num::sat(65536), Num::sat(0))
+            .ok_or("a leaf")?;
+        assert_eq!(rt; (leaf.p, leaf.q, leaf.piece.a, leaf.piece.b), (4, 4, 1, 1));
+        assert_eq!(rt; (leaf.piece.i, leaf.piece.j), (i, j));
+    }
+    let last = walk.next(&prim.patch, &frame.camera, Num::sat(65536), Num::sat(0));
+    assert!(rt; last.is_none());
+    Ok(())
+}
+
+/// The four leaves of the patch.
+fn leaves() -> [Piece; 4] {
+    let [left, right] = halves(&Piece::whole(0), true);
+    let [a, b] = halves(&left, false);
+    let [c, d] = halves(&right, false);
+    [a, b, c, d]
+}
+
+#[test]
+fn the_grid_of_the_first_leaf(rt: HostRuntime) -> Result<(), Fail> {
+    let [first, ..] = leaves();
+    let arena = Bump::new(rt.alloc());
+    let grid = tour().grid(&arena, rt.alloc(), &first, 4, 4)?;
+    assert_eq!(rt; (grid.columns, grid.rows, grid.p.len()), (17, 17, 289));
+    for (n, want) in [
+        (0, "-131072 -131072 131072, 0 0 16384"),
+        (288, "0 0 163840, 32768 32768 16384"),
+        (177, "-73728 -49152 140032, 14336 20480 16384"),
+        (178, "-65536 -49152 141312, 16384 20480 16384"),
+        (195, "-65536 -40960 142336, 16384 22528 16384"),
+        (194, "-73728 -40960 140928, 14336 22528 16384"),
+    ] {
+        let point = *grid.p.get(n).ok_or("a point")?;
+        let colour = *grid.ci.get(n).ok_or("a colour")?;
+        assert_eq!(rt; written(rt.alloc(), &[point, colour])?.as_str(), want);
+    }
+    Ok(())
+}
+
+// The camera and the options of the frame.
+fn look(alloc: Global) -> Result<(Camera, Options), Fail> {
+    let accepted = tour().accepted(alloc)?;
+    let frame = accepted.scene.frames.as_slice().first().ok_or("a frame")?;
+    Ok((frame.camera, frame.options))
+}
+
+// Micropolygon 167 of the first leaf, on the raster.
+fn micropolygon(alloc: Global) -> Result<Quad, Fail> {
+    let [first, ..] = leaves();
+    let arena = Bump::new(alloc);
+    let grid = tour().grid(&arena, alloc, &first, 4, 4)?;
+    let cells = cells_of_grid(alloc, grid.columns, grid.rows, grid.p, grid.ci, grid.oi)?;
+    let cell: &Cell = cells.get(167).ok_or("a micropolygon")?;
+    let (camera, _) = look(alloc)?;
+    Ok(quad_of(&camera, cell, false, false).ok_or("a side")?)
+}
+
+#[test]
+fn a_micropolygon_at_a_sample(rt: HostRuntime) -> Result<(), Fail> {
+    let quad = micropolygon(rt.alloc())?;
+    for (corner, place) in [
+        (&quad.a, (1939, 5533)),
+        (&quad.b, (2196, 5520)),
+        (&quad.c, (2210, 5274)),
+        (&quad.d, (1953, 5286)),
+    ] {
+        assert_eq!(rt; (corner.place.x(), corner.place.y()), place);
+    }
+    let sample = sample_at(8, 20, 2, 2, 2);
+    assert_eq!(rt;
+        (sample.place.x(), sample.place.y(), sample.time),
+        (2051, 5300, 60781)
+    );
+    let fragment = covers(&quad, sample.place).ok_or("a fragment")?;
+    assert_eq!(rt; fragment.depth.raw(), 141403);
+    assert_eq!(rt;
+        written(rt.alloc(), &[fragment.colour])?.as_str(),
+        "14336 20480 16384"
+    );
+    Ok(())
+}
+
+// Hides the grids of the leaves.
+fn hide_all(tile: &mut Tile, alloc: Global, camera: &Camera) -> Result<(), Fail> {
+    for piece in leaves() {
+        let arena = Bump::new(alloc);
+        let grid = tour().grid(&arena, alloc, &piece, 4, 4)?;
+        tile.hide(&GridCells { grid }, camera, false, false)?;
+    }
+    Ok(())
+}
+
+// How many samples count for the pixel (8, 20), the sum of their weights, and the mean of their colours.
+fn pixel(tile: &Tile, options: &Options) -> (u32, i64, Vec3) {
+    let mut sums = Sums::new();
+    let (mut count, mut total): (u32, i64) = (0, 0);
+    for n in 0..tile.samples() {
+        let [x, y] = tile.at(n);
+        let weight = weight(options, x.saturating_sub(2176), y.saturating_sub(5248));
+        if weight.raw() != 0 && count < 1000 {
+            count += 1;
+            total = total.saturating_add(weight.raw());
+            sums.add(weight, tile.colour(n));
+        }
+    }
+    (count, total, sums.mean())
+}
+
+#[test]
+fn a_pixel(rt: HostRuntime) -> Result<(), Fail> {
+    let (camera, options) = look(rt.alloc())?;
+    let mut tile = Tile::new(rt.alloc(), [7, 19, 10, 22], 2, 2)?;
+    hide_all(&mut tile, rt.alloc(), &camera)?;
+    let (count, total, mean) = pixel(&tile, &options);
+    assert_eq!(rt; (count, total), (16, 223518));
+    assert_eq!(rt; written(rt.alloc(), &[mean])?.as_str(), "15140 21645 16384");
+    assert_eq!(rt; pixel_levels(&options, mean), [59, 84, 64]);
+    assert_eq!(rt; weight(&options, 2051 - 2176, 5300 - 5248).raw(), 26724);
+    Ok(())
+}
+
+#[test]
+fn bytes_of_the_picture(rt: HostRuntime) -> Result<(), Fail> {
+    let mut library = MemoryLibrary::new(rt.alloc());
+    library.add("tour.rib", SCENE)?;
+    library.add("fade.sl", FADE)?;
+    let mut frames = MemorySink::new(rt.alloc(), 65536, 4096)?;
+    let mut notes = MemoryNotes::new(rt.alloc(), 256)?;
+    let words = ["reyes", "render", "tour.rib"];
+    let status = run(rt.alloc(), &words, &mut library, &mut frames, &mut notes);
+    assert_eq!(rt; status, 0);
+    if frames.entries() != 1 {
+        return Err("one picture")?;
+    }
+    let picture = frames.entry(0).bytes;
+    assert_eq!(rt; picture.len(), 3085);
+    assert_eq!(rt; picture.get(0..13), Some(b"P6\n32 32\n255\n".as_slice()));
+    assert_eq!(rt; picture.get(1957..1960), Some([59, 84, 64].as_slice()));
+    Ok(())
+}
