@@ -1,6 +1,7 @@
 //! Tests of what only a call shows: numbers and texts, the memory forms of files, frames and notes, tokens and requests, surfaces
 //! with their maps, splits and sample places, meshes and polygons, operations of shaders on values, shaders at the points of grids,
-//! tiles of samples, filters and levels. What a text or a command's words can show is a case of `conformance`.
+//! tiles of samples, filters and levels, and the top call over a library or a sink that fails. What a text or a command's words can
+//! show is a case of `conformance`.
 #![tactic(auto)]
 
 #[cfg(test)]
@@ -25,6 +26,8 @@ mod operations_in_spaces;
 mod operations_on_numbers;
 #[cfg(test)]
 mod operations_on_triples;
+#[cfg(test)]
+mod program;
 #[cfg(test)]
 mod scene_text;
 #[cfg(test)]
