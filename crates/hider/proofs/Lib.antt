@@ -1,7 +1,6 @@
 pub mod Small
 pub mod Threes
 pub mod Between
-pub mod Places
 pub mod Cuts
 pub mod Orders
 pub mod Grids

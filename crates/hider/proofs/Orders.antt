@@ -9,10 +9,7 @@ use Rattle.std.proofs.lemmas.List.{append-nil}
 use Rattle.std.proofs.lemmas.List.Elements.{filter-append, filter_map-append}
 use Rattle.std.proofs.lemmas.List.Sums.{fold-append}
 use Rattle.hider.specs.declared.fragment.Fragment.{Fragment}
-use Rattle.hider.specs.declared.quad.Quad.{Quad}
-use Rattle.fixed_math.specs.Spots.{Spot}
-use Rattle.hider.specs.Coverage.{covers}
-use Rattle.hider.specs.Fragments.{covering_at, fragments_at, put_in, put_some, by_depth, IsSortedFrom, IsSorted, of_depth, IsOrderOf, IsOnlyOrderOf}
+use Rattle.hider.specs.Fragments.{put_in, by_depth, IsSortedFrom, IsSorted, of_depth, IsOrderOf, IsOnlyOrderOf}
 use Rattle.hider.proofs.Cuts.{by_bool}
 
 put_in_sorted_from : (m : ℤ) (f : Fragment) (l : List Fragment) → m ≤ℤ f.depth → IsSortedFrom m l → IsSortedFrom m (put_in f l)
@@ -130,19 +127,3 @@ by_depth_only fs =
       order = o;
       only = λ gs h. one_order gs (by_depth fs) h.sorted o.sorted (λ z. h.kept z ∙ sym (o.kept z));
     }
-
--- one micropolygon more
-pub fragments_at-push : (qs : List Quad) (q : Quad) (s : Spot) → fragments_at (qs ++ q ∷ []) s ≡ put_some (covers q s) (fragments_at qs s)
-unfolding by_depth
-fragments_at-push qs q s =
-    ap (λ l. fold (λ k f. put_in f k) [] l) (filter_map-append (λ r. covers r s) qs (q ∷ []))
-    ∙ fold-append (λ k f. put_in f k) [] (covering_at qs s) (covering_at (q ∷ []) s)
-    ∙ put_last (covers q s)
-  where
-    put_last : (o : Option Fragment) → fold (λ k f. put_in f k) (fold (λ k f. put_in f k) [] (covering_at qs s)) (cons_option o []) ≡ put_some o (fold (λ k f. put_in f k) [] (covering_at qs s))
-    put_last None = refl
-    put_last (Some f) = refl
-
-pub fragments_at-none : (s : Spot) → fragments_at [] s ≡ []
-unfolding by_depth
-fragments_at-none s = refl

@@ -1,14 +1,12 @@
 -- What a sample sees: the fragments of the micropolygons that cover it, in order of depth.
-use Rattle.std.specs.Prelude.{ℕ, ℤ, ◌≤ℤ◌, ◌≡◌, cond, int_le, Option, Some, None, List, [], ◌∷◌, take}
+use Rattle.std.specs.Prelude.{ℤ, ◌≤ℤ◌, ◌≡◌, cond, int_le, Option, Some, None, List, [], ◌∷◌}
 use Rattle.std.specs.List.{fold, filter, filter_map}
 use Rattle.std.specs.Option.{option_and_then}
 use Rattle.std.specs.Ordering.{int_eq}
-use Rattle.fixed_math.specs.Spots.{Spot}
 use Rattle.transforms.specs.declared.view.View.{View}
 use Rattle.hider.specs.Cells.{Micropolygon, seen_at}
 use Rattle.hider.specs.Coverage.{covers}
 use Rattle.hider.specs.declared.fragment.Fragment.{Fragment}
-use Rattle.hider.specs.declared.quad.Quad.{Quad}
 use Rattle.hider.specs.declared.sample.Sample.{Sample}
 
 -- what a micropolygon shows at a sample: what the camera sees of it at the sample's time, where that covers the sample's place
@@ -24,11 +22,6 @@ abbrev pub put_in : Fragment → List Fragment → List Fragment
 put_in f [] = f ∷ []
 put_in f (g ∷ gs) = cond (int_le g.depth f.depth) (g ∷ put_in f gs) (f ∷ g ∷ gs)
 
--- with a fragment more, where there is one
-abbrev pub put_some : Option Fragment → List Fragment → List Fragment
-put_some None l = l
-put_some (Some f) l = put_in f l
-
 -- fragments put in one after another
 abbrev pub put_all : List Fragment → List Fragment → List Fragment
 put_all l fs = fold (λ k f. put_in f k) l fs
@@ -39,19 +32,6 @@ by_depth fs = put_all [] fs
 -- all fragments of a sample, in order of depth, and those of equal depth in the order of the scene
 abbrev pub fragments : View → List Micropolygon → Sample → List Fragment
 fragments v ms s = by_depth (covering v ms s)
-
--- of micropolygons on the raster: the fragments of those that cover a place
-abbrev pub covering_at : List Quad → Spot → List Fragment
-covering_at qs s = filter_map (λ q. covers q s) qs
-
--- those in order of depth
-abbrev pub fragments_at : List Quad → Spot → List Fragment
-fragments_at qs s = by_depth (covering_at qs s)
-
--- l has the fragments of some first of the micropolygons
-pub record IsBegun (qs : List Quad) (s : Spot) (l : List Fragment) : Type 0 where
-  pub count : ℕ
-  pub fragments : l ≡ fragments_at (take count qs) s
 
 -- each fragment is no nearer than the one before it, and the first than m
 abbrev pub IsSortedFrom : ℤ → List Fragment → Type 0

@@ -15,7 +15,7 @@ use std::marker::Model;
 
 /// A micropolygon with the least box that holds its corners. Contracts see it as the micropolygon.
 #[derive(Drop)]
-pub struct BoundedQuad {
+pub(crate) struct BoundedQuad {
     quad: Quad,
     bounds: Bounds,
 }
@@ -30,7 +30,7 @@ impl Model for BoundedQuad {
 
 /// The least box that holds the corners of the micropolygon.
 #[tactic(auto, unfolding(crate::specs::Bounding::bounds_of))]
-pub fn bounds_of(quad: &Quad) -> Bounds
+fn bounds_of(quad: &Quad) -> Bounds
     ensures { result ≡ bounds_of quad.now }
 {
     let [a, b, c, d] = [quad.a.place, quad.b.place, quad.c.place, quad.d.place];
@@ -44,7 +44,7 @@ pub fn bounds_of(quad: &Quad) -> Bounds
 
 impl BoundedQuad {
     /// The micropolygon with its box.
-    pub fn new(quad: Quad) -> BoundedQuad
+    pub(crate) fn new(quad: Quad) -> BoundedQuad
         ensures { result ≡ quad }
     {
         let bounds = bounds_of(&quad);
@@ -52,14 +52,14 @@ impl BoundedQuad {
     }
 
     /// The box.
-    pub fn bounds(&self) -> &Bounds
+    pub(crate) fn bounds(&self) -> &Bounds
         ensures { result.now ≡ bounds_of self.now }
     {
         &self.bounds
     }
 
     /// What the micropolygon shows at the place `s`, where it covers it: `covers`, after a look at the box.
-    pub fn fragment_at(&self, s: Spot) -> Option<Fragment>
+    fn fragment_at(&self, s: Spot) -> Option<Fragment>
         ensures { result ≡ covers self.now s }
     {
         if s.x() < self.bounds.left {

@@ -60,7 +60,7 @@ impl<'a> Cells for GridCells<'a> {
     ghost between = { λ c i k t a hi hk ht. stays_between _ };
 }
 
-/// The law of the cells of a grid: they are the micropolygons of `cells_of_grid`, each of which stays where it is.
+/// The law of the cells of a grid: they are those between its points by rows, each of which stays where it is.
 pub fn grid_cells_law(cells: &GridCells, one_sided: bool, flip: bool)
     ensures { let g = cells.now.grid in micropolygons_of (grid_values g.columns g.rows g.p.now g.ci.now g.oi.now) one_sided flip ≡ map (still one_sided flip) (cells_of g.columns g.rows g.p.now g.ci.now g.oi.now) }
 {}
