@@ -17,7 +17,8 @@ fn same_text(a: &Text, b: &Text) -> bool
     a.is(b)
 }
 
-fn same_triple(a: Vec3, b: Vec3) -> bool
+/// Whether two triples are the same.
+pub fn same_triple(a: Vec3, b: Vec3) -> bool
     ensures { result ≡ spec.same_triple a b }
 {
     a.x.raw() == b.x.raw() && a.y.raw() == b.y.raw() && a.z.raw() == b.z.raw()

@@ -9,8 +9,8 @@ use crate::numbers::{
 use fixed_math::Num;
 use sl_ast::ValueOperation as Op;
 
-/// One part of a value.
-pub(crate) fn part(op: Op, x: Num) -> Num
+/// One part of a value, by an operation that goes part by part.
+pub fn part(op: Op, x: Num) -> Num
     ensures { result ≡ spec.part op x }
 {
     match op {
@@ -24,8 +24,8 @@ pub(crate) fn part(op: Op, x: Num) -> Num
     }
 }
 
-/// One part of two values.
-pub(crate) fn parts(op: Op, x: Num, y: Num) -> Num
+/// One part of two values, by an operation that goes part by part.
+pub fn parts(op: Op, x: Num, y: Num) -> Num
     ensures { result ≡ spec.parts op x y }
 {
     match op {
@@ -40,8 +40,8 @@ pub(crate) fn parts(op: Op, x: Num, y: Num) -> Num
     }
 }
 
-/// One part of three values.
-pub(crate) fn three_parts(op: Op, x: Num, y: Num, z: Num) -> Num
+/// One part of three values, by an operation that goes part by part.
+pub fn three_parts(op: Op, x: Num, y: Num, z: Num) -> Num
     ensures { result ≡ spec.three_parts op x y z }
 {
     match op {
@@ -51,8 +51,8 @@ pub(crate) fn three_parts(op: Op, x: Num, y: Num, z: Num) -> Num
     }
 }
 
-/// A number of a number.
-pub(crate) fn number(op: Op, x: Num) -> Num
+/// A number of a number, by an operation that is a formula of one.
+pub fn number_formula(op: Op, x: Num) -> Num
     ensures { result ≡ spec.number op x }
 {
     match op {
@@ -69,8 +69,8 @@ pub(crate) fn number(op: Op, x: Num) -> Num
     }
 }
 
-/// An order of two numbers.
-pub(crate) fn order(op: Op, x: Num, y: Num) -> bool
+/// Whether two numbers stand in the order of a comparison.
+pub fn order(op: Op, x: Num, y: Num) -> bool
     ensures { result ≡ spec.order op x y }
 {
     match op {

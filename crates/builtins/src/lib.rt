@@ -15,14 +15,17 @@ mod triples;
 mod values;
 
 pub use blended::noise;
+pub use choice::same_triple;
+pub use formulas::{number_formula, order, part, parts, three_parts};
 pub use numbers::{
     abs, ceil, clamp, degrees, exp, floor, inversesqrt, log, max, min, mix, modulo, radians, round,
     sign, smoothstep, step, tan,
 };
+pub use placed::{from_space, image, into_space};
 pub use shape::Shape;
 pub use shapes::{shape_applied, shape_of};
 pub use table::applied;
 pub use triples::{
     comp, cross, depth, distance, dot, faceforward, length, normalize, reflect, xcomp, ycomp, zcomp,
 };
-pub use values::{as_shape, copied, is_true, number, triple, truth};
+pub use values::{as_shape, copied, each_three, each_two, is_true, number, triple, truth};

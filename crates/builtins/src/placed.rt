@@ -23,8 +23,8 @@ fn saturated(x: i64, y: i64, z: i64) -> Vec3
     }
 }
 
-// How the coordinates of a point, a vector or a normal go through a map.
-fn image(kind: SlType, m: &Affine, p: Vec3) -> Vec3
+/// A point, a vector or a normal through a map, put into the range of raws; a value of another type as it is.
+pub fn image(kind: SlType, m: &Affine, p: Vec3) -> Vec3
     ensures { result ≡ spec.image kind m.now p }
 {
     match kind {
@@ -44,7 +44,8 @@ fn image(kind: SlType, m: &Affine, p: Vec3) -> Vec3
     }
 }
 
-fn from_space(kind: SlType, spaces: &Spaces, from: SpaceName, p: Vec3) -> Vec3
+/// A triple of that type that is given in a space, in camera space.
+pub fn from_space(kind: SlType, spaces: &Spaces, from: SpaceName, p: Vec3) -> Vec3
     ensures { result ≡ spec.from_space kind spaces.now from p }
 {
     match from {
@@ -55,7 +56,8 @@ fn from_space(kind: SlType, spaces: &Spaces, from: SpaceName, p: Vec3) -> Vec3
     }
 }
 
-fn into_space(kind: SlType, spaces: &Spaces, into: SpaceName, p: Vec3) -> Vec3
+/// A triple of that type in camera space, in another space.
+pub fn into_space(kind: SlType, spaces: &Spaces, into: SpaceName, p: Vec3) -> Vec3
     ensures { result ≡ spec.into_space kind spaces.now into p }
 {
     match into {

@@ -6,7 +6,7 @@ ghost use Rattle.builtins.specs.declared.shape.Shape.TheVariants as kinds;
 
 use crate::blended::noise;
 use crate::choice::{chosen, is_same};
-use crate::formulas::{number as number_formula, order};
+use crate::formulas::{number_formula, order};
 use crate::numbers::{smoothstep, step};
 use crate::placed::{composed, placed, through};
 use crate::triples::{comp, cross, depth, distance, dot, faceforward, length, normalize, reflect};

@@ -5,9 +5,8 @@ ghost use Rattle.builtins.specs.Triples as triples;
 ghost use Rattle.builtins.specs.Values as spec;
 ghost use Rattle.builtins.specs.Shapes.{shape as shape_of_value};
 ghost use Rattle.builtins.specs.declared.shape.Shape.TheVariants as shapes;
-ghost use Rattle.sl_ast.specs.declared.typed.Value.TheVariants as values;
 
-use crate::formulas;
+use crate::formulas::{part, parts, three_parts};
 use crate::shape::Shape;
 use fixed_math::{NoMemory, Num, Text, Vec3};
 use sl_ast::{Value, ValueOperation};
@@ -96,58 +95,63 @@ pub fn is_true(value: &Value) -> bool
     number(value).raw() != 0
 }
 
+fn each_part(op: ValueOperation, t: Vec3) -> Vec3
+    ensures { result ≡ triples.each (formulas.part op) t }
+{
+    Vec3 {
+        x: part(op, t.x),
+        y: part(op, t.y),
+        z: part(op, t.z),
+    }
+}
+
 pub(crate) fn by_part(op: ValueOperation, v: &Value) -> Value
     ensures { result ≡ spec.by_part (formulas.part op) v.now }
 {
     match v {
-        Value::Number(x) => Value::Number(formulas::part(op, *x)),
-        Value::Triple(_) | Value::Word(_) => {
-            let t = triple(v);
-            Value::Triple(Vec3 {
-                x: formulas::part(op, t.x),
-                y: formulas::part(op, t.y),
-                z: formulas::part(op, t.z),
-            })
-        }
+        Value::Number(x) => Value::Number(part(op, *x)),
+        Value::Triple(_) | Value::Word(_) => Value::Triple(each_part(op, triple(v))),
     }
 }
 
-fn each_two(op: ValueOperation, a: Vec3, b: Vec3) -> Value
-    ensures { result ≡ values.Triple (triples.each_two (formulas.parts op) a b) }
+/// Two triples part by part, by an operation that goes so.
+pub fn each_two(op: ValueOperation, a: Vec3, b: Vec3) -> Vec3
+    ensures { result ≡ triples.each_two (formulas.parts op) a b }
 {
-    Value::Triple(Vec3 {
-        x: formulas::parts(op, a.x, b.x),
-        y: formulas::parts(op, a.y, b.y),
-        z: formulas::parts(op, a.z, b.z),
-    })
+    Vec3 {
+        x: parts(op, a.x, b.x),
+        y: parts(op, a.y, b.y),
+        z: parts(op, a.z, b.z),
+    }
 }
 
 pub(crate) fn by_parts(op: ValueOperation, v: &Value, w: &Value) -> Value
     ensures { result ≡ spec.by_parts (formulas.parts op) v.now w.now }
 {
     match (v, w) {
-        (Value::Number(x), Value::Number(y)) => Value::Number(formulas::parts(op, *x, *y)),
-        _ => each_two(op, triple(v), triple(w)),
+        (Value::Number(x), Value::Number(y)) => Value::Number(parts(op, *x, *y)),
+        _ => Value::Triple(each_two(op, triple(v), triple(w))),
     }
 }
 
-fn each_three(op: ValueOperation, a: Vec3, b: Vec3, c: Vec3) -> Value
-    ensures { result ≡ values.Triple (spec.each_three (formulas.three_parts op) a b c) }
+/// Three triples part by part, by an operation that goes so.
+pub fn each_three(op: ValueOperation, a: Vec3, b: Vec3, c: Vec3) -> Vec3
+    ensures { result ≡ spec.each_three (formulas.three_parts op) a b c }
 {
-    Value::Triple(Vec3 {
-        x: formulas::three_parts(op, a.x, b.x, c.x),
-        y: formulas::three_parts(op, a.y, b.y, c.y),
-        z: formulas::three_parts(op, a.z, b.z, c.z),
-    })
+    Vec3 {
+        x: three_parts(op, a.x, b.x, c.x),
+        y: three_parts(op, a.y, b.y, c.y),
+        z: three_parts(op, a.z, b.z, c.z),
+    }
 }
 
 pub(crate) fn by_three_parts(op: ValueOperation, u: &Value, v: &Value, w: &Value) -> Value
     ensures { result ≡ spec.by_three_parts (formulas.three_parts op) u.now v.now w.now }
 {
     match (u, v, w) {
-        (Value::Number(x), Value::Number(y), Value::Number(z)) => Value::Number(
-            formulas::three_parts(op, *x, *y, *z),
-        ),
-        _ => each_three(op, triple(u), triple(v), triple(w)),
+        (Value::Number(x), Value::Number(y), Value::Number(z)) => Value::Number(three_parts(
+            op, *x, *y, *z,
+        )),
+        _ => Value::Triple(each_three(op, triple(u), triple(v), triple(w))),
     }
 }

@@ -5,7 +5,7 @@ ghost use Rattle.std.specs.Prelude.{◌≡◌};
 use crate::texts::{triple, triples};
 use dice::GridRef;
 use fixed_math::{Num, Vec3};
-use hider::{BoundedQuad, Corner, GridCells, Quad, Spot, Tile, bounds_of, fragments_at};
+use hider::{Corner, GridCells, Quad, Spot, Tile, covers};
 use std::alloc::Global;
 use std::test::Fail;
 use transforms::{Camera, FormFault, View};
@@ -146,24 +146,17 @@ fn square(depth: i128) -> Quad {
 }
 
 #[test]
-fn fragments_by_depth(rt: HostRuntime) -> Result<(), Fail> {
-    let quads = [
-        BoundedQuad::new(square(7)),
-        BoundedQuad::new(square(5)),
-        BoundedQuad::new(square(6)),
-    ];
-    let bounds = bounds_of(&square(7));
-    assert_eq!(rt;
-        (bounds.left, bounds.top, bounds.right, bounds.bottom),
-        (0, 0, 512, 512)
-    );
-    let mut found = Vec::new(rt.alloc());
-    fragments_at(&mut found, &quads, Spot::new(511, 1))?;
-    assert_eq!(rt; found.len(), 3);
-    for (fragment, depth) in found.iter().zip([5, 6, 7]) {
-        assert_eq!(rt; fragment.depth.raw(), depth);
+fn a_square_covers_its_places(rt: HostRuntime) -> Result<(), Fail> {
+    for (x, y, covered) in [
+        (0, 0, true),
+        (511, 1, true),
+        (512, 1, false),
+        (1, 512, false),
+    ] {
+        let fragment = covers(&square(7), Spot::new(x, y));
+        assert_eq!(rt; fragment.is_some(), covered);
     }
-    fragments_at(&mut found, &quads, Spot::new(513, 1))?;
-    assert_eq!(rt; found.len(), 0);
+    let fragment = covers(&square(7), Spot::new(511, 1)).ok_or("a fragment")?;
+    assert_eq!(rt; (fragment.depth.raw(), fragment.colour.y.raw()), (7, 32768));
     Ok(())
 }

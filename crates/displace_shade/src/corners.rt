@@ -1,14 +1,15 @@
 // The values of a primitive's variable at the corners of its patch, in camera space, and between them.
-ghost use Rattle.std.specs.Prelude.{◌≡◌, ◌≤◌, ◌<◌, pos, get_or, [], ◌∷◌};
-ghost use Rattle.builtins.specs.Table.{saturated as saturated_of};
+ghost use Rattle.std.specs.Prelude.{◌≡◌, ◌≤◌, ◌<◌, pos, get_or};
 ghost use Rattle.displace_shade.specs.Variables.{numbers_of as numbers_list, triple_from as triple_of, corner as corner_of, corners_of as corners_list, between as between_of};
 
 use crate::bilinear::point_at;
 use crate::moves::turned;
+use builtins::image;
 use fixed_math::{Num, Vec3};
 use patches::Dyadic;
 use rib_reader::{Kind, Values};
 use scene_state::Variable;
+use sl_ast::SlType;
 use transforms::Affine;
 
 /// The numbers of a variable's value.
@@ -44,18 +45,6 @@ fn triple_from(numbers: &[Num], k: usize) -> Vec3
     }
 }
 
-/// Coordinates put into the range of raws.
-fn saturated(p: [i64; 3]) -> Vec3
-    ensures { result ≡ saturated_of p }
-{
-    let [x, y, z] = p;
-    Vec3 {
-        x: Num::sat(x as i128),
-        y: Num::sat(y as i128),
-        z: Num::sat(z as i128),
-    }
-}
-
 /// The value at corner `k`.
 fn corner(kind: Kind, object: &Affine, numbers: &[Num], k: usize) -> Vec3
     requires { k < 4 }
@@ -72,9 +61,9 @@ fn corner(kind: Kind, object: &Affine, numbers: &[Num], k: usize) -> Vec3
             y: number_at(numbers, 2 * k + 1),
             z: Num::default(),
         },
-        Kind::Point => saturated(object.point(triple_from(numbers, 3 * k))),
-        Kind::Vector => saturated(object.vector(triple_from(numbers, 3 * k))),
-        Kind::Normal => saturated(object.normal(triple_from(numbers, 3 * k))),
+        Kind::Point => image(SlType::Point, object, triple_from(numbers, 3 * k)),
+        Kind::Vector => image(SlType::Vector, object, triple_from(numbers, 3 * k)),
+        Kind::Normal => image(SlType::Normal, object, triple_from(numbers, 3 * k)),
         Kind::Color | Kind::Str => triple_from(numbers, 3 * k),
     }
 }

@@ -47,8 +47,8 @@ pub(crate) fn setter<'s>(variables: &'s [Variable], name: &str) -> Option<&'s Va
     found
 }
 
-/// Whether variables of that name set predefined variables alone.
-fn sets_predefined(name: &Text) -> bool
+/// Whether variables of that name set predefined variables alone, and bind to no parameter.
+pub fn sets_predefined(name: &Text) -> bool
     ensures { result ≡ sets_of name.now }
 {
     is_word(name, "P")

@@ -1,5 +1,5 @@
 // Triples from one space to another, and texts compared.
-ghost use Rattle.std.specs.Prelude.{◌≡◌, ℤ, [], ◌∷◌};
+ghost use Rattle.std.specs.Prelude.{◌≡◌, []};
 ghost use Rattle.std.specs.Str.{bytes_eq};
 ghost use Rattle.builtins.specs.Table as spec;
 ghost use Rattle.builtins.specs.Values as values;
@@ -7,63 +7,9 @@ ghost use Rattle.sl_ast.specs.declared.typed.Value.TheVariants as variants;
 ghost use Rattle.grid_machine.specs.Cells.{value_of, text_at};
 
 use crate::cell::{Cell, Setting};
-use fixed_math::{Num, Text, Vec3};
+use builtins::{from_space, into_space, same_triple};
+use fixed_math::{Text, Vec3};
 use sl_ast::{SlType, SpaceName};
-use transforms::{Affine, Spaces};
-
-// Coordinates put into the range of raws.
-fn saturated(x: i64, y: i64, z: i64) -> Vec3
-    ensures { result ≡ spec.saturated (x ∷ y ∷ z ∷ []) }
-{
-    Vec3 {
-        x: Num::sat(x as i128),
-        y: Num::sat(y as i128),
-        z: Num::sat(z as i128),
-    }
-}
-
-// How the coordinates of a point, a vector or a normal go through a map.
-fn image(kind: SlType, m: &Affine, p: Vec3) -> Vec3
-    ensures { result ≡ spec.image kind m.now p }
-{
-    match kind {
-        SlType::Point => {
-            let [x, y, z] = m.point(p);
-            saturated(x, y, z)
-        }
-        SlType::Vector => {
-            let [x, y, z] = m.vector(p);
-            saturated(x, y, z)
-        }
-        SlType::Normal => {
-            let [x, y, z] = m.normal(p);
-            saturated(x, y, z)
-        }
-        SlType::Float | SlType::Color | SlType::Str => p,
-    }
-}
-
-fn from_space(kind: SlType, spaces: &Spaces, from: SpaceName, p: Vec3) -> Vec3
-    ensures { result ≡ spec.from_space kind spaces.now from p }
-{
-    match from {
-        SpaceName::Current => p,
-        SpaceName::World => image(kind, &spaces.world, p),
-        SpaceName::Object => image(kind, &spaces.object, p),
-        SpaceName::Shader => image(kind, &spaces.shader, p),
-    }
-}
-
-fn into_space(kind: SlType, spaces: &Spaces, into: SpaceName, p: Vec3) -> Vec3
-    ensures { result ≡ spec.into_space kind spaces.now into p }
-{
-    match into {
-        SpaceName::Current => p,
-        SpaceName::World => image(kind, &spaces.world.inverse(), p),
-        SpaceName::Object => image(kind, &spaces.object.inverse(), p),
-        SpaceName::Shader => image(kind, &spaces.shader.inverse(), p),
-    }
-}
 
 // Whether two texts are the same, of which none is the empty one.
 #[tactic(auto, using(crate::proofs::Texts::same_bytes))]
@@ -85,12 +31,6 @@ fn is_nothing(a: &Text) -> bool
     ensures { result ≡ bytes_eq [] a.now }
 {
     a.as_str().is_empty()
-}
-
-fn same_triple(a: Vec3, b: Vec3) -> bool
-    ensures { result ≡ values.same_triple a b }
-{
-    a.x.raw() == b.x.raw() && a.y.raw() == b.y.raw() && a.z.raw() == b.z.raw()
 }
 
 impl Setting<'_> {

@@ -4,10 +4,9 @@ ghost use Rattle.builtins.specs.Table as spec;
 ghost use Rattle.grid_machine.specs.Cells.{value_of};
 
 use crate::cell::{Cell, Setting};
-use crate::formulas::{number_formula, order};
 use builtins::{
-    comp, cross, depth, distance, dot, faceforward, length, noise, normalize, reflect, smoothstep,
-    step,
+    comp, cross, depth, distance, dot, faceforward, length, noise, normalize, number_formula,
+    order, reflect, smoothstep, step,
 };
 use fixed_math::{Num, Vec3};
 use sl_ast::{SlType, ValueOperation as Op};

@@ -23,11 +23,6 @@ use Rattle.render.proofs.Names.{same_name, itself}
 use Rattle.render.proofs.SetSame.{or_false}
 use Rattle.render.proofs.Firsts.{none_of}
 
--- a test over what is seen of a list
-pub any_seen : {A B : Type 0} (test : B → Bool) (view : A → B) (xs : List A) → list_any test (map view xs) ≡ list_any (λ x. test (view x)) xs
-any_seen test view [] = refl
-any_seen test view (x ∷ xs) = ap (λ b. test (view x) || b) (any_seen test view xs)
-
 -- ---- a variable and the parameters of one shader
 of_kind : (t : SlType) (k : Kind) → is_of_type t k ≡ true → k ≡ kind_of t
 of_kind types.Float kinds.Float h = refl

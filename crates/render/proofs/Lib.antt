@@ -14,6 +14,7 @@ pub mod FileNames
 pub mod ReadAll
 pub mod Firsts
 pub mod StockFlat
+pub mod Declared
 pub mod Fitting
 pub mod Bound
 pub mod Fetched

@@ -162,7 +162,7 @@ pub fn accept<L: Library>(alloc: Global, text: &[u8], library: &mut L) -> Result
     let scene = read_scene(alloc, text)?;
     let shaders = read_used(alloc, library, &scene)?;
     let bound = bind_used(alloc, &scene, &shaders)?;
-    check_variables(&shaders, &scene)?;
+    check_variables(alloc, &shaders, &scene)?;
     let set = set_of(alloc, shaders, bound)?;
     Ok(Accepted { scene, set })
 }

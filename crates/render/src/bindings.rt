@@ -6,8 +6,6 @@ ghost use Rattle.sl_ast.specs.TypedView.{local_of};
 ghost use Rattle.sl_ast.specs.TreeView.{tree_of};
 ghost use Rattle.sl_ast.specs.Settled.{IsSettled};
 ghost use Rattle.render.specs.Bindings as spec;
-ghost use Rattle.fixed_math.specs.Names.{last_place};
-ghost use Rattle.rib_reader.specs.Holding.{holding, is_at};
 ghost use Rattle.displace_shade.specs.Sets.{is_of_kind, FitsUse, FitUses};
 ghost use Rattle.render.specs.Bound.{bound_values};
 ghost use Rattle.render.specs.Shaders.{shader_tree};
@@ -19,9 +17,9 @@ use crate::code::Code;
 use crate::read::ReadShader;
 use crate::refusal::{Refusal, in_scene};
 use crate::shaders::UsedShaders;
-use crate::values::{bound_values, names_of};
+use crate::values::bound_values;
 use fixed_math::{List, Names, NoMemory, Text};
-use rib_reader::{Kind, Param};
+use rib_reader::{Kind, Param, holding};
 use scene_state::{ShaderKind, ShaderUse};
 use sl_ast::{SlKind, SlType, Tree, Value};
 use std::alloc::Global;
@@ -104,34 +102,17 @@ fn is_any_undeclared(tree: &Tree, names: &Names<'_>, params: &[Param]) -> bool
     false
 }
 
-// Whether the parameter at that place is the last of its name.
-fn is_last(names: &Names<'_>, index: usize, param: &Param) -> bool
-    ensures { result ≡ is_at index (last_place param.now.name names.now) }
-{
-    match names.place_of(&param.name) {
-        Some(place) => place == index,
-        None => false,
-    }
-}
-
-// Whether a parameter that holds is of another kind than the declared one.
-fn is_any_misfit(
-    alloc: Global,
-    tree: &Tree,
-    declared: &Names<'_>,
-    params: &[Param],
-) -> Result<bool, NoMemory>
+// Whether one of these parameters is of another kind than the declared one.
+fn is_any_misfit(tree: &Tree, declared: &Names<'_>, params: &[&Param]) -> bool
     requires { declared.now ≡ spec.declared_names (tree_of tree.now) }
-    ensures { IfOk result (λ b. b ≡ list_any (spec.is_misfit (tree_of tree.now).params) (holding params.now)) }
+    ensures { result ≡ list_any (spec.is_misfit (tree_of tree.now).params) (map (λ p. p.now) params.now) }
 {
-    let names = names_of(alloc, params)?;
-    for index in 0..params.len() {
-        let param = &params[index];
-        if is_misfit(tree, declared, param) && is_last(&names, index, param) {
-            return Ok(true);
+    for param in params {
+        if is_misfit(tree, declared, param) {
+            return true;
         }
     }
-    Ok(false)
+    false
 }
 
 // The first fault of a request over its shader's tree.
@@ -145,9 +126,10 @@ fn binding_fault(
     ensures { IfOk result (λ f. f ≡ spec.binding_fault (tree_of tree.now) request.now) }
 {
     let params = request.params.as_slice();
+    let held = holding(alloc, params)?;
     if is_any_undeclared(tree, declared, params) {
         Ok(Some(Code::B1))
-    } else if is_any_misfit(alloc, tree, declared, params)? {
+    } else if is_any_misfit(tree, declared, &held) {
         Ok(Some(Code::B2))
     } else if is_of_kind(tree.kind(), request.kind) {
         Ok(None)
@@ -176,8 +158,11 @@ fn bind(
     }
 }
 
-// The names of the parameters that each shader declares.
-fn all_declared<'a>(alloc: Global, shaders: &'a [ReadShader]) -> Result<Vec<Names<'a>>, NoMemory>
+/// The names of the parameters that each shader declares.
+pub(crate) fn all_declared<'a>(
+    alloc: Global,
+    shaders: &'a [ReadShader],
+) -> Result<Vec<Names<'a>>, NoMemory>
     ensures { IfOk result (λ ds. ds.items ≡ map declared_by shaders.now) }
 {
     let mut declared = Vec::new(alloc);

@@ -29,7 +29,7 @@ use std::alloc::Global;
 
 /// A picture: the bytes of its header and those of its pixels by rows.
 #[derive(Drop)]
-pub(crate) struct Drawn {
+pub(crate) struct PictureBytes {
     pub(crate) header: Vec<u8>,
     pub(crate) band: Vec<u8>,
     /// How many grids were shaded for it.
@@ -163,7 +163,12 @@ fn tile_in(alloc: Global, shop: &mut Shop, shown: &FrameIn<'_>) -> Result<Tile, 
 
 // The picture of a frame whose micropolygons the tile shows.
 #[tactic(auto, unfolding(crate::specs::Pictures::picture_bytes))]
-fn picture(alloc: Global, frame: &Frame, tile: Tile, shadings: u64) -> Result<Drawn, NoMemory>
+fn picture(
+    alloc: Global,
+    frame: &Frame,
+    tile: Tile,
+    shadings: u64,
+) -> Result<PictureBytes, NoMemory>
     requires grid { tile.grid ≡ frame_grid frame.now.camera.width frame.now.camera.height frame.now.options }
     requires some { ShowsSome frame.now.camera tile }
     ensures shadings { IfOk result (λ d. d.shadings ≡ shadings) }
@@ -180,7 +185,7 @@ fn picture(alloc: Global, frame: &Frame, tile: Tile, shadings: u64) -> Result<Dr
         options,
     };
     let pixels = pixels(alloc, &film, tile)?;
-    Ok(Drawn {
+    Ok(PictureBytes {
         header: header(alloc, width, height, &film.options)?,
         band: band_bytes(alloc, &film.options, &pixels)?,
         shadings,
@@ -188,7 +193,11 @@ fn picture(alloc: Global, frame: &Frame, tile: Tile, shadings: u64) -> Result<Dr
 }
 
 /// The picture of a frame, shaded by the shop's set.
-pub(crate) fn draw(alloc: Global, shop: &mut Shop, shown: &FrameIn<'_>) -> Result<Drawn, NoMemory>
+pub(crate) fn draw(
+    alloc: Global,
+    shop: &mut Shop,
+    shown: &FrameIn<'_>,
+) -> Result<PictureBytes, NoMemory>
     requires fits { Fits (set_value shop.old.set) shown.now.scene.now.uses }
     requires variables { All (FitsPrim (set_value shop.old.set) shown.now.scene.now.uses) shown.now.frame.now.prims }
     requires count { shop.old.count + 2 ^ 32 ≤ 2 ^ 62 }

@@ -9,6 +9,8 @@ ghost use Rattle.sl_ast.specs.Settled.{IsSettled};
 ghost use Rattle.sl_ast.specs.TreeView.{tree_of};
 ghost use Rattle.sl_parser.specs.Files.{parsed};
 ghost use Rattle.sl_types.specs.Checked.{checked};
+ghost use Rattle.sl_types.specs.Distinct.{AreDistinct};
+ghost use Rattle.render.specs.Bindings.{declared_names};
 ghost use Rattle.render.specs.Shaders.{IsCompilable, file_of, stock_text, tree_in_rows, tree_of_checked, tree_of_parsed, tree_of_bytes, shader_names, shaders_asked};
 ghost use Rattle.render.specs.Answers.{Gives};
 ghost use Rattle.render.specs.Reading.{GivesShaderText, ReadsShader, ReadsNext, ReadsShaders, ArePlaced, is_among, file_once, with_once, name_of};
@@ -41,9 +43,11 @@ pub(crate) struct UsedShaders {
 
 // A typed tree whose code takes no more rows than there may be.
 fn in_rows(alloc: Global, name: &Text, tree: Tree) -> Result<Tree, Refusal>
-    requires { IsSettled (tree_of tree) }
+    requires settled { IsSettled (tree_of tree) }
+    requires distinct { AreDistinct (declared_names (tree_of tree)) }
     ensures gives { Gives tree_of result (tree_in_rows name.now (tree_of tree)) }
     ensures compilable { IfOk result (λ t. IsCompilable (tree_of t)) }
+    ensures distinct { IfOk result (λ t. AreDistinct (declared_names (tree_of t))) }
     ensures read { IsErrOf result ReadFault → ⊥ }
 {
     if MOST_ROWS < rows(alloc, &tree)? {
@@ -56,6 +60,7 @@ fn in_rows(alloc: Global, name: &Text, tree: Tree) -> Result<Tree, Refusal>
 fn typed(alloc: Global, name: &Text, shader: &sl_ast::Shader) -> Result<Tree, Refusal>
     ensures gives { Gives tree_of result (tree_of_checked name.now (checked (shader_of shader.now))) }
     ensures compilable { IfOk result (λ t. IsCompilable (tree_of t)) }
+    ensures distinct { IfOk result (λ t. AreDistinct (declared_names (tree_of t))) }
     ensures read { IsErrOf result ReadFault → ⊥ }
 {
     match check(alloc, shader) {
@@ -70,6 +75,7 @@ fn of_text(alloc: Global, name: &Text, text: &[u8]) -> Result<Tree, Refusal>
     requires { length text.now ≤ 1048576 }
     ensures gives { Gives tree_of result (tree_of_parsed name.now (parsed text.now)) }
     ensures compilable { IfOk result (λ t. IsCompilable (tree_of t)) }
+    ensures distinct { IfOk result (λ t. AreDistinct (declared_names (tree_of t))) }
     ensures read { IsErrOf result ReadFault → ⊥ }
 {
     match parse(alloc, text) {
@@ -83,6 +89,7 @@ fn of_text(alloc: Global, name: &Text, text: &[u8]) -> Result<Tree, Refusal>
 fn of_bytes(alloc: Global, name: &Text, bytes: &[u8]) -> Result<Tree, Refusal>
     ensures gives { Gives tree_of result (tree_of_bytes name.now bytes.now) }
     ensures compilable { IfOk result (λ t. IsCompilable (tree_of t)) }
+    ensures distinct { IfOk result (λ t. AreDistinct (declared_names (tree_of t))) }
     ensures read { IsErrOf result ReadFault → ⊥ }
 {
     if MOST_BYTES < bytes.len() as u64 {

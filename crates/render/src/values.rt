@@ -1,12 +1,12 @@
 // What the parameters of shader requests are bound to.
-ghost use Rattle.std.specs.Prelude.{◌≡◌, ◌<◌, ℤ, List, [], ◌∷◌, IfOk, length, map, option_map, slice_get};
+ghost use Rattle.std.specs.Prelude.{◌≡◌, ◌<◌, IfOk, length, map, option_map, slice_get};
 ghost use Rattle.rib_reader.specs.Holding.{last_named};
 ghost use Rattle.sl_ast.specs.Settled.{IsSettled};
 ghost use Rattle.sl_ast.specs.TreeView.{tree_of};
-ghost use Rattle.builtins.specs.Table.{image, saturated};
 ghost use Rattle.render.specs.Bindings.{param_name};
 ghost use Rattle.render.specs.Bound as spec;
 
+use builtins::image;
 use fixed_math::{List, Names, NoMemory, Num, Text, Vec3};
 use rib_reader::{Param, Values};
 use scene_state::ShaderUse;
@@ -14,38 +14,6 @@ use sl_ast::{SlType, Tree, Value};
 use sl_meaning::default_value;
 use std::alloc::Global;
 use transforms::{Affine, Spaces};
-
-// Coordinates put into the range of raws.
-fn saturated(x: i64, y: i64, z: i64) -> Vec3
-    ensures { result ≡ saturated (x ∷ y ∷ z ∷ []) }
-{
-    Vec3 {
-        x: Num::sat(x as i128),
-        y: Num::sat(y as i128),
-        z: Num::sat(z as i128),
-    }
-}
-
-// How the coordinates of a value of that type go through a map.
-fn image(kind: SlType, m: &Affine, p: Vec3) -> Vec3
-    ensures { result ≡ image kind m.now p }
-{
-    match kind {
-        SlType::Point => {
-            let [x, y, z] = m.point(p);
-            saturated(x, y, z)
-        }
-        SlType::Vector => {
-            let [x, y, z] = m.vector(p);
-            saturated(x, y, z)
-        }
-        SlType::Normal => {
-            let [x, y, z] = m.normal(p);
-            saturated(x, y, z)
-        }
-        SlType::Float | SlType::Color | SlType::Str => p,
-    }
-}
 
 // The number at that place, 0 where there is none.
 fn number_at(values: &Values, index: usize) -> Num
@@ -171,7 +139,7 @@ fn param_count(tree: &Tree) -> u32
 }
 
 // The names of parameters.
-pub(crate) fn names_of<'a>(alloc: Global, params: &'a [Param]) -> Result<Names<'a>, NoMemory>
+fn names_of<'a>(alloc: Global, params: &'a [Param]) -> Result<Names<'a>, NoMemory>
     ensures { IfOk result (λ n. n ≡ map param_name params.now) }
 {
     let mut names = Names::new(alloc);

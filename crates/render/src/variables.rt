@@ -1,42 +1,22 @@
 // How the variables of primitives fit the parameters of their shaders.
-ghost use Rattle.std.specs.Prelude.{◌≡◌, IsErrOf, map, option_map};
+ghost use Rattle.std.specs.Prelude.{◌≡◌, IsErrOf, map, slice_get};
 ghost use Rattle.std.specs.List.{list_any};
-ghost use Rattle.std.specs.Str.{bytes_eq};
 ghost use Rattle.sl_ast.specs.TypedView.{local_of};
-ghost use Rattle.sl_ast.specs.TreeView.{tree_of};
-ghost use Rattle.displace_shade.specs.Variables.{sets_predefined};
 ghost use Rattle.render.specs.PrimBindings as spec;
-ghost use Rattle.render.specs.Reading.{tree_read};
+ghost use Rattle.render.specs.Reading.{tree_read, declared_by};
 ghost use Rattle.render.specs.Answers.{Clears};
 ghost use Rattle.render.specs.declared.refusal.Refusal.TheVariants.{ReadFault};
 
-use crate::bindings::is_of_type;
+use crate::bindings::{all_declared, is_of_type};
 use crate::code::Code;
+use crate::read::ReadShader;
 use crate::refusal::{Refusal, in_scene};
 use crate::shaders::UsedShaders;
-use fixed_math::Text;
+use displace_shade::sets_predefined;
+use fixed_math::Names;
 use scene_state::{Frame, Prim, Scene, Variable};
-use sl_ast::{ParamDecl, Tree};
-
-// Whether the text is this word.
-fn is_word(text: &Text, word: &str) -> bool
-    ensures { result ≡ bytes_eq text.now word.now }
-{
-    text.as_str().as_bytes() == word.as_bytes()
-}
-
-// Whether variables of that name set predefined variables alone.
-fn sets_predefined(name: &Text) -> bool
-    ensures { result ≡ sets_predefined name.now }
-{
-    is_word(name, "P")
-        || is_word(name, "N")
-        || is_word(name, "Cs")
-        || is_word(name, "Os")
-        || is_word(name, "s")
-        || is_word(name, "t")
-        || is_word(name, "st")
-}
+use sl_ast::ParamDecl;
+use std::alloc::Global;
 
 // Whether a variable has the name of a parameter and can't give it its value.
 fn is_unfit(variable: &Variable, param: &ParamDecl) -> bool
@@ -44,78 +24,108 @@ fn is_unfit(variable: &Variable, param: &ParamDecl) -> bool
 {
     let other_kind = !is_of_type(param.kind, variable.kind);
     let varies = variable.varying && param.uniform;
-    is_word(&param.name, variable.name.as_str()) && (other_kind || varies)
+    let named = param.name.as_str() == variable.name.as_str();
+    named && (other_kind || varies)
 }
 
-fn is_any_unfit(params: &[ParamDecl], variable: &Variable) -> bool
-    ensures { result ≡ list_any (λ p. spec.is_unfit variable.now (local_of p)) params.now }
+// Whether a variable doesn't fit the parameter of its name, where the shader declares one.
+#[tactic(auto, using(crate::proofs::Declared::at_its_place))]
+fn is_unfit_named(shader: &ReadShader, names: &Names<'_>, variable: &Variable) -> bool
+    requires { names.now ≡ declared_by shader.now }
+    ensures { result ≡ list_any (spec.is_unfit variable.now) (tree_read shader.now).params }
 {
-    for param in params {
-        if is_unfit(variable, param) {
+    let Some(place) = names.place_of(&variable.name) else {
+        return false;
+    };
+    match shader.tree.params().get(place) {
+        Some(param) => is_unfit(variable, param),
+        None => false,
+    }
+}
+
+// Whether a variable that binds doesn't fit the shader.
+fn binds_unfit(shader: &ReadShader, names: &Names<'_>, variable: &Variable) -> bool
+    requires { names.now ≡ declared_by shader.now }
+    ensures { result ≡ spec.binds_unfit (tree_read shader.now).params variable.now }
+{
+    !sets_predefined(&variable.name) && is_unfit_named(shader, names, variable)
+}
+
+// Whether one of these variables doesn't fit the shader.
+fn unfit_for(shader: &ReadShader, names: &Names<'_>, variables: &[Variable]) -> bool
+    requires { names.now ≡ declared_by shader.now }
+    ensures { result ≡ list_any (spec.binds_unfit (tree_read shader.now).params) variables.now }
+{
+    for variable in variables {
+        if binds_unfit(shader, names, variable) {
             return true;
         }
     }
     false
 }
 
-// Whether a variable that binds doesn't fit one of these parameters.
-#[tactic(auto, using(crate::proofs::Fitting::any_seen))]
-fn binds_unfit(params: &[ParamDecl], variable: &Variable) -> bool
-    ensures { result ≡ spec.binds_unfit (map local_of params.now) variable.now }
+// The same for the shader at that place, where there is one.
+fn unfit_placed(
+    read: &[ReadShader],
+    declared: &[Names<'_>],
+    place: usize,
+    variables: &[Variable],
+) -> bool
+    requires { declared.now ≡ map declared_by read.now }
+    ensures { result ≡ spec.unfit_for (slice_get (map tree_read read.now) place) variables.now }
 {
-    !sets_predefined(&variable.name) && is_any_unfit(params, variable)
-}
-
-// Whether one of these variables doesn't fit a shader.
-fn unfit_for(tree: &Tree, variables: &[Variable]) -> bool
-    ensures { result ≡ list_any (spec.binds_unfit (tree_of tree.now).params) variables.now }
-{
-    let params = tree.params();
-    variables
-        .iter()
-        .any(|variable| binds_unfit(params, variable))
-}
-
-// The tree of the shader of use `n`.
-fn tree_at(shaders: &UsedShaders, n: u32) -> Option<&Tree>
-    ensures { option_map (λ t. tree_of t.now) result ≡ spec.tree_at (map tree_read shaders.now.read) shaders.now.of_use n }
-{
-    let place = *shaders.of_use.as_slice().get(n as usize)?;
-    let shader = shaders.read.as_slice().get(place as usize)?;
-    Some(&shader.tree)
+    if place >= read.len() {
+        return false;
+    }
+    unfit_for(&read[place], &declared[place], variables)
 }
 
 // The same for the shader of a use, where there is one.
-fn unfit_at(shaders: &UsedShaders, shader: Option<u32>, variables: &[Variable]) -> bool
+fn unfit_at(
+    shaders: &UsedShaders,
+    declared: &[Names<'_>],
+    shader: Option<u32>,
+    variables: &[Variable],
+) -> bool
+    requires { declared.now ≡ map declared_by shaders.now.read }
     ensures { result ≡ spec.unfit_at (map tree_read shaders.now.read) shaders.now.of_use shader variables.now }
 {
     let Some(n) = shader else {
         return false;
     };
-    match tree_at(shaders, n) {
-        Some(tree) => unfit_for(tree, variables),
+    match shaders.of_use.as_slice().get(n as usize) {
+        Some(place) => {
+            unfit_placed(
+                shaders.read.as_slice(),
+                declared,
+                *place as usize,
+                variables,
+            )
+        }
         None => false,
     }
 }
 
 // Whether a variable of a primitive doesn't fit its surface, displacement or atmosphere.
-fn is_unfit_prim(shaders: &UsedShaders, prim: &Prim) -> bool
+fn is_unfit_prim(shaders: &UsedShaders, declared: &[Names<'_>], prim: &Prim) -> bool
+    requires { declared.now ≡ map declared_by shaders.now.read }
     ensures { result ≡ spec.is_unfit_prim (map tree_read shaders.now.read) shaders.now.of_use prim.now }
 {
     let variables = prim.vars.as_slice();
-    unfit_at(shaders, Some(prim.surface), variables)
-        || unfit_at(shaders, prim.displacement, variables)
-        || unfit_at(shaders, prim.atmosphere, variables)
+    unfit_at(shaders, declared, Some(prim.surface), variables)
+        || unfit_at(shaders, declared, prim.displacement, variables)
+        || unfit_at(shaders, declared, prim.atmosphere, variables)
 }
 
 // Refuses the first primitive of a frame whose variables don't fit its shaders.
-fn check_frame(shaders: &UsedShaders, frame: &Frame) -> Result<(), Refusal>
+fn check_frame(shaders: &UsedShaders, declared: &[Names<'_>], frame: &Frame) -> Result<(), Refusal>
+    requires { declared.now ≡ map declared_by shaders.now.read }
     ensures clears { Clears result (spec.frame_refused (map tree_read shaders.now.read) shaders.now.of_use frame.now) }
     ensures read { IsErrOf result ReadFault → ⊥ }
 {
     let prims = frame.prims.as_slice();
     for prim in prims {
-        if is_unfit_prim(shaders, prim) {
+        if is_unfit_prim(shaders, declared, prim) {
             return Err(in_scene(Code::B2, prim.line));
         }
     }
@@ -123,13 +133,18 @@ fn check_frame(shaders: &UsedShaders, frame: &Frame) -> Result<(), Refusal>
 }
 
 /// Refuses the first primitive of a scene whose variables don't fit its shaders, with B2 at its line.
-pub(crate) fn check_variables(shaders: &UsedShaders, scene: &Scene) -> Result<(), Refusal>
+pub(crate) fn check_variables(
+    alloc: Global,
+    shaders: &UsedShaders,
+    scene: &Scene,
+) -> Result<(), Refusal>
     ensures clears { Clears result (spec.frames_refused (map tree_read shaders.now.read) shaders.now.of_use scene.now.frames) }
     ensures read { IsErrOf result ReadFault → ⊥ }
 {
+    let declared = all_declared(alloc, shaders.read.as_slice())?;
     let frames = scene.frames.as_slice();
     for frame in frames {
-        check_frame(shaders, frame)?;
+        check_frame(shaders, &declared, frame)?;
     }
     Ok(())
 }

@@ -13,7 +13,7 @@ ghost use Rattle.render.specs.Answers.{accepted_in};
 ghost use Rattle.render.specs.declared.write.Stop.TheVariants.{Stopped};
 
 use crate::accepted::Accepted;
-use crate::draw::{Drawn, draw};
+use crate::draw::{PictureBytes, draw};
 use crate::frame_in::FrameIn;
 use displace_shade::Shop;
 use fixed_math::NoMemory;
@@ -30,27 +30,31 @@ pub(crate) enum Stop {
 }
 
 // Puts a header and then a band to the open frame.
-fn put_picture<O: FrameSink>(frames: &mut O, drawn: &Drawn) -> Result<(), Failed>
+fn put_picture<O: FrameSink>(frames: &mut O, picture: &PictureBytes) -> Result<(), Failed>
     requires { O.is_open frames.old ≡ true }
     ensures open { O.is_open frames.new ≡ true }
-    ensures ok { OnOk result (PutsAll (drawn.now.header.items ++ drawn.now.band.items) (O.written frames.old) (O.written frames.new)) }
-    ensures err { OnErr result (PutsFront (drawn.now.header.items ++ drawn.now.band.items) (O.written frames.old) (O.written frames.new)) }
+    ensures ok { OnOk result (PutsAll (picture.now.header.items ++ picture.now.band.items) (O.written frames.old) (O.written frames.new)) }
+    ensures err { OnErr result (PutsFront (picture.now.header.items ++ picture.now.band.items) (O.written frames.old) (O.written frames.new)) }
     ensures cause { HasCause (O.faults frames.old) (O.faults frames.new) result }
 {
-    put_all(frames, &drawn.header)?;
-    put_all(frames, &drawn.band)
+    put_all(frames, &picture.header)?;
+    put_all(frames, &picture.band)
 }
 
 // Writes a picture as one frame, from its begin to its end.
-fn write_picture<O: FrameSink>(frames: &mut O, name: &str, drawn: &Drawn) -> Result<(), Failed>
+fn write_picture<O: FrameSink>(
+    frames: &mut O,
+    name: &str,
+    picture: &PictureBytes,
+) -> Result<(), Failed>
     requires { O.is_open frames.old ≡ false }
     ensures closed { OnOk result (O.is_open frames.new ≡ false) }
-    ensures ok { OnOk result (Adds (whole (record { name = name.now; bytes = drawn.now.header.items ++ drawn.now.band.items }) ∷ []) (O.written frames.old) (O.written frames.new)) }
-    ensures err { OnErr result (AddsPart (record { name = name.now; bytes = drawn.now.header.items ++ drawn.now.band.items }) (O.written frames.old) (O.written frames.new)) }
+    ensures ok { OnOk result (Adds (whole (record { name = name.now; bytes = picture.now.header.items ++ picture.now.band.items }) ∷ []) (O.written frames.old) (O.written frames.new)) }
+    ensures err { OnErr result (AddsPart (record { name = name.now; bytes = picture.now.header.items ++ picture.now.band.items }) (O.written frames.old) (O.written frames.new)) }
     ensures cause { HasCause (O.faults frames.old) (O.faults frames.new) result }
 {
     frames.begin(name)?;
-    put_picture(frames, drawn)?;
+    put_picture(frames, picture)?;
     frames.end()
 }
 
@@ -74,7 +78,7 @@ fn finished(
     shop: &mut Shop,
     shown: &FrameIn<'_>,
     stats: bool,
-) -> Result<(Drawn, Option<String>), NoMemory>
+) -> Result<(PictureBytes, Option<String>), NoMemory>
     requires fits { Fits (set_value shop.old.set) shown.now.scene.now.uses }
     requires variables { All (FitsPrim (set_value shop.old.set) shown.now.scene.now.uses) shown.now.frame.now.prims }
     requires count { shop.old.count + 2 ^ 32 ≤ 2 ^ 62 }
@@ -83,12 +87,12 @@ fn finished(
     ensures set { OnOk result (shop.new.set ≡ shop.old.set) }
     ensures count { OnOk result (shop.new.count ≤ shop.old.count + 2 ^ 32) }
 {
-    let drawn = draw(alloc, shop, shown)?;
+    let picture = draw(alloc, shop, shown)?;
     if stats {
-        let line = summary(alloc, name_of(shown.frame), drawn.shadings, 1)?;
-        Ok((drawn, Some(line)))
+        let line = summary(alloc, name_of(shown.frame), picture.shadings, 1)?;
+        Ok((picture, Some(line)))
     } else {
-        Ok((drawn, None))
+        Ok((picture, None))
     }
 }
 
@@ -120,10 +124,10 @@ fn write_frame<O: FrameSink, N: Notes>(
     ensures set { OnOk result (shop.new.set ≡ shop.old.set) }
     ensures count { OnOk result (shop.new.count ≤ shop.old.count + 2 ^ 32) }
 {
-    let Ok((drawn, line)) = finished(alloc, shop, shown, stats) else {
+    let Ok((picture, line)) = finished(alloc, shop, shown, stats) else {
         return Err(Stop::NoMemory);
     };
-    let Ok(()) = write_picture(sink, name_of(shown.frame), &drawn) else {
+    let Ok(()) = write_picture(sink, name_of(shown.frame), &picture) else {
         return Err(Stop::Stopped);
     };
     tell(notes, &line);

@@ -3,8 +3,8 @@
 // A table is a text for each operation. Its rows, which `;` separates, are the operands, which `,` separates, and behind `=` the
 // value, all as raws: one of a number, three of a triple. The places have negative numbers, zero, halves and both ends of the range.
 // The values were computed from the formulas of docs/SHADING.md by a program that shares nothing with this one.
-use crate::texts::{raw, triple};
 use builtins::applied;
+use calls::texts::{raw, triple};
 use fixed_math::{Num, Vec3};
 use sl_ast::{Value, ValueOperation as Op};
 use std::alloc::Global;

@@ -1,6 +1,6 @@
 // Shaders on the grid of a piece, from the texts of a scene and of its one shader.
-use crate::texts::written;
 use bumpalo::Bump;
+use calls::texts::written;
 use dice::GridRef;
 use displace_shade::Shop;
 use outside::MemoryLibrary;

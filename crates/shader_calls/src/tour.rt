@@ -1,12 +1,15 @@
 // The numbers of docs/TOUR.md: the scene of examples/tour.rib from its bytes to its pixels. They were computed from the formulas by a
 // program that shares nothing with this one.
+ghost use Rattle.std.specs.Prelude.{◌<◌};
+ghost use Rattle.hider.specs.CellValues.{grid_values};
+
 use crate::shading::Texts;
-use crate::texts::written;
 use bound_split::{Walk, halves};
 use bumpalo::Bump;
+use calls::texts::written;
 use filter_ppm::{Sums, pixel_levels, weight};
 use fixed_math::{Num, Vec3};
-use hider::{Cell, GridCells, Quad, Tile, cells_of_grid, covers, quad_of, sample_at};
+use hider::{Cell, CellCorner, Cells, GridCells, Quad, Tile, covers, quad_of, sample_at};
 use outside::{MemoryLibrary, MemoryNotes, MemorySink};
 use patches::{Dyadic, Piece, Surface};
 use render::run;
@@ -140,15 +143,39 @@ fn look(alloc: Global) -> Result<(Camera, Options), Fail> {
     Ok((frame.camera, frame.options))
 }
 
+// A corner of a micropolygon of a grid.
+fn corner_of(cells: &GridCells<'_>, cell: usize, k: usize) -> CellCorner
+    requires cell { cell < (grid_values cells.now.grid.columns cells.now.grid.rows cells.now.grid.p.now cells.now.grid.ci.now cells.now.grid.oi.now).count }
+    requires corner { k < 4 }
+{
+    CellCorner {
+        point: cells.corner(cell, k, 0),
+        colour: cells.colour(cell),
+        opacity: cells.opacity(cell),
+    }
+}
+
+// A micropolygon of a grid, in camera space.
+fn cell_of(cells: &GridCells<'_>, cell: usize) -> Option<Cell> {
+    if cell >= cells.count() {
+        return None;
+    }
+    Some(Cell {
+        a: corner_of(cells, cell, 0),
+        b: corner_of(cells, cell, 1),
+        c: corner_of(cells, cell, 2),
+        d: corner_of(cells, cell, 3),
+    })
+}
+
 // Micropolygon 167 of the first leaf, on the raster.
 fn micropolygon(alloc: Global) -> Result<Quad, Fail> {
     let [first, ..] = leaves();
     let arena = Bump::new(alloc);
     let grid = tour().grid(&arena, alloc, &first, 4, 4)?;
-    let cells = cells_of_grid(alloc, grid.columns, grid.rows, grid.p, grid.ci, grid.oi)?;
-    let cell: &Cell = cells.get(167).ok_or("a micropolygon")?;
+    let cell = cell_of(&GridCells { grid }, 167).ok_or("a micropolygon")?;
     let (camera, _) = look(alloc)?;
-    Ok(quad_of(&camera, cell, false, false).ok_or("a side")?)
+    Ok(quad_of(&camera, &cell, false, false).ok_or("a side")?)
 }
 
 #[test]

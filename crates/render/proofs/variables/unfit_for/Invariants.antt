@@ -1,9 +1,10 @@
 use Rattle.std.proofs.Common.{◌≡◌, drop}
 use Rattle.std.specs.List.{list_any}
-use Rattle.sl_ast.specs.TypedView.{local_of}
-use Rattle.render.specs.PrimBindings.{is_unfit}
-use Rattle.render.proofs.variables.is_any_unfit.Given as goal
+use Rattle.render.specs.PrimBindings.{binds_unfit}
+use Rattle.render.specs.Reading.{tree_read}
+use Rattle.render.proofs.variables.unfit_for.Given as goal
 
-abbrev pub invariant-loop-param : goal.invariant-loop-param
-invariant-loop-param l =
-    list_any (λ p. is_unfit l.variable (local_of p)) (drop l.param-index l.params) ≡ list_any (λ p. is_unfit l.variable (local_of p)) l.params
+abbrev pub invariant-loop-variable : goal.invariant-loop-variable
+invariant-loop-variable l =
+    let test = binds_unfit (tree_read l.shader).params in
+    list_any test (drop l.variable-index l.variables) ≡ list_any test l.variables

@@ -11,7 +11,7 @@ returns-clause-ok g c =
     let z = g.O.FrameSink.written c.put_all-2.new.frames in
     let P : List ℕ → Type 0 = λ b. PutsAll b x y in
     let Q : List ℕ → Type 0 = λ b. OnOk c.put_all-2.result (PutsAll b y z) in
-    second_goes c.put_all-2.result c.args.drawn.now.header.items c.args.drawn.now.band.items x y z
+    second_goes c.put_all-2.result c.args.picture.now.header.items c.args.picture.now.band.items x y z
     (subst P c.deref.ensures.value c.in_ok-put_all.ensures.ok) (subst Q c.deref-2.ensures.value c.put_all-2.ensures.ok)
 
 pub returns-clause-err : goal.returns-clause-err
@@ -21,5 +21,5 @@ returns-clause-err g c =
     let z = g.O.FrameSink.written c.put_all-2.new.frames in
     let P : List ℕ → Type 0 = λ b. PutsAll b x y in
     let Q : List ℕ → Type 0 = λ b. OnErr c.put_all-2.result (PutsFront b y z) in
-    second_stops c.put_all-2.result c.args.drawn.now.header.items c.args.drawn.now.band.items x y z
+    second_stops c.put_all-2.result c.args.picture.now.header.items c.args.picture.now.band.items x y z
     (subst P c.deref.ensures.value c.in_ok-put_all.ensures.ok) (subst Q c.deref-2.ensures.value c.put_all-2.ensures.err)

@@ -1,5 +1,5 @@
 use Rattle.std.proofs.Common.{◌≡◌}
-use Rattle.calls.proofs.tour.pixel.Given as goal
+use Rattle.shader_calls.proofs.tour.pixel.Given as goal
 
 -- the sums hold as many colours as were counted
 abbrev pub invariant-loop-n : goal.invariant-loop-n

@@ -1,0 +1,25 @@
+//! Tests of what only a call shows of shaders and pictures: operations on values, shaders at the points of grids, the numbers of
+//! docs/TOUR.md, and the top call over a library or a sink that fails. What a text or a command's words can show is a case of
+//! `conformance`.
+#![tactic(auto)]
+
+#[cfg(test)]
+mod compiled;
+#[cfg(test)]
+mod differences;
+#[cfg(test)]
+mod operations;
+#[cfg(test)]
+mod operations_in_spaces;
+#[cfg(test)]
+mod operations_on_numbers;
+#[cfg(test)]
+mod operations_on_triples;
+#[cfg(test)]
+mod program;
+#[cfg(test)]
+mod shading;
+#[cfg(test)]
+mod sums;
+#[cfg(test)]
+mod tour;
