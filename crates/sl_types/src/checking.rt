@@ -1,22 +1,20 @@
 // The typed tree of a file, or its first fault.
 ghost use Rattle.std.specs.Prelude.{◌≡◌, IfOk, Ok, Err, true, option_map, if◌then◌else◌};
-ghost use Rattle.sl_types.specs.declared.fault.TypeCode.TheVariants.{M8};
+ghost use Rattle.sl_typing.specs.declared.fault.TypeCode.TheVariants.{M8};
 ghost use Rattle.sl_ast.specs.Settled.{IsSettled, unsettled};
 ghost use Rattle.sl_ast.specs.ShaderView.{shader_of};
 ghost use Rattle.sl_ast.specs.TreeView.{tree_of};
 ghost use Rattle.sl_ast.specs.WellTyped.{well_typed};
 ghost use Rattle.sl_types.specs.Checked as spec;
 ghost use Rattle.sl_types.specs.Inline.{tree_of as inlined};
-ghost use Rattle.sl_types.specs.Views.{Gives, program_of};
+ghost use Rattle.sl_typing.specs.Views.{Gives, program_of};
 ghost use Rattle.uniform_varying.specs.Gives.{fault_of};
 
-use crate::fault::{TypeCode, TypeFault, fault};
 use crate::inline::{declared, defaults, place, stmts};
-use crate::params::program;
-use crate::places::Program;
 use crate::sizes::is_within;
 use fixed_math::{List, NoMemory};
 use sl_ast::{ControlCode, Shader, Tree};
+use sl_typing::{Program, TypeCode, TypeFault, program};
 use std::alloc::Global;
 use uniform_varying::{ControlFault, first_fault};
 
@@ -24,7 +22,10 @@ fn limited<'a>(within: bool, program: Program<'a>, line: u32) -> Result<Program<
     ensures { Gives program_of result (if within then Ok (program_of program.entry) else Err (M8, line)) }
 {
     if !within {
-        return fault(TypeCode::M8, line);
+        return Err(TypeFault::At {
+            code: TypeCode::M8,
+            line,
+        });
     }
     Ok(program)
 }
@@ -80,7 +81,10 @@ fn settled(tree: Tree, found: Option<ControlFault>) -> Result<Tree, TypeFault>
 {
     match found {
         None => Ok(tree),
-        Some(first) => fault(code_of(first.code), first.line),
+        Some(first) => Err(TypeFault::At {
+            code: code_of(first.code),
+            line: first.line,
+        }),
     }
 }
 

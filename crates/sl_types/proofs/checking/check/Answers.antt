@@ -1,5 +1,5 @@
 use Rattle.sl_ast.specs.ShaderView.{shader_of}
-use Rattle.sl_types.specs.Views.{program_of}
+use Rattle.sl_typing.specs.Views.{program_of}
 use Rattle.sl_types.proofs.Parted.{sized_parts}
 use Rattle.sl_types.proofs.WellFile.{well_typed_tree}
 use Rattle.sl_types.proofs.checking.check.Goals as goal
