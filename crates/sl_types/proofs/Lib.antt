@@ -13,3 +13,4 @@ pub mod WellCalls
 pub mod WellStmts
 pub mod WellFile
 pub mod Parted
+pub mod Apart

@@ -1,5 +1,6 @@
 pub mod Extents
 pub mod ExtentView
+pub mod Distinct
 pub mod Inline
 pub mod Weights
 pub mod Checked
