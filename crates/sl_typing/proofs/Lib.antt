@@ -6,3 +6,4 @@ pub mod Scopes
 pub mod Named
 pub mod Branches
 pub mod Chains
+pub mod Ends

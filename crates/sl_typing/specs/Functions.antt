@@ -10,7 +10,7 @@ use Rattle.sl_typing.specs.Found.{Found, ◌>>=◌}
 use Rattle.sl_typing.specs.Typed as T
 use Rattle.sl_typing.specs.Scope.{Local, level_of, Callee, callee_named, Around}
 use Rattle.sl_typing.specs.Exprs.{typed_expr}
-use Rattle.sl_typing.specs.Stmts.{is_uniform, is_varying, value_in, behind, typed_stmt, typed_rows}
+use Rattle.sl_typing.specs.Stmts.{is_uniform, is_varying, value_in, typed_rows}
 
 -- whether a `return` stands anywhere
 abbrev mutual
@@ -33,27 +33,31 @@ abbrev mutual
   gives_any U.done = false
   gives_any (U.first s rest) = gives s || gives_any rest
 
--- the `return` with which a function ends, where that statement is it
+-- the `return` with which statements end, and what stands before the last
 abbrev pub given : U.Stmt → Option (U.Expr × ℕ)
 given (U.give e line) = Some (e, line)
 given s = None
 
-abbrev pub given_last : U.Stmts → U.Stmt → Option (U.Expr × ℕ)
-given_last U.done s = given s
-given_last (U.first x rest) s = None
+abbrev pub given_last : U.Stmts → Option (U.Expr × ℕ)
+given_last U.done = None
+given_last (U.first s U.done) = given s
+given_last (U.first s (U.first x rest)) = given_last (U.first x rest)
+
+abbrev pub but_last : U.Stmts → U.Stmts
+but_last U.done = U.done
+but_last (U.first s U.done) = U.done
+but_last (U.first s (U.first x rest)) = U.first s (but_last (U.first x rest))
 
 abbrev pub returned : Around → SlType → List T.Stmt → List Local → U.Expr × ℕ → Found T.Body
 returned g kind ts ls x = value_in kind x.1 (typed_expr g false ls x.0) >>= λ t. Ok (record { stmts = T.stmts ts; returned = x.1; value = t })
 
-abbrev pub either : {A B : Type 0} → Option A → (A → B) → B → B
-either (Some x) f y = f x
-either None f y = y
+-- what a function does: statements, and a `return` over their scope; `line` is that of the function's name
+abbrev pub ended : Around → ℕ → SlType → ℕ → List Local → U.Stmts → Option (U.Expr × ℕ) → Found T.Body
+ended g from kind line ls ss None = typed_rows g from ls ss >>= λ rows. Err (T8, line)
+ended g from kind line ls ss (Some x) = typed_rows g from ls (but_last ss) >>= λ rows. returned g kind rows.0 rows.1 x
 
--- what a function does: statements, and a `return` behind them; `line` is that of the function's name
-abbrev pub typed_body : Around → ℕ → SlType → ℕ → List T.Stmt → List Local → U.Stmts → Found T.Body
-typed_body g from kind line ts ls U.done = Err (T8, line)
-typed_body g from kind line ts ls (U.first s rest) =
-    either (given_last rest s) (returned g kind ts ls) (behind ts (typed_stmt g from ls s) >>= λ r. typed_body g from kind line r.0 r.1 rest)
+abbrev pub typed_body : Around → ℕ → SlType → ℕ → List Local → U.Stmts → Found T.Body
+typed_body g from kind line ls ss = ended g from kind line ls ss (given_last ss)
 
 -- formals are varying where nothing else is said
 abbrev pub formals_named : Bool → SlType → List U.Declared → List Local
@@ -72,7 +76,7 @@ scope_from ls (f ∷ fs) = if is_some (level_of f.name ls) then Err (T10, f.line
 -- the faults of a function: no `return` at all, then a formal's name that stands twice, then those of the body
 abbrev pub body_of : Around → U.Function → Found T.Body
 body_of g f =
-    if gives_any f.body then (scope_from [] (formals_of f.formals) >>= λ ls. typed_body g (length ls) f.returns f.line [] ls f.body) else Err (T8, f.line)
+    if gives_any f.body then (scope_from [] (formals_of f.formals) >>= λ ls. typed_body g (length ls) f.returns f.line ls f.body) else Err (T8, f.line)
 
 abbrev pub FoundBody : Type 0
 FoundBody = Found T.Body

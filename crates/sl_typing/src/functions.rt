@@ -1,5 +1,5 @@
 // Functions, each over those before it.
-ghost use Rattle.std.specs.Prelude.{List, ◌≡◌, [], ◌++◌, Err, IfOk, OnErr, OnOk, Ok, Option, length, map, option_map};
+ghost use Rattle.std.specs.Prelude.{List, ◌≡◌, [], ◌++◌, Err, IfOk, IfSome, OnErr, OnOk, Ok, Option, length, map, option_map};
 ghost use Rattle.sl_ast.specs.Syntax as U;
 ghost use Rattle.sl_ast.specs.SyntaxView.{expr_of, stmt_of, group_of, declared_of, function_of};
 ghost use Rattle.sl_typing.specs.Functions as spec;
@@ -15,7 +15,7 @@ use crate::gives::gives_any;
 use crate::places::{Around, Body, Faulty, Known, Local, Own, Spot};
 use crate::scope::{Functions, Scope};
 use crate::sets::{is_uniform, value_in};
-use crate::stmts::stmt;
+use crate::stmts::rows;
 use crate::typed::TypedStmt;
 use fixed_math::List;
 use sl_ast::{Declared, Expr, Function, Group, SlKind, SlType, Stmt};
@@ -30,13 +30,18 @@ fn given(s: &Stmt) -> Option<(&Expr, u32)>
     }
 }
 
-// The `return` with which a function ends, where that statement is it.
-fn given_last<'a>(behind: &[Stmt], s: &'a Stmt) -> Option<(&'a Expr, u32)>
-    ensures { option_map (λ x. (expr_of x.0.now, x.1)) result ≡ spec.given_last (U.stmts (map stmt_of behind.now)) (stmt_of s.now) }
+// The statements before the last, and the `return` that it is.
+#[tactic(auto, using(crate::proofs::Ends::ends_with, crate::proofs::Ends::before_last))]
+fn closing(body: &[Stmt]) -> Option<(&[Stmt], (&Expr, u32))>
+    ensures given { option_map (λ x. (expr_of x.1.0.now, x.1.1)) result ≡ spec.given_last (U.stmts (map stmt_of body.now)) }
+    ensures before { IfSome result (λ x. U.stmts (map stmt_of x.0.now) ≡ spec.but_last (U.stmts (map stmt_of body.now))) }
 {
-    match behind.split_first() {
-        None => given(s),
-        Some(_) => None,
+    let Some((last, before)) = body.split_last() else {
+        return None;
+    };
+    match given(last) {
+        None => None,
+        Some(value) => Some((before, value)),
     }
 }
 
@@ -60,6 +65,7 @@ fn returned(
 }
 
 // What a function does; `line` is that of its name.
+#[tactic(auto, using(crate::proofs::Behind::behind_none))]
 fn body_from<'a>(
     alloc: Global,
     g: &Around<'_, 'a>,
@@ -68,19 +74,20 @@ fn body_from<'a>(
     scope: &mut Scope<'a>,
     body: &'a [Stmt],
 ) -> Result<Body, TypeFault>
-    ensures { Gives body_view result (spec.typed_body (around_of g.now) (length scope.old) kind line [] (map local_of scope.old) (U.stmts (map stmt_of body.now))) }
+    ensures { Gives body_view result (spec.typed_body (around_of g.now) (length scope.old) kind line (map local_of scope.old) (U.stmts (map stmt_of body.now))) }
 {
     let from = scope.len();
     let mut done = Vec::new(alloc);
-    let mut rest = body;
-    while let Some((s, behind)) = rest.split_first() {
-        if let Some((value, line)) = given_last(behind, s) {
-            return returned(alloc, g, kind, done, scope, value, line);
+    match closing(body) {
+        None => {
+            rows(body, alloc, g, from, &mut done, scope)?;
+            fault(TypeCode::T8, line)
         }
-        stmt(s, alloc, g, from, &mut done, scope)?;
-        rest = behind;
+        Some((before, (value, at))) => {
+            rows(before, alloc, g, from, &mut done, scope)?;
+            returned(alloc, g, kind, done, scope, value, at)
+        }
     }
-    fault(TypeCode::T8, line)
 }
 
 // The formals of a group.

@@ -1,5 +1,5 @@
 // The typed trees of statements.
-ghost use Rattle.std.specs.Prelude.{List, ◌≡◌, [], OnOk, Ok, map, length};
+ghost use Rattle.std.specs.Prelude.{List, ◌≡◌, [], ◌∷◌, OnOk, Ok, map, length};
 ghost use Rattle.sl_ast.specs.Syntax as U;
 ghost use Rattle.sl_ast.specs.SyntaxView.{expr_of, stmt_of};
 ghost use Rattle.sl_typing.specs.Exprs.{typed_args};
@@ -7,6 +7,7 @@ ghost use Rattle.sl_typing.specs.Found.{Found};
 ghost use Rattle.sl_typing.specs.Stmts as spec;
 ghost use Rattle.sl_typing.specs.Typed as T;
 ghost use Rattle.sl_typing.specs.TypedView.{typed_of, tstmt_of};
+ghost use Rattle.sl_typing.specs.declared.places.Local.{Local};
 ghost use Rattle.sl_typing.specs.Views.{Gives, GivesAll, GivesRows, GivesTested, boxed_of, Extends, spot_of, around_of, local_of};
 
 use crate::exprs::expr;
@@ -121,6 +122,14 @@ fn one_of(mut stmts: Vec<TypedStmt>) -> TypedStmt
     }
 }
 
+// A statement behind those before it, in the same scope.
+fn add(one: TypedStmt, done: &mut Vec<TypedStmt>) -> Result<(), TypeFault>
+    ensures { (ls : List Local) → GivesRows result done.new.items ls (spec.behind (map tstmt_of done.old.items) (Ok (tstmt_of one ∷ [], map local_of ls))) }
+{
+    done.push(one)?;
+    Ok(())
+}
+
 fn in_loop<'a, 'b>(g: &Around<'a, 'b>) -> Around<'a, 'b>
     ensures { around_of result ≡ spec.in_loop (around_of g.now) }
 {
@@ -159,29 +168,23 @@ pub fn stmt<'a>(
     ensures extends { OnOk result (Extends scope.old scope.new) }
 {
     match s {
-        Stmt::Empty { line } => {
-            done.push(TypedStmt::Empty { line: *line })?;
-            Ok(())
-        }
+        Stmt::Empty { line } => { add(TypedStmt::Empty { line: *line }, done) }
         Stmt::Block { body, line } => { block(body.as_slice(), alloc, g, *line, done, scope) }
         Stmt::Set { set: a } => {
             let one = set(alloc, g, scope, a)?;
-            done.push(one)?;
-            Ok(())
+            add(one, done)
         }
         Stmt::Break { line } => {
             if !g.at.looped {
                 return fault(TypeCode::T8, *line);
             }
-            done.push(TypedStmt::Break { line: *line })?;
-            Ok(())
+            add(TypedStmt::Break { line: *line }, done)
         }
         Stmt::Continue { line } => {
             if !g.at.looped {
                 return fault(TypeCode::T8, *line);
             }
-            done.push(TypedStmt::Continue { line: *line })?;
-            Ok(())
+            add(TypedStmt::Continue { line: *line }, done)
         }
         Stmt::Return { value, line } => {
             let value = expr(value, alloc, g, false, scope);
@@ -194,18 +197,17 @@ pub fn stmt<'a>(
             ..
         } => {
             let uniform = is_uniform(*class);
-            names(alloc, g, from, uniform, *kind, done, scope, ds.as_slice())?;
-            Ok(())
+            names(alloc, g, from, uniform, *kind, done, scope, ds.as_slice())
         }
         Stmt::If { test, then, line } => {
             let test = condition(*line, expr(test, alloc, g, false, scope))?;
             let then = branch(then, alloc, g, scope)?;
-            done.push(TypedStmt::If {
+            let one = TypedStmt::If {
                 test,
                 then,
                 line: *line,
-            })?;
-            Ok(())
+            };
+            add(one, done)
         }
         Stmt::IfElse {
             test,
@@ -216,23 +218,23 @@ pub fn stmt<'a>(
             let test = condition(*line, expr(test, alloc, g, false, scope))?;
             let then = branch(then, alloc, g, scope)?;
             let otherwise = branch(otherwise, alloc, g, scope)?;
-            done.push(TypedStmt::IfElse {
+            let one = TypedStmt::IfElse {
                 test,
                 then,
                 otherwise,
                 line: *line,
-            })?;
-            Ok(())
+            };
+            add(one, done)
         }
         Stmt::While { test, body, line } => {
             let test = condition(*line, expr(test, alloc, g, false, scope))?;
             let body = branch(body, alloc, &in_loop(g), scope)?;
-            done.push(TypedStmt::While {
+            let one = TypedStmt::While {
                 test,
                 body,
                 line: *line,
-            })?;
-            Ok(())
+            };
+            add(one, done)
         }
         Stmt::For {
             first,
@@ -247,8 +249,7 @@ pub fn stmt<'a>(
             let test = found?;
             let step = optional_set(alloc, g, scope, step)?;
             let body = branch(body, alloc, &in_loop(g), scope)?;
-            done.push(for_node(first, test, step, body, *line))?;
-            Ok(())
+            add(for_node(first, test, step, body, *line), done)
         }
         Stmt::Lights {
             word,
@@ -261,8 +262,7 @@ pub fn stmt<'a>(
             let args = light_args(alloc, g, scope, place, cone);
             let args = lights_of(&g.at, word, *line, args)?;
             let body = branch(body, alloc, &in_lights(g), scope)?;
-            done.push(lights_node(word, args, body, *line))?;
-            Ok(())
+            add(lights_node(word, args, body, *line), done)
         }
         Stmt::Solar {
             axis,
@@ -273,8 +273,7 @@ pub fn stmt<'a>(
             let args = solar_args(alloc, g, scope, axis, angle);
             let args = lights_of(&g.at, LightStmt::Solar, *line, args)?;
             let body = branch(body, alloc, &in_lights(g), scope)?;
-            done.push(lights_node(LightStmt::Solar, args, body, *line))?;
-            Ok(())
+            add(lights_node(LightStmt::Solar, args, body, *line), done)
         }
     }
 }
@@ -316,8 +315,7 @@ fn block<'a>(
     let mut inside = Vec::new(alloc);
     rows(body, alloc, g, start, &mut inside, scope)?;
     scope.truncate(start);
-    done.push(block_node(inside, line))?;
-    Ok(())
+    add(block_node(inside, line), done)
 }
 
 /// Adds the typed statements of statements one after another to those before them, and what they declare to the scope.

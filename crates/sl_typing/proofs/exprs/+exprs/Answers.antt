@@ -65,7 +65,8 @@ chain-returns-in_err-operand t c =
     let g = around_of c.args.g.now in
     let ls = map local_of c.args.scope.now in
     let v = T.chained (typed_of c.loop-link.first-1) (map tlink_of c.loop-link.typed.items) in
-    let whole = sym c.loop-link.invariant.same ∙ ap (typed_links g ls v) (chain_split c.args.links.now c.loop-link.link-index c.link-item.result (omega arith) c.link-item.is) in
+    let before = typed_links g ls v (U.links (map link_of (drop c.loop-link.link-index c.args.links.now))) in
+    let whole = sym {a = before} c.loop-link.invariant.same ∙ ap (typed_links g ls v) (chain_split c.args.links.now c.loop-link.link-index c.link-item.result (omega arith) c.link-item.is) in
     search rules
 
 pub chain-returns-in_err-next : goal.chain-returns-in_err-next
@@ -78,7 +79,8 @@ chain-returns-in_err-next t c =
     let split = ap (typed_links g ls v) (chain_split c.args.links.now c.loop-link.link-index x (omega arith) c.link-item.is) in
     let typed = ap (λ r. r >>= λ s. applied (operation_of x.operator) x.line (v ∷ s ∷ []) >>= λ r. typed_links g ls r rest) c.in_ok-operand.ensures in
     let found = c.in_err-next.ensures v c.loop-link.invariant.kind in
-    let whole = sym c.loop-link.invariant.same ∙ split ∙ typed in
+    let before = typed_links g ls v (U.links (map link_of (drop c.loop-link.link-index c.args.links.now))) in
+    let whole = sym {a = before} c.loop-link.invariant.same ∙ split ∙ typed in
     search rules
 
 pub chain-loop-link-preserved : goal.chain-loop-link-preserved

@@ -1,8 +1,5 @@
-use Rattle.std.proofs.Common.{map, take, ap, sym, ◌∙◌}
-use Rattle.std.proofs.lemmas.List.{take-map}
+use Rattle.sl_typing.proofs.Scopes.{names_left}
 use Rattle.sl_typing.proofs.scope.Scope.truncate.Goals as goal
 
 pub invariant_of-self : goal.invariant_of-self
-invariant_of-self c =
-    c.truncate-2.ensures ∙ ap (take c.args.count) c.self.invariant ∙ take-map (λ l. l.name.now) c.args.count c.self.inside.locals.items
-    ∙ ap (map (λ l. l.name.now)) (sym c.truncate.ensures.items)
+invariant_of-self c = names_left c.args.count c.self.inside.locals.items _ _ _ c.truncate-2.ensures c.self.invariant c.truncate.ensures.items
