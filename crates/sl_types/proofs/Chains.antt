@@ -1,27 +1,18 @@
 -- Chains of operators: what they show, how great they are, and their trees with functions in place.
-use Rattle.std.proofs.Common.{◌≡◌, ◌≤◌, ◌<◌, ℕ, zero, suc, ◌+◌, List, [], ◌∷◌, ◌++◌, length, map, drop, get_or, Result, Ok, Err, OnOk, refl, sym, ap, ap₂, ◌∙◌, arith}
-use Rattle.std.proofs.lemmas.List.{map-append}
+use Rattle.std.proofs.Common.{◌≡◌, ◌≤◌, ◌<◌, ℕ, zero, suc, ◌+◌, List, [], ◌∷◌, length, map, drop, get_or, Result, Ok, Err, OnOk, refl, sym, ap, ap₂, ◌∙◌, arith}
 use Rattle.std.specs.declared.alloc.Global.{Global}
 use Rattle.std.specs.declared.boxed.Box.{Box}
 use Rattle.sl_ast.specs.Typed as A
 use Rattle.sl_ast.specs.declared.kinds.NodeType.{NodeType}
 use Rattle.sl_ast.specs.declared.operations.Operation.{Operation}
 use Rattle.sl_ast.specs.declared.typed.Place.{Place}
-use Rattle.sl_types.specs.Typed as T
-use Rattle.sl_types.specs.TypedView.{typed_of, tlink_of, row_chain}
-use Rattle.sl_types.specs.Extents.{Extent, nowhere}
+use Rattle.sl_typing.specs.Typed as T
+use Rattle.sl_typing.specs.TypedView.{typed_of, tlink_of}
 use Rattle.sl_types.specs.Inline.{Built, nothing, at, called_at, count, count_args, inline, inline_args}
-use Rattle.sl_types.specs.Sizes.{size, size_links, over, with}
 use Rattle.sl_types.specs.Weights.{weight}
-use Rattle.sl_types.specs.declared.typed.TypedExpr.{TypedExpr, Chain}
-use Rattle.sl_types.specs.declared.typed.TypedExpr.TheBlock.{hidden-the_row-TypedLink-1}
-use Rattle.sl_types.specs.declared.typed.TypedLink.{TypedLink}
-use Rattle.sl_types.proofs.Rows.{held_chain}
-
--- a chain with its last operator
-pub chained_push : (e : T.Expr) (ls : List T.Link) (l : T.Link) → T.chained e (ls ++ l ∷ []) ≡ T.linked (T.chained e ls) l
-chained_push e [] l = refl
-chained_push e (x ∷ ls) l = chained_push (T.linked e x) ls l
+use Rattle.sl_typing.specs.declared.typed.TypedExpr.{TypedExpr, Chain}
+use Rattle.sl_typing.specs.declared.typed.TypedLink.{TypedLink}
+use Rattle.sl_typing.proofs.Rows.{held_chain}
 
 -- what the code holds of a chain
 pub chain_shown : (e : TypedExpr) (first : Box TypedExpr Global) (links : List TypedLink) (operation : Operation) (operand : Box TypedExpr Global) (kind : NodeType) (line : ℕ)
@@ -29,33 +20,6 @@ pub chain_shown : (e : TypedExpr) (first : Box TypedExpr Global) (links : List T
     → typed_of e ≡ T.apply operation (T.more (T.chained (typed_of first.value) (map tlink_of links)) (T.more (typed_of operand.value) T.none)) kind line
 chain_shown e first links operation operand kind line h =
     ap typed_of h ∙ ap (λ x. T.apply operation (T.more x (T.more (typed_of operand.value) T.none)) kind line) (held_chain (typed_of first.value) links)
-
--- what is held of one whose last operator stands apart
-pub chain_held : (e : TypedExpr) (links front : List TypedLink) (last : TypedLink) → links ≡ front ++ last ∷ []
-    → T.apply last.operation (T.more (row_chain (typed_of e) (hidden-the_row-TypedLink-1 front)) (T.more (typed_of last.operand) T.none)) last.kind last.line
-    ≡ T.chained (typed_of e) (map tlink_of links)
-chain_held e links front last is =
-    ap (λ x. T.linked x (tlink_of last)) (held_chain (typed_of e) front)
-    ∙ sym (chained_push (typed_of e) (map tlink_of front) (tlink_of last))
-    ∙ ap (T.chained (typed_of e)) (sym (map-append tlink_of front (last ∷ [])))
-    ∙ ap (λ xs. T.chained (typed_of e) (map tlink_of xs)) (sym is)
-
--- one more link is typed
-pub grown_chain : (e : T.Expr) (links more : List TypedLink) (l : TypedLink) → more ≡ links ++ l ∷ [] → T.chained e (map tlink_of more) ≡ T.linked (T.chained e (map tlink_of links)) (tlink_of l)
-grown_chain e links more l is =
-    ap (λ xs. T.chained e (map tlink_of xs)) is ∙ ap (T.chained e) (map-append tlink_of links (l ∷ [])) ∙ chained_push e (map tlink_of links) (tlink_of l)
-
--- the size of a chain goes through its links
-pub links_sized : (fs : List Extent) (e : T.Expr) (ls : List T.Link) → size fs (T.chained e ls) ≡ size_links fs (size fs e) ls
-links_sized fs e [] = refl
-links_sized fs e (l ∷ ls) = links_sized fs (T.linked e l) ls
-
-pub chain_sized : (fs : List Extent) (e : TypedExpr) (first : Box TypedExpr Global) (links : List TypedLink) (operation : Operation) (operand : Box TypedExpr Global) (kind : NodeType) (line : ℕ)
-    → e ≡ Chain first links operation operand kind line
-    → size fs (typed_of e) ≡ over (with (with nowhere (size_links fs (size fs (typed_of first.value)) (map tlink_of links))) (size fs (typed_of operand.value)))
-chain_sized fs e first links operation operand kind line h =
-    ap (size fs) (chain_shown e first links operation operand kind line h)
-    ∙ ap (λ x. over (with (with nowhere x) (size fs (typed_of operand.value)))) (links_sized fs (typed_of first.value) (map tlink_of links))
 
 -- nodes of operands, and weights of links
 abbrev pub count_links : List Built → List T.Link → ℕ

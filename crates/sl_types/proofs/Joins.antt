@@ -1,7 +1,7 @@
--- Sizes as far as they matter.
-use Rattle.std.proofs.Common.{◌≡◌, ◌+◌, ℕ, min, max, refl, ap₂, arith}
-use Rattle.sl_types.specs.Extents.{Extent}
-use Rattle.sl_types.specs.Sizes.{over, with}
+-- Extents as far as they matter: those of parts are enough.
+use Rattle.std.proofs.Common.{◌≡◌, ◌≤◌, ◌<◌, ◌+◌, ℕ, zero, suc, min, max, nat_lt, ◌&&◌, List, [], ◌∷◌, map, get_or, refl, sym, ap, ap₂, ◌∙◌, arith, inl, inr, ◌⊎◌}
+use Rattle.std.proofs.lemmas.Bool.{cases_lt, lt-ltb, le-ltb}
+use Rattle.sl_types.specs.Extents.{Extent, nowhere, absent, under, beside, cut, fits}
 
 abbrev make : ℕ → ℕ → Extent
 make a b = record { nodes = a; depth = b }
@@ -9,8 +9,53 @@ make a b = record { nodes = a; depth = b }
 pair : (a b c d : ℕ) → a ≡ c → b ≡ d → make a b ≡ make c d
 pair a b c d p q = ap₂ make p q
 
-pub over_is : (x : Extent) → make (1 + min x.nodes 65536) (1 + min x.depth 256) ≡ over x
-over_is x = pair (1 + min x.nodes 65536) (1 + min x.depth 256) (min (1 + x.nodes) 65537) (min (1 + x.depth) 257) (omega arith) (omega arith)
+pub over_is : (x y : Extent) → x ≡ cut y → make (1 + min x.nodes 65536) (1 + min x.depth 256) ≡ cut (under y)
+over_is x y p =
+    ap (λ z. make (1 + min z.nodes 65536) (1 + min z.depth 256)) p
+    ∙ pair (1 + min (min y.nodes 65537) 65536) (1 + min (min y.depth 257) 256) (min (1 + y.nodes) 65537) (min (1 + y.depth) 257) (omega arith) (omega arith)
 
-pub with_is : (x y : Extent) → make (min (x.nodes + y.nodes) 65537) (min (max x.depth y.depth) 257) ≡ with x y
-with_is x y = refl
+pub with_is : (x y u v : Extent) → x ≡ cut u → y ≡ cut v → make (min (x.nodes + y.nodes) 65537) (min (max x.depth y.depth) 257) ≡ cut (beside u v)
+with_is x y u v p q =
+    ap₂ (λ z w. make (min (z.nodes + w.nodes) 65537) (min (max z.depth w.depth) 257)) p q
+    ∙ pair (min (min u.nodes 65537 + min v.nodes 65537) 65537) (min (max (min u.depth 257) (min v.depth 257)) 257)
+    (min (u.nodes + v.nodes) 65537) (min (max u.depth v.depth) 257) (omega arith) (omega arith)
+
+-- what is cut is cut no further
+pub cut_twice : (x y : Extent) → x ≡ cut y → x ≡ cut x
+cut_twice x y p =
+    p ∙ pair (min y.nodes 65537) (min y.depth 257) (min (min y.nodes 65537) 65537) (min (min y.depth 257) 257) (omega arith) (omega arith) ∙ ap cut (sym p)
+
+-- parts one after another
+pub begun : (x : Extent) → cut (beside nowhere x) ≡ cut x
+begun x = pair (min (0 + x.nodes) 65537) (min (max 0 x.depth) 257) (min x.nodes 65537) (min x.depth 257) (omega arith) (omega arith)
+
+pub ended : (x : Extent) → cut (beside x nowhere) ≡ cut x
+ended x = pair (min (x.nodes + 0) 65537) (min (max x.depth 0) 257) (min x.nodes 65537) (min x.depth 257) (omega arith) (omega arith)
+
+pub joined : (w x y z : Extent) → w ≡ cut (beside x y) → cut (beside w z) ≡ cut (beside x (beside y z))
+joined w x y z p =
+    ap (λ v. cut (beside v z)) p
+    ∙ pair (min (min (x.nodes + y.nodes) 65537 + z.nodes) 65537) (min (max (min (max x.depth y.depth) 257) z.depth) 257)
+    (min (x.nodes + (y.nodes + z.nodes)) 65537) (min (max x.depth (max y.depth z.depth)) 257) (omega arith) (omega arith)
+
+-- an operator over two operands
+pub operands_are : (x y : Extent) → cut (under (beside x y)) ≡ cut (under (beside x (beside y nowhere)))
+operands_are x y =
+    pair (min (1 + (x.nodes + y.nodes)) 65537) (min (1 + max x.depth y.depth) 257)
+    (min (1 + (x.nodes + (y.nodes + 0))) 65537) (min (1 + max x.depth (max y.depth 0)) 257) (omega arith) (omega arith)
+
+pub at_cut : (xs : List Extent) (k : ℕ) → get_or (map cut xs) k absent ≡ cut (get_or xs k absent)
+at_cut [] k = refl
+at_cut (x ∷ xs) zero = refl
+at_cut (x ∷ xs) (suc k) = at_cut xs k
+
+below_by : (n m : ℕ) → (n < m) ⊎ (m ≤ n) → nat_lt (min n m) m ≡ nat_lt n m
+below_by n m (inl low) = lt-ltb (min n m) m (omega (arith, low)) ∙ sym (lt-ltb n m low)
+below_by n m (inr high) = le-ltb (min n m) m (omega (arith, high)) ∙ sym (le-ltb n m high)
+
+below : (n m : ℕ) → nat_lt (min n m) m ≡ nat_lt n m
+below n m = below_by n m (cases_lt n m)
+
+-- the limits are asked of what is cut
+pub fits_cut : (x : Extent) → fits (cut x) ≡ fits x
+fits_cut x = ap₂ (λ a b. a && b) (below x.nodes 65537) (below x.depth 257)

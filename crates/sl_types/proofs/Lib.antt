@@ -1,16 +1,8 @@
-pub mod Rows
-pub mod Operands
-pub mod Nodes
-pub mod Behind
-pub mod Scopes
-pub mod Named
-pub mod Branches
 pub mod Joins
 pub mod TypedNodes
 pub mod Chains
 pub mod Numbered
 pub mod Deep
-pub mod Within
 pub mod Counts
 pub mod Whole
 pub mod Placed
@@ -21,3 +13,4 @@ pub mod WellCalls
 pub mod WellStmts
 pub mod WellFile
 pub mod Parted
+pub mod Apart

@@ -9,18 +9,18 @@ use Rattle.sl_ast.specs.declared.kinds.SlType.{SlType}
 use Rattle.sl_ast.specs.declared.kinds.SlType.TheVariants as types
 use Rattle.sl_ast.specs.declared.kinds.NodeType.{NodeType}
 use Rattle.sl_ast.specs.declared.kinds.NodeType.TheVariants as nodes
-use Rattle.sl_types.specs.Found.{Found}
-use Rattle.sl_types.specs.Typed as T
-use Rattle.sl_types.specs.Typed.{kind_of}
-use Rattle.sl_types.specs.Scope.{Local, level_of, Callee, callee_named, Around, body_in}
-use Rattle.sl_types.specs.Exprs.{typed_expr}
-use Rattle.sl_types.specs.Stmts.{value_in, behind, typed_stmt, typed_rows}
-use Rattle.sl_types.specs.Functions.{gives_any, given_last, returned, either, typed_body, formals_of, scope_from, body_of, spot_within, within, callee_in, known_from, Param, locals_of, by_default, default_in, typed_param, typed_params, typed_groups, Program, in_body, program}
+use Rattle.sl_typing.specs.Found.{Found}
+use Rattle.sl_typing.specs.Typed as T
+use Rattle.sl_typing.specs.Typed.{kind_of}
+use Rattle.sl_typing.specs.Scope.{Local, level_of, Callee, callee_named, Around, body_in}
+use Rattle.sl_typing.specs.Exprs.{typed_expr}
+use Rattle.sl_typing.specs.Stmts.{value_in, typed_rows}
+use Rattle.sl_typing.specs.Functions.{gives_any, given_last, but_last, returned, ended, typed_body, formals_of, scope_from, body_of, spot_within, within, callee_in, known_from, Param, locals_of, by_default, default_in, typed_param, typed_params, typed_groups, Program, in_body, program}
 use Rattle.sl_types.specs.Inline.{Built, count, count_params, inline, inline_stmts, tree_formal, built_in, built_from, declared_of, defaults_at, tree_of}
-use Rattle.sl_types.proofs.WellScope.{Good, good_bind, good_as, types_of}
+use Rattle.sl_types.proofs.WellScope.{Good, good_bind, good_as, good_any, types_of}
 use Rattle.sl_types.proofs.WellExprs.{Works, Ready, Fine, kind_kept}
 use Rattle.sl_types.proofs.WellCalls.{expr_fine}
-use Rattle.sl_types.proofs.WellStmts.{RowsFine, GoodRows, rows_typed, rows_after, behind_fine, value_fine, stmt_fine, rows_fine}
+use Rattle.sl_types.proofs.WellStmts.{RowsFine, GoodRows, rows_typed, rows_after, value_fine, rows_fine}
 
 -- what goes into a variable of a type goes into a node of it
 takes_goes : (kind : SlType) (value : NodeType) → takes kind value ≡ true → W.goes_into (node_type kind) (Some value) ≡ true
@@ -74,10 +74,6 @@ BodyFine g fs ks kind b =
     × ((n m : ℕ) → W.typed g (W.types_after_all (inline_stmts fs n b.stmts) ks) (inline fs m b.value) ≡ true)
     × (takes kind (kind_of b.value) ≡ true)
 
-either_good : {A B : Type 0} (o : Option A) (f : A → Found B) (y : Found B) (P : B → Type 0) → ((x : A) → Good (f x) P) → Good y P → Good (either o f y) P
-either_good (Some x) f y P h k = h x
-either_good None f y P h k = k
-
 returned_fine : (g : Around) (fs : List Built) → Ready g.at.kind g.at.default g.known fs → (ks : List SlType) (kind : SlType) (ts : List T.Stmt) (ls : List Local) (x : U.Expr × ℕ)
     → RowsFine g.at fs ks ts (types_of ls) → Good (returned g kind ts ls x) (BodyFine g.at fs ks kind)
 returned_fine g fs r ks kind ts ls x h =
@@ -89,14 +85,18 @@ returned_fine g fs r ks kind ts ls x h =
       p.0,
     ))
 
-body_fine : (g : Around) (fs : List Built) → Ready g.at.kind g.at.default g.known fs → (from : ℕ) (ks : List SlType) (kind : SlType) (line : ℕ) (ts : List T.Stmt) (ls : List Local) (ss : U.Stmts)
-    → RowsFine g.at fs ks ts (types_of ls) → Good (typed_body g from kind line ts ls ss) (BodyFine g.at fs ks kind)
-body_fine g fs r from ks kind line ts ls U.done h = tt
-body_fine g fs r from ks kind line ts ls (U.first s rest) h =
-    either_good (given_last rest s) (returned g kind ts ls) _ (BodyFine g.at fs ks kind) (λ x. returned_fine g fs r ks kind ts ls x h)
-    (good_bind (behind ts (typed_stmt g from ls s)) _ (GoodRows g.at fs ks) (BodyFine g.at fs ks kind)
-    (behind_fine g.at fs ks (types_of ls) ts (typed_stmt g from ls s) h (stmt_fine g fs r from ls s))
-    (λ x p. body_fine g fs r from ks kind line x.0 x.1 rest p))
+ended_fine : (g : Around) (fs : List Built) → Ready g.at.kind g.at.default g.known fs → (from : ℕ) (kind : SlType) (line : ℕ) (ls : List Local) (ss : U.Stmts) (o : Option (U.Expr × ℕ))
+    → Good (ended g from kind line ls ss o) (BodyFine g.at fs (types_of ls) kind)
+ended_fine g fs r from kind line ls ss None =
+    good_bind (typed_rows g from ls ss) _ (λ rows. Unit {0}) (BodyFine g.at fs (types_of ls) kind) (good_any (typed_rows g from ls ss)) (λ rows p. tt)
+ended_fine g fs r from kind line ls ss (Some x) =
+    good_bind (typed_rows g from ls (but_last ss)) _ (GoodRows g.at fs (types_of ls)) (BodyFine g.at fs (types_of ls) kind) (rows_fine g fs r from ls (but_last ss))
+    (λ rows p. returned_fine g fs r (types_of ls) kind rows.0 rows.1 x p)
+
+body_fine : (g : Around) (fs : List Built) → Ready g.at.kind g.at.default g.known fs → (from : ℕ) (ks : List SlType) (kind : SlType) (line : ℕ) (ls : List Local) (ss : U.Stmts)
+    → types_of ls ≡ ks → Good (typed_body g from kind line ls ss) (BodyFine g.at fs ks kind)
+body_fine g fs r from ks kind line ls ss is =
+    subst (λ k. Good (typed_body g from kind line ls ss) (BodyFine g.at fs k kind)) is (ended_fine g fs r from kind line ls ss (given_last ss))
 
 -- the scope of formals holds them
 scope_is : (before : List Local) (formals : List Local) → Good (scope_from before formals) (λ ls. ls ≡ before ++ formals)
@@ -111,7 +111,7 @@ function_fine g fs r f =
     let ks = types_of (formals_of f.formals) in
     cond_both (gives_any f.body) _ _ (λ x. Good x (BodyFine g.at fs ks f.returns))
     (λ e. good_bind (scope_from [] (formals_of f.formals)) _ (λ ls. ls ≡ formals_of f.formals) (BodyFine g.at fs ks f.returns) (scope_is [] (formals_of f.formals))
-    (λ ls is. body_fine g fs r (length ls) ks f.returns f.line [] ls f.body (sym (ap types_of is))))
+    (λ ls is. body_fine g fs r (length ls) ks f.returns f.line ls f.body (ap types_of is)))
     (λ e. tt)
 
 formal_types_are : (ls : List Local) → W.formal_types (map tree_formal ls) ≡ types_of ls

@@ -3,16 +3,14 @@ use Rattle.std.proofs.Common.{◌≡◌, ◌≤◌, ℕ, Bool, zero, suc, ◌+�
 use Rattle.std.proofs.lemmas.Bool.{ltb-true}
 use Rattle.sl_ast.specs.Syntax as U
 use Rattle.sl_ast.specs.Typed as A
-use Rattle.sl_types.specs.Functions.{Param, Program}
-use Rattle.sl_types.specs.Typed.{stmts}
-use Rattle.sl_types.specs.Extents.{extent_params, extent_stmts}
-use Rattle.sl_types.specs.Sizes.{size_program, fits}
+use Rattle.sl_typing.specs.Functions.{Param, Program}
+use Rattle.sl_typing.specs.Typed.{stmts}
+use Rattle.sl_types.specs.Extents.{extent_params, extent_stmts, extent_program, fits}
 use Rattle.sl_types.specs.Inline.{Built, extents_of, count, count_params, count_stmts, inline, inline_stmts, built_from, defaults_at, tree_of}
 use Rattle.sl_types.specs.Checked.{is_within}
 use Rattle.sl_types.proofs.Numbered.{AllSound, upto, node, join, numbered, numbered_stmts}
 use Rattle.sl_types.proofs.Deep.{deep, deep_stmts, all_sound, extents_are}
 use Rattle.sl_types.proofs.Counts.{counts}
-use Rattle.sl_types.proofs.Within.{extent_program, fits_is}
 
 numbered_defaults : (fs : List Built) → AllSound fs → (n : ℕ) (ps : List Param) → A.numbers_defaults (defaults_at fs n ps) ≡ upto n (count_params fs ps)
 numbered_defaults fs all n [] = refl
@@ -56,9 +54,8 @@ depth_is s p =
     (deep_stmts (in_body p) (all_sound false [] p.known tt) (1 + count_params (by_default p) p.params) (stmts p.body))
     ∙ ap₂ (λ xs ys. 1 + max (extent_params xs p.params).depth (extent_stmts ys (stmts p.body)).depth) (extents_are true [] p.known) (extents_are false [] p.known)
 
-pub within_is : (s : U.Shader) (p : Program) → fits (size_program p) ≡ is_within (tree_of s p)
-within_is s p =
-    fits_is p ∙ sym (ap₂ (λ a b. nat_lt a 65537 && nat_lt b 257) (counted s p) (depth_is s p))
+pub within_is : (s : U.Shader) (p : Program) → fits (extent_program p) ≡ is_within (tree_of s p)
+within_is s p = sym (ap₂ (λ a b. nat_lt a 65537 && nat_lt b 257) (counted s p) (depth_is s p))
 
 pub nodes_are : (s : U.Shader) (p : Program) → length (A.numbers_tree (tree_of s p)) ≡ 1 + (count_params (by_default p) p.params + count_stmts (in_body p) (stmts p.body))
 nodes_are s p = ap length (tree_numbered s p) ∙ length_upto 0 (1 + (count_params (by_default p) p.params + count_stmts (in_body p) (stmts p.body)))

@@ -1,9 +1,9 @@
 -- How many nodes a tree with functions in place has, and how many stand one in another, without that tree.
-use Rattle.std.specs.Prelude.{ℕ, Bool, ◌+◌, max, min, List, [], ◌∷◌, ◌++◌, get_or, Ok, Err}
-use Rattle.sl_types.specs.Found.{Found}
-use Rattle.sl_types.specs.Typed.{Expr, number, word, variable, apply, call, Exprs, none, more, Stmt, empty, leave, again, block, group, declare, start, assign, test, test_else, repeat, steps, lights, Stmts, done, first, Body}
-use Rattle.sl_types.specs.Scope.{Callee, body_in}
-use Rattle.sl_types.specs.Functions.{Param}
+use Rattle.std.specs.Prelude.{ℕ, Bool, true, false, ◌+◌, ◌&&◌, nat_lt, max, min, List, [], ◌∷◌, ◌++◌, get_or, Ok, Err}
+use Rattle.sl_typing.specs.Found.{Found}
+use Rattle.sl_typing.specs.Typed.{Expr, number, word, variable, apply, call, Exprs, none, more, Stmt, empty, leave, again, block, group, declare, start, assign, test, test_else, repeat, steps, lights, Stmts, done, first, stmts, Body}
+use Rattle.sl_typing.specs.Scope.{Callee, body_in}
+use Rattle.sl_typing.specs.Functions.{Param, Program}
 
 pub record Extent : Type 0 where
   pub nodes : ℕ
@@ -73,3 +73,11 @@ extents_from default fs (c ∷ cs) = extents_from default (fs ++ extent_body fs 
 abbrev pub extent_params : List Extent → List Param → Extent
 extent_params fs [] = nowhere
 extent_params fs (p ∷ ps) = beside (under (extent fs p.value)) (extent_params fs ps)
+
+-- the shader's node over its parameters and its body
+abbrev pub extent_program : Program → Extent
+extent_program p = under (beside (extent_params (extents_from true [] p.known) p.params) (extent_stmts (extents_from false [] p.known) (stmts p.body)))
+
+-- within the limits
+abbrev pub fits : Extent → Bool
+fits x = nat_lt x.nodes 65537 && nat_lt x.depth 257

@@ -6,10 +6,10 @@ use Rattle.sl_ast.specs.Typed as A
 use Rattle.sl_ast.specs.declared.kinds.NodeType.{NodeType}
 use Rattle.sl_ast.specs.declared.typed.Place.{Place}
 use Rattle.sl_ast.specs.declared.typed.TreeFormal.{TreeFormal}
-use Rattle.sl_types.specs.Found.{Found}
-use Rattle.sl_types.specs.Typed.{Expr, number, word, variable, apply, call, Exprs, none, more, Stmt, empty, leave, again, block, group, declare, start, assign, test, test_else, repeat, steps, lights, Stmts, done, first, Body, stmts}
-use Rattle.sl_types.specs.Scope.{Local, Callee, body_in}
-use Rattle.sl_types.specs.Functions.{Param, Program}
+use Rattle.sl_typing.specs.Found.{Found}
+use Rattle.sl_typing.specs.Typed.{Expr, number, word, variable, apply, call, Exprs, none, more, Stmt, empty, leave, again, block, group, declare, start, assign, test, test_else, repeat, steps, lights, Stmts, done, first, Body, stmts}
+use Rattle.sl_typing.specs.Scope.{Local, Callee, body_in}
+use Rattle.sl_typing.specs.Functions.{Param, Program}
 use Rattle.sl_types.specs.Extents.{Extent, absent, extent, extent_args, extent_stmt, extent_stmts, extent_body, extent_params}
 
 -- what a call of a function puts in place, by the number of its first node

@@ -6,9 +6,9 @@ use Rattle.sl_ast.specs.declared.kinds.NodeType.TheVariants.{Float, Test}
 use Rattle.sl_ast.specs.declared.operations.Operation.TheVariants.{Value}
 use Rattle.sl_ast.specs.declared.operations.ValueOperation.TheVariants.{Less}
 use Rattle.sl_ast.specs.declared.typed.Variable.TheVariants.{Level}
-use Rattle.sl_types.specs.Typed as T
-use Rattle.sl_types.specs.Scope.{Local, Callee}
-use Rattle.sl_types.specs.Stmts.{one_of}
+use Rattle.sl_typing.specs.Typed as T
+use Rattle.sl_typing.specs.Scope.{Local, Callee}
+use Rattle.sl_typing.specs.Stmts.{one_of}
 use Rattle.sl_types.specs.Extents.{extent, extent_stmt, extents_from}
 use Rattle.sl_types.specs.Inline.{Built, at, tree_formal, built_from, inline, inline_stmt}
 

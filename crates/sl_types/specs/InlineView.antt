@@ -1,9 +1,9 @@
 -- The functions of the code as calls put them in place.
 use Rattle.std.specs.Prelude.{◌≡◌, ◌≤◌, ◌+◌, ℕ, Bool, List, [], map, get_or, Option, Some, None, Ok}
 use Rattle.sl_types.specs.Inline.{Built, nothing, built_in, built_from}
-use Rattle.sl_types.specs.Views.{callee_of, local_of, stmts_of}
+use Rattle.sl_typing.specs.Views.{callee_of, local_of, stmts_of}
 use Rattle.sl_types.specs.Weights.{weight_body, weight_known}
-use Rattle.sl_types.specs.declared.places.Known.{Known}
+use Rattle.sl_typing.specs.declared.places.Known.{Known}
 use Rattle.sl_types.specs.declared.inline.Inside.{Inside}
 
 abbrev pub functions : Bool → List Known → List Built

@@ -1,8 +1,8 @@
 -- How great a typed tree is, and what functions do, by which putting functions in place ends: a call's function has only those before it.
 use Rattle.std.specs.Prelude.{ℕ, ◌+◌, Bool, List, [], ◌∷◌, Ok, Err}
-use Rattle.sl_types.specs.Found.{Found}
-use Rattle.sl_types.specs.Typed.{Expr, number, word, variable, apply, call, Exprs, none, more, Stmt, empty, leave, again, block, group, declare, start, assign, test, test_else, repeat, steps, lights, Stmts, done, first, Body}
-use Rattle.sl_types.specs.Scope.{Callee, body_in}
+use Rattle.sl_typing.specs.Found.{Found}
+use Rattle.sl_typing.specs.Typed.{Expr, number, word, variable, apply, call, Exprs, none, more, Stmt, empty, leave, again, block, group, declare, start, assign, test, test_else, repeat, steps, lights, Stmts, done, first, Body}
+use Rattle.sl_typing.specs.Scope.{Callee, body_in}
 
 abbrev mutual
   pub weight : Expr → ℕ

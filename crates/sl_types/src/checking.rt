@@ -1,22 +1,21 @@
 // The typed tree of a file, or its first fault.
-ghost use Rattle.std.specs.Prelude.{◌≡◌, IfOk, Ok, Err, true, option_map, if◌then◌else◌};
-ghost use Rattle.sl_types.specs.declared.fault.TypeCode.TheVariants.{M8};
+ghost use Rattle.std.specs.Prelude.{◌≡◌, IfOk, Ok, Err, true, map, option_map, if◌then◌else◌};
+ghost use Rattle.sl_typing.specs.declared.fault.TypeCode.TheVariants.{M8};
 ghost use Rattle.sl_ast.specs.Settled.{IsSettled, unsettled};
 ghost use Rattle.sl_ast.specs.ShaderView.{shader_of};
 ghost use Rattle.sl_ast.specs.TreeView.{tree_of};
 ghost use Rattle.sl_ast.specs.WellTyped.{well_typed};
 ghost use Rattle.sl_types.specs.Checked as spec;
+ghost use Rattle.sl_types.specs.Distinct.{AreDistinct};
 ghost use Rattle.sl_types.specs.Inline.{tree_of as inlined};
-ghost use Rattle.sl_types.specs.Views.{Gives, program_of};
+ghost use Rattle.sl_typing.specs.Views.{Gives, program_of};
 ghost use Rattle.uniform_varying.specs.Gives.{fault_of};
 
-use crate::fault::{TypeCode, TypeFault, fault};
 use crate::inline::{declared, defaults, place, stmts};
-use crate::params::program;
-use crate::places::Program;
 use crate::sizes::is_within;
 use fixed_math::{List, NoMemory};
 use sl_ast::{ControlCode, Shader, Tree};
+use sl_typing::{Program, TypeCode, TypeFault, program};
 use std::alloc::Global;
 use uniform_varying::{ControlFault, first_fault};
 
@@ -24,7 +23,10 @@ fn limited<'a>(within: bool, program: Program<'a>, line: u32) -> Result<Program<
     ensures { Gives program_of result (if within then Ok (program_of program.entry) else Err (M8, line)) }
 {
     if !within {
-        return fault(TypeCode::M8, line);
+        return Err(TypeFault::At {
+            code: TypeCode::M8,
+            line,
+        });
     }
     Ok(program)
 }
@@ -77,10 +79,14 @@ fn settled(tree: Tree, found: Option<ControlFault>) -> Result<Tree, TypeFault>
     requires { option_map fault_of found ≡ unsettled (tree_of tree) }
     ensures gives { Gives tree_of result (spec.settled (tree_of tree) (option_map fault_of found)) }
     ensures settled { IfOk result (λ t. IsSettled (tree_of t)) }
+    ensures kept { IfOk result (λ t. t ≡ tree) }
 {
     match found {
         None => Ok(tree),
-        Some(first) => fault(code_of(first.code), first.line),
+        Some(first) => Err(TypeFault::At {
+            code: code_of(first.code),
+            line: first.line,
+        }),
     }
 }
 
@@ -90,10 +96,11 @@ fn settled(tree: Tree, found: Option<ControlFault>) -> Result<Tree, TypeFault>
 /// The faults of names, types, kinds of shaders and places come first, in the order of the text; those of a function are
 /// told once, where it is first called. Then `M8` stands at the line of the shader whose tree is too great: more than 65,536
 /// nodes, or more than 256 in one another. The faults of classes and control come last, in the order of the text: no such
-/// fault stands in a tree that is given.
+/// fault stands in a tree that is given. No two of its parameters have one name.
 pub fn check(alloc: Global, shader: &Shader) -> Result<Tree, TypeFault>
     ensures gives { Gives tree_of result (spec.checked (shader_of shader.now)) }
     ensures settled { IfOk result (λ t. IsSettled (tree_of t)) }
+    ensures distinct { IfOk result (λ t. AreDistinct (map (λ l. l.name) (tree_of t).params)) }
 {
     let program = sized(alloc, shader)?;
     let tree = tree(alloc, shader, &program)?;

@@ -4,17 +4,16 @@ ghost use Rattle.sl_ast.specs.Typed as A;
 ghost use Rattle.sl_ast.specs.TypedView.{tree_expr, tree_stmt, default_of, local_of as param_type};
 ghost use Rattle.sl_types.specs.Inline as spec;
 ghost use Rattle.sl_types.specs.InlineView.{functions, Lighter, Puts};
-ghost use Rattle.sl_types.specs.Scope.{body_in};
-ghost use Rattle.sl_types.specs.Typed as T;
-ghost use Rattle.sl_types.specs.TypedView.{typed_of, tlink_of, tstmt_of};
-ghost use Rattle.sl_types.specs.Views.{body_of, callee_of, local_of, param_of};
+ghost use Rattle.sl_typing.specs.Scope.{body_in};
+ghost use Rattle.sl_typing.specs.Typed as T;
+ghost use Rattle.sl_typing.specs.TypedView.{typed_of, tlink_of, tstmt_of};
+ghost use Rattle.sl_typing.specs.Views.{body_of, callee_of, local_of, param_of};
 
-use crate::places::{Body, Faulty, Known, Local, Param};
-use crate::typed::{TypedExpr, TypedLink, TypedStmt};
 use fixed_math::{List, NoMemory, Num};
 use sl_ast::{
     LightStmt, NodeType, Operation, ParamDecl, ParamDefault, Place, TreeExpr, TreeFormal, TreeStmt,
 };
+use sl_typing::{Body, Faulty, Known, Local, Param, TypedExpr, TypedLink, TypedStmt};
 use std::alloc::Global;
 
 // A function where a call of it is, with those before it.

@@ -3,16 +3,15 @@ ghost use Rattle.std.specs.Prelude.{List, ◌≡◌, ◌≤◌, [], IfOk, get_or
 ghost use Rattle.sl_ast.specs.Syntax as U;
 ghost use Rattle.sl_types.specs.Checked.{is_within};
 ghost use Rattle.sl_types.specs.Inline.{tree_of};
-ghost use Rattle.sl_types.specs.Extents.{nowhere, absent};
-ghost use Rattle.sl_types.specs.Functions as F;
-ghost use Rattle.sl_types.specs.Scope.{body_in};
-ghost use Rattle.sl_types.specs.Sizes as spec;
-ghost use Rattle.sl_types.specs.Typed as T;
-ghost use Rattle.sl_types.specs.TypedView.{typed_of, tlink_of, tstmt_of};
-ghost use Rattle.sl_types.specs.Views.{extent_of, body_of, callee_of, param_of, program_of};
+ghost use Rattle.sl_types.specs.Extents as E;
+ghost use Rattle.sl_typing.specs.Functions as F;
+ghost use Rattle.sl_typing.specs.Scope.{body_in};
+ghost use Rattle.sl_typing.specs.Typed as T;
+ghost use Rattle.sl_typing.specs.TypedView.{typed_of, tlink_of, tstmt_of};
+ghost use Rattle.sl_types.specs.ExtentView.{extent_of};
+ghost use Rattle.sl_typing.specs.Views.{body_of, callee_of, param_of, program_of};
 
-use crate::places::{Body, Faulty, Known, Param, Program};
-use crate::typed::{TypedExpr, TypedLink, TypedStmt};
+use sl_typing::{Body, Faulty, Known, Param, Program, TypedExpr, TypedLink, TypedStmt};
 use std::alloc::{AllocError, Global};
 use std::cmp::{max, min};
 
@@ -30,7 +29,7 @@ const ABSENT: Extent = Extent { nodes: 2, depth: 2 };
 // A node over such parts.
 #[tactic(auto, using(crate::proofs::Joins::over_is))]
 fn over(x: Extent) -> Extent
-    ensures { extent_of result ≡ spec.over (extent_of x) }
+    ensures { (y : E.Extent) → extent_of x ≡ E.cut y → extent_of result ≡ E.cut (E.under y) }
 {
     Extent {
         nodes: 1 + min(x.nodes, 65536),
@@ -41,7 +40,7 @@ fn over(x: Extent) -> Extent
 // Parts beside each other.
 #[tactic(auto, using(crate::proofs::Joins::with_is))]
 fn with(x: Extent, y: Extent) -> Extent
-    ensures { extent_of result ≡ spec.with (extent_of x) (extent_of y) }
+    ensures { (u v : E.Extent) → extent_of x ≡ E.cut u → extent_of y ≡ E.cut v → extent_of result ≡ E.cut (E.beside u v) }
 {
     let nodes = x.nodes as u64 + y.nodes as u64;
     Extent {
@@ -52,13 +51,14 @@ fn with(x: Extent, y: Extent) -> Extent
 
 // An operator over two operands.
 fn pair(x: Extent, y: Extent) -> Extent
-    ensures { extent_of result ≡ spec.over (spec.with (spec.with nowhere (extent_of x)) (extent_of y)) }
+    ensures { (u v : E.Extent) → extent_of x ≡ E.cut u → extent_of y ≡ E.cut v → extent_of result ≡ E.cut (E.under (E.beside u (E.beside v E.nowhere))) }
 {
-    over(with(with(NOWHERE, x), y))
+    over(with(x, y))
 }
 
+// What a function does.
 fn size_of(sizes: &[Extent], k: usize) -> Extent
-    ensures { extent_of result ≡ get_or (map extent_of sizes.now) k absent }
+    ensures { extent_of result ≡ get_or (map extent_of sizes.now) k E.absent }
 {
     match sizes.get(k) {
         Some(size) => *size,
@@ -67,9 +67,9 @@ fn size_of(sizes: &[Extent], k: usize) -> Extent
 }
 
 #[cycle(size)]
-#[tactic(auto, using(crate::proofs::TypedNodes::apply_shown, crate::proofs::TypedNodes::call_shown, crate::proofs::Chains::chain_sized))]
+#[tactic(auto, using(crate::proofs::TypedNodes::apply_shown, crate::proofs::TypedNodes::call_shown, crate::proofs::Chains::chain_shown))]
 fn size(e: &TypedExpr, sizes: &[Extent]) -> Extent
-    ensures { extent_of result ≡ spec.size (map extent_of sizes.now) (typed_of e.now) }
+    ensures { (fs : List E.Extent) → map extent_of sizes.now ≡ map E.cut fs → extent_of result ≡ E.cut (E.extent fs (typed_of e.now)) }
 {
     match e {
         TypedExpr::Number { .. } => over(NOWHERE),
@@ -94,7 +94,7 @@ fn size(e: &TypedExpr, sizes: &[Extent]) -> Extent
 
 #[cycle(size)]
 fn size_args(args: &[TypedExpr], sizes: &[Extent]) -> Extent
-    ensures { extent_of result ≡ spec.size_args (map extent_of sizes.now) nowhere (T.exprs (map typed_of args.now)) }
+    ensures { (fs : List E.Extent) → map extent_of sizes.now ≡ map E.cut fs → extent_of result ≡ E.cut (E.extent_args fs (T.exprs (map typed_of args.now))) }
 {
     let mut before = NOWHERE;
     for e in args {
@@ -106,7 +106,7 @@ fn size_args(args: &[TypedExpr], sizes: &[Extent]) -> Extent
 // Operators behind what is so great.
 #[cycle(size)]
 fn size_links(links: &[TypedLink], sizes: &[Extent], first: Extent) -> Extent
-    ensures { extent_of result ≡ spec.size_links (map extent_of sizes.now) (extent_of first) (map tlink_of links.now) }
+    ensures { (fs : List E.Extent) (e : T.Expr) → map extent_of sizes.now ≡ map E.cut fs → extent_of first ≡ E.cut (E.extent fs e) → extent_of result ≡ E.cut (E.extent fs (T.chained e (map tlink_of links.now))) }
 {
     let mut before = first;
     for link in links {
@@ -118,7 +118,7 @@ fn size_links(links: &[TypedLink], sizes: &[Extent], first: Extent) -> Extent
 #[cycle(size_stmt)]
 #[tactic(auto, using(crate::proofs::TypedNodes::block_shown, crate::proofs::TypedNodes::group_shown, crate::proofs::TypedNodes::for_shown))]
 fn size_stmt(s: &TypedStmt, sizes: &[Extent]) -> Extent
-    ensures { extent_of result ≡ spec.size_stmt (map extent_of sizes.now) (tstmt_of s.now) }
+    ensures { (fs : List E.Extent) → map extent_of sizes.now ≡ map E.cut fs → extent_of result ≡ E.cut (E.extent_stmt fs (tstmt_of s.now)) }
 {
     match s {
         TypedStmt::Empty { .. } => over(NOWHERE),
@@ -162,7 +162,7 @@ fn size_stmt(s: &TypedStmt, sizes: &[Extent]) -> Extent
 
 #[cycle(size_stmt)]
 fn size_stmts(body: &[TypedStmt], sizes: &[Extent]) -> Extent
-    ensures { extent_of result ≡ spec.size_stmts (map extent_of sizes.now) nowhere (T.stmts (map tstmt_of body.now)) }
+    ensures { (fs : List E.Extent) → map extent_of sizes.now ≡ map E.cut fs → extent_of result ≡ E.cut (E.extent_stmts fs (T.stmts (map tstmt_of body.now))) }
 {
     let mut before = NOWHERE;
     for s in body {
@@ -172,7 +172,7 @@ fn size_stmts(body: &[TypedStmt], sizes: &[Extent]) -> Extent
 }
 
 fn size_body(body: &Result<Body, Faulty>, sizes: &[Extent]) -> Extent
-    ensures { extent_of result ≡ spec.size_body (map extent_of sizes.now) (body_of body.now) }
+    ensures { (fs : List E.Extent) → map extent_of sizes.now ≡ map E.cut fs → extent_of result ≡ E.cut (E.extent_body fs (body_of body.now)) }
 {
     match body {
         Ok(body) => with(
@@ -184,7 +184,7 @@ fn size_body(body: &Result<Body, Faulty>, sizes: &[Extent]) -> Extent
 }
 
 fn size_known(by_default: bool, known: &Known<'_>, sizes: &[Extent]) -> Extent
-    ensures { extent_of result ≡ spec.size_body (map extent_of sizes.now) (body_in by_default (callee_of known.now)) }
+    ensures { (fs : List E.Extent) → map extent_of sizes.now ≡ map E.cut fs → extent_of result ≡ E.cut (E.extent_body fs (body_in by_default (callee_of known.now))) }
 {
     if by_default {
         size_body(&known.by_default, sizes)
@@ -199,7 +199,7 @@ fn sizes_from(
     by_default: bool,
     known: &[Known<'_>],
 ) -> Result<Vec<Extent>, AllocError>
-    ensures { IfOk result (λ v. map extent_of v.items ≡ spec.sizes_from by_default [] (map callee_of known.now)) }
+    ensures { IfOk result (λ v. map extent_of v.items ≡ map E.cut (E.extents_from by_default [] (map callee_of known.now))) }
 {
     let mut sizes = Vec::new(alloc);
     for one in known {
@@ -210,7 +210,7 @@ fn sizes_from(
 }
 
 fn size_params(params: &[Param<'_>], sizes: &[Extent]) -> Extent
-    ensures { extent_of result ≡ spec.size_params (map extent_of sizes.now) nowhere (map param_of params.now) }
+    ensures { (fs : List E.Extent) → map extent_of sizes.now ≡ map E.cut fs → extent_of result ≡ E.cut (E.extent_params fs (map param_of params.now)) }
 {
     let mut before = NOWHERE;
     for one in params {
@@ -221,7 +221,7 @@ fn size_params(params: &[Param<'_>], sizes: &[Extent]) -> Extent
 
 // The size of the whole tree: the shader's node, its parameters and its body.
 fn size_program(alloc: Global, program: &Program<'_>) -> Result<Extent, AllocError>
-    ensures { IfOk result (λ x. extent_of x ≡ spec.size_program (program_of program.now)) }
+    ensures { IfOk result (λ x. extent_of x ≡ E.cut (E.extent_program (program_of program.now))) }
 {
     let by_default = sizes_from(alloc, true, program.known.as_slice())?;
     let sizes = sizes_from(alloc, false, program.known.as_slice())?;
@@ -231,7 +231,7 @@ fn size_program(alloc: Global, program: &Program<'_>) -> Result<Extent, AllocErr
 }
 
 fn fits(x: Extent) -> bool
-    ensures { result ≡ spec.fits (extent_of x) }
+    ensures { result ≡ E.fits (extent_of x) }
 {
     x.nodes < 65537 && x.depth < 257
 }

@@ -4,8 +4,8 @@ use Rattle.sl_ast.specs.TypedView.{tree_expr, tree_stmt}
 use Rattle.sl_types.specs.Extents.{absent}
 use Rattle.sl_types.specs.Inline.{nothing, extents_of, count, count_args, count_stmt, count_stmts, inline, inline_args, inline_stmt, inline_stmts}
 use Rattle.sl_types.specs.InlineView.{functions}
-use Rattle.sl_types.specs.Typed as T
-use Rattle.sl_types.specs.TypedView.{typed_of, tlink_of, tstmt_of}
+use Rattle.sl_typing.specs.Typed as T
+use Rattle.sl_typing.specs.TypedView.{typed_of, tlink_of, tstmt_of}
 use Rattle.sl_types.specs.Weights.{weight, weight_stmt, weight_stmts}
 use Rattle.sl_types.proofs.Chains.{chain_shown, count_links, tree_links, links_counted, links_weighed, links_inlined, links_split, links_end, light_link, pair_tree, call_tree, on_ok}
 use Rattle.sl_types.proofs.Numbered.{extent_at}

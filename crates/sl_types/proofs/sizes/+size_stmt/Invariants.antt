@@ -1,12 +1,11 @@
-use Rattle.std.proofs.Common.{◌≡◌, drop, map}
-use Rattle.sl_types.specs.Extents.{nowhere}
-use Rattle.sl_types.specs.Sizes.{size_stmts}
-use Rattle.sl_types.specs.Typed as T
-use Rattle.sl_types.specs.TypedView.{tstmt_of}
-use Rattle.sl_types.specs.Views.{extent_of}
+use Rattle.std.proofs.Common.{◌≡◌, List, drop, map}
+use Rattle.sl_types.specs.Extents.{Extent, cut, beside, extent_stmts}
+use Rattle.sl_typing.specs.Typed as T
+use Rattle.sl_typing.specs.TypedView.{tstmt_of}
+use Rattle.sl_types.specs.ExtentView.{extent_of}
 use Rattle.sl_types.proofs.sizes.+size_stmt.Given as goal
 
 abbrev pub invariant-size_stmts-loop-s : goal.invariant-size_stmts-loop-s
-invariant-size_stmts-loop-s l =
-    size_stmts (map extent_of l.sizes) (extent_of l.before) (T.stmts (map tstmt_of (drop l.s-index l.body)))
-    ≡ size_stmts (map extent_of l.sizes) nowhere (T.stmts (map tstmt_of l.body))
+invariant-size_stmts-loop-s l = (fs : List Extent) → map extent_of l.sizes ≡ map cut fs
+    → (extent_of l.before ≡ cut (extent_of l.before))
+    × (cut (beside (extent_of l.before) (extent_stmts fs (T.stmts (map tstmt_of (drop l.s-index l.body))))) ≡ cut (extent_stmts fs (T.stmts (map tstmt_of l.body))))

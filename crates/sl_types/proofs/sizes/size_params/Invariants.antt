@@ -1,8 +1,10 @@
-use Rattle.std.proofs.Common.{◌≡◌, drop, map}
-use Rattle.sl_types.specs.Extents.{nowhere}
-use Rattle.sl_types.specs.Sizes.{size_params}
-use Rattle.sl_types.specs.Views.{extent_of, param_of}
+use Rattle.std.proofs.Common.{◌≡◌, List, drop, map}
+use Rattle.sl_types.specs.Extents.{Extent, cut, beside, extent_params}
+use Rattle.sl_types.specs.ExtentView.{extent_of}
+use Rattle.sl_typing.specs.Views.{param_of}
 use Rattle.sl_types.proofs.sizes.size_params.Given as goal
 
 abbrev pub invariant-loop-one : goal.invariant-loop-one
-invariant-loop-one l = size_params (map extent_of l.sizes) (extent_of l.before) (map param_of (drop l.one-index l.params)) ≡ size_params (map extent_of l.sizes) nowhere (map param_of l.params)
+invariant-loop-one l = (fs : List Extent) → map extent_of l.sizes ≡ map cut fs
+    → (extent_of l.before ≡ cut (extent_of l.before))
+    × (cut (beside (extent_of l.before) (extent_params fs (map param_of (drop l.one-index l.params)))) ≡ cut (extent_params fs (map param_of l.params)))

@@ -1,7 +1,9 @@
-use Rattle.std.proofs.Common.{◌≡◌, [], drop, map}
-use Rattle.sl_types.specs.Sizes.{sizes_from}
-use Rattle.sl_types.specs.Views.{extent_of, callee_of}
+use Rattle.std.proofs.Common.{◌≡◌, List, [], drop, map}
+use Rattle.sl_types.specs.Extents.{Extent, cut, extents_from}
+use Rattle.sl_types.specs.ExtentView.{extent_of}
+use Rattle.sl_typing.specs.Views.{callee_of}
 use Rattle.sl_types.proofs.sizes.sizes_from.Given as goal
 
 abbrev pub invariant-loop-one : goal.invariant-loop-one
-invariant-loop-one l = sizes_from l.by_default (map extent_of l.sizes.items) (map callee_of (drop l.one-index l.known)) ≡ sizes_from l.by_default [] (map callee_of l.known)
+invariant-loop-one l = (fs : List Extent) × (map extent_of l.sizes.items ≡ map cut fs)
+    × (extents_from l.by_default fs (map callee_of (drop l.one-index l.known)) ≡ extents_from l.by_default [] (map callee_of l.known))

@@ -1,0 +1,80 @@
+-- What is typed behind what has been typed.
+use Rattle.std.proofs.Common.{◌≡◌, ◌≤◌, ◌<◌, ℕ, ◌+◌, Bool, false, List, [], ◌∷◌, ◌++◌, append_assoc, append-nil, drop, map, length, get_or, Ok, Err, refl, sym, ap, ◌∙◌}
+use Rattle.std.proofs.lemmas.List.{at_drop_more, drop_all}
+use Rattle.sl_ast.specs.Syntax as U
+use Rattle.sl_ast.specs.SyntaxView.{expr_of, stmt_of, declared_of}
+use Rattle.sl_ast.specs.declared.syntax.Declared.{Declared}
+use Rattle.sl_ast.specs.declared.syntax.Expr.{Expr}
+use Rattle.sl_ast.specs.declared.syntax.Stmt.{Stmt}
+use Rattle.sl_ast.specs.declared.kinds.SlType.{SlType}
+use Rattle.sl_typing.specs.Found.{Found, ◌>>=◌}
+use Rattle.sl_typing.specs.Typed as T
+use Rattle.sl_typing.specs.Scope.{Local, Around}
+use Rattle.sl_typing.specs.Exprs.{typed_expr, typed_args}
+use Rattle.sl_typing.specs.Stmts.{Rows, behind, followed, typed_name, typed_names, typed_stmt, typed_rows}
+
+-- arguments behind others
+abbrev pub args_behind : List T.Expr → Found (List T.Expr) → Found (List T.Expr)
+args_behind before found = found >>= λ ts. Ok (before ++ ts)
+
+args_push : (before : List T.Expr) (r : Found T.Expr) (rest : Found (List T.Expr))
+    → args_behind before (r >>= λ t. rest >>= λ ts. Ok (t ∷ ts)) ≡ r >>= λ t. args_behind (before ++ t ∷ []) rest
+args_push before (Err e) rest = refl
+args_push before (Ok t) (Err e) = refl
+args_push before (Ok t) (Ok ts) = ap (λ x. Ok x) (sym (append_assoc before (t ∷ []) ts))
+
+pub args_step : (g : Around) (ls : List Local) (before : List T.Expr) (xs : List Expr) (i : ℕ) (x : Expr) → i < length xs → x ≡ get_or xs i x
+    → args_behind before (typed_args g ls (U.exprs (map expr_of (drop i xs))))
+    ≡ typed_expr g false ls (expr_of x) >>= λ t. args_behind (before ++ t ∷ []) (typed_args g ls (U.exprs (map expr_of (drop (i + 1) xs))))
+args_step g ls before xs i x low is =
+    let rest = U.exprs (map expr_of (drop (i + 1) xs)) in
+    at_drop_more (λ ys. args_behind before (typed_args g ls (U.exprs (map expr_of ys)))) xs i x low
+    ∙ ap (λ y. args_behind before (typed_args g ls (U.more (expr_of y) rest))) (sym is)
+    ∙ args_push before (typed_expr g false ls (expr_of x)) (typed_args g ls rest)
+
+pub args_end : (g : Around) (ls : List Local) (before : List T.Expr) (xs : List Expr) (i : ℕ) → length xs ≤ i
+    → args_behind before (typed_args g ls (U.exprs (map expr_of (drop i xs)))) ≡ Ok before
+args_end g ls before xs i high =
+    ap (λ ys. args_behind before (typed_args g ls (U.exprs (map expr_of ys)))) (drop_all i xs high) ∙ ap (λ x. Ok x) (append-nil before)
+
+-- statements behind none, and those of several statements
+pub behind_none : (rows : Rows) → behind [] rows ≡ rows
+behind_none (Ok r) = refl
+behind_none (Err e) = refl
+
+behind_twice : (ts ss : List T.Stmt) (rows : Rows) → behind ts (behind ss rows) ≡ behind (ts ++ ss) rows
+behind_twice ts ss (Ok r) = ap (λ x. Ok (x, r.1)) (sym (append_assoc ts ss r.0))
+behind_twice ts ss (Err e) = refl
+
+behind_followed : (ts : List T.Stmt) (rows : Rows) (next : List Local → Rows) → behind ts (followed rows next) ≡ behind ts rows >>= λ r. behind r.0 (next r.1)
+behind_followed ts (Ok r) next = behind_twice ts r.0 (next r.1)
+behind_followed ts (Err e) next = refl
+
+pub names_step : (g : Around) (from : ℕ) (uniform : Bool) (kind : SlType) (ts : List T.Stmt) (ls : List Local) (ds : List Declared) (i : ℕ) (d : Declared)
+    → i < length ds → d ≡ get_or ds i d
+    → behind ts (typed_names g from uniform kind ls (map declared_of (drop i ds)))
+    ≡ behind ts (typed_name g from uniform kind ls (declared_of d)) >>= λ r. behind r.0 (typed_names g from uniform kind r.1 (map declared_of (drop (i + 1) ds)))
+names_step g from uniform kind ts ls ds i d low is =
+    let next : List Local → Rows = λ left. typed_names g from uniform kind left (map declared_of (drop (i + 1) ds)) in
+    at_drop_more (λ ys. behind ts (typed_names g from uniform kind ls (map declared_of ys))) ds i d low
+    ∙ ap (λ y. behind ts (followed (typed_name g from uniform kind ls (declared_of y)) next)) (sym is)
+    ∙ behind_followed ts (typed_name g from uniform kind ls (declared_of d)) next
+
+pub names_end : (g : Around) (from : ℕ) (uniform : Bool) (kind : SlType) (ts : List T.Stmt) (ls : List Local) (ds : List Declared) (i : ℕ) → length ds ≤ i
+    → behind ts (typed_names g from uniform kind ls (map declared_of (drop i ds))) ≡ Ok (ts, ls)
+names_end g from uniform kind ts ls ds i high =
+    ap (λ ys. behind ts (typed_names g from uniform kind ls (map declared_of ys))) (drop_all i ds high) ∙ ap (λ x. Ok (x, ls)) (append-nil ts)
+
+pub rows_step : (g : Around) (from : ℕ) (ts : List T.Stmt) (ls : List Local) (xs : List Stmt) (i : ℕ) (x : Stmt) → i < length xs → x ≡ get_or xs i x
+    → behind ts (typed_rows g from ls (U.stmts (map stmt_of (drop i xs))))
+    ≡ behind ts (typed_stmt g from ls (stmt_of x)) >>= λ r. behind r.0 (typed_rows g from r.1 (U.stmts (map stmt_of (drop (i + 1) xs))))
+rows_step g from ts ls xs i x low is =
+    let next : List Local → Rows = λ left. typed_rows g from left (U.stmts (map stmt_of (drop (i + 1) xs))) in
+    at_drop_more (λ ys. behind ts (typed_rows g from ls (U.stmts (map stmt_of ys)))) xs i x low
+    ∙ ap (λ y. behind ts (followed (typed_stmt g from ls (stmt_of y)) next)) (sym is)
+    ∙ behind_followed ts (typed_stmt g from ls (stmt_of x)) next
+
+pub rows_end : (g : Around) (from : ℕ) (ts : List T.Stmt) (ls : List Local) (xs : List Stmt) (i : ℕ) → length xs ≤ i
+    → behind ts (typed_rows g from ls (U.stmts (map stmt_of (drop i xs)))) ≡ Ok (ts, ls)
+rows_end g from ts ls xs i high =
+    ap (λ ys. behind ts (typed_rows g from ls (U.stmts (map stmt_of ys)))) (drop_all i xs high) ∙ ap (λ x. Ok (x, ls)) (append-nil ts)

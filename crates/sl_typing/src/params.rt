@@ -1,0 +1,172 @@
+// Parameters with their defaults, and the whole file.
+ghost use Rattle.std.specs.Prelude.{List, ◌≡◌, [], Ok, OnOk, length, map, option_map};
+ghost use Rattle.sl_ast.specs.ShaderView.{shader_of};
+ghost use Rattle.sl_ast.specs.SyntaxView.{expr_of, group_of, declared_of};
+ghost use Rattle.sl_typing.specs.Functions as spec;
+ghost use Rattle.sl_typing.specs.TypedView.{typed_of};
+ghost use Rattle.sl_typing.specs.Views.{Gives, GivesParams, around_of, local_of, callee_of, param_of, program_of};
+
+use crate::exprs::expr;
+use crate::fault::{TypeCode, TypeFault, fault};
+use crate::functions::known_from;
+use crate::places::{Around, Local, Param, Program, Spot};
+use crate::scope::{Functions, Scope};
+use crate::sets::{is_varying, value_in};
+use crate::stmts::rows;
+use crate::typed::TypedExpr;
+use sl_ast::{Declared, Expr, Group, Shader, SlKind, SlType};
+use std::alloc::Global;
+
+fn default_in(
+    alloc: Global,
+    g: &Around<'_, '_>,
+    kind: SlType,
+    set_line: u32,
+    value: &Option<Expr>,
+) -> Result<TypedExpr, TypeFault>
+    ensures { Gives typed_of result (spec.default_in (around_of g.now) kind set_line (option_map expr_of value.now)) }
+{
+    match value {
+        None => fault(TypeCode::T2, set_line),
+        Some(e) => value_in(kind, set_line, expr(e, alloc, g, false, &Scope::new(alloc))),
+    }
+}
+
+// One parameter; `scope` is that of those before it.
+fn param<'a>(
+    alloc: Global,
+    g: &Around<'_, 'a>,
+    uniform: bool,
+    kind: SlType,
+    params: &mut Vec<Param<'a>>,
+    scope: &mut Scope<'a>,
+    d: &'a Declared,
+) -> Result<(), TypeFault>
+    requires { map local_of scope.old ≡ spec.locals_of (map param_of params.old.items) }
+    ensures { GivesParams result params.new.items scope.new (spec.typed_param (around_of g.now) uniform kind (map param_of params.old.items) (declared_of d.now)) }
+{
+    if scope.level(&d.name).is_some() {
+        return fault(TypeCode::T10, d.line);
+    }
+    let value = default_in(alloc, g, kind, d.set_line, &d.value)?;
+    let local = Local {
+        uniform,
+        kind,
+        name: &d.name,
+        line: d.line,
+    };
+    scope.push(local)?;
+    params.push(Param { local, value })?;
+    Ok(())
+}
+
+// The parameters of a group.
+fn group<'a>(
+    alloc: Global,
+    g: &Around<'_, 'a>,
+    uniform: bool,
+    kind: SlType,
+    params: &mut Vec<Param<'a>>,
+    scope: &mut Scope<'a>,
+    ds: &'a [Declared],
+) -> Result<(), TypeFault>
+    requires { map local_of scope.old ≡ spec.locals_of (map param_of params.old.items) }
+    ensures { GivesParams result params.new.items scope.new (spec.typed_params (around_of g.now) uniform kind (map param_of params.old.items) (map declared_of ds.now)) }
+{
+    for d in ds {
+        param(alloc, g, uniform, kind, params, scope, d)?;
+    }
+    Ok(())
+}
+
+// The parameters of a shader.
+fn groups<'a>(
+    alloc: Global,
+    g: &Around<'_, 'a>,
+    params: &mut Vec<Param<'a>>,
+    scope: &mut Scope<'a>,
+    groups: &'a [Group],
+) -> Result<(), TypeFault>
+    requires { map local_of scope.old ≡ spec.locals_of (map param_of params.old.items) }
+    ensures { GivesParams result params.new.items scope.new (spec.typed_groups (around_of g.now) (map param_of params.old.items) (map group_of groups.now)) }
+{
+    for one in groups {
+        let uniform = !is_varying(one.class);
+        group(
+            alloc,
+            g,
+            uniform,
+            one.kind,
+            params,
+            scope,
+            one.names.as_slice(),
+        )?;
+    }
+    Ok(())
+}
+
+fn by_default<'a, 'b>(kind: SlKind, known: &'a Functions<'b>) -> Around<'a, 'b>
+    ensures { around_of result ≡ spec.by_default kind (map callee_of known.now) }
+{
+    Around {
+        at: Spot {
+            kind,
+            default: true,
+            bare: true,
+            lit: false,
+            looped: false,
+        },
+        own: None,
+        known,
+    }
+}
+
+fn in_body<'a, 'b>(kind: SlKind, known: &'a Functions<'b>) -> Around<'a, 'b>
+    ensures { around_of result ≡ spec.in_body kind (map callee_of known.now) }
+{
+    Around {
+        at: Spot {
+            kind,
+            default: false,
+            bare: false,
+            lit: false,
+            looped: false,
+        },
+        own: None,
+        known,
+    }
+}
+
+/// The typed functions, parameters and body of a file, or the first fault of names, types, kinds and places.
+#[tactic(auto, using(crate::proofs::Behind::behind_none))]
+pub fn program<'a>(alloc: Global, shader: &'a Shader) -> Result<Program<'a>, TypeFault>
+    ensures { Gives program_of result (spec.program (shader_of shader.now)) }
+{
+    let known = known_from(alloc, shader.kind, shader.functions.as_slice())?;
+    let mut params = Vec::new(alloc);
+    let mut scope = Scope::new(alloc);
+    let around = by_default(shader.kind, &known);
+    groups(
+        alloc,
+        &around,
+        &mut params,
+        &mut scope,
+        shader.params.as_slice(),
+    )?;
+    let mut body = Vec::new(alloc);
+    let from = params.len();
+    let inside = in_body(shader.kind, &known);
+    rows(
+        shader.body.as_slice(),
+        alloc,
+        &inside,
+        from,
+        &mut body,
+        &mut scope,
+    )?;
+    Ok(Program {
+        known,
+        params,
+        body,
+    })
+}
