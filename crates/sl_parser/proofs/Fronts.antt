@@ -14,102 +14,103 @@ use Rattle.sl_ast.specs.declared.kinds.Prefix.TheVariants as prefixes
 use Rattle.sl_parser.specs.Reading.{same_mark, is_mark, behind, line_behind, head_is}
 use Rattle.sl_parser.specs.Expressions.{same_row, row_of, operator_in, operator_at, prefix_in, prefix_at, begins_prim, space_when, space_in, space_at}
 use Rattle.sl_parser.specs.Spelled.{kinds_of, spelled_prefix, spelled_space}
+use Rattle.sl_parser.proofs.Never.{not_true, not_some}
 
 same_mark_is : (a b : Mark) → same_mark a b ≡ true → b ≡ a
 same_mark_is marks.LeftParen marks.LeftParen h = refl
-same_mark_is marks.LeftParen marks.RightParen h = absurd (cc h)
-same_mark_is marks.LeftParen marks.LeftBrace h = absurd (cc h)
-same_mark_is marks.LeftParen marks.RightBrace h = absurd (cc h)
-same_mark_is marks.LeftParen marks.Semicolon h = absurd (cc h)
-same_mark_is marks.LeftParen marks.Comma h = absurd (cc h)
-same_mark_is marks.LeftParen marks.Question h = absurd (cc h)
-same_mark_is marks.LeftParen marks.Colon h = absurd (cc h)
-same_mark_is marks.RightParen marks.LeftParen h = absurd (cc h)
+same_mark_is marks.LeftParen marks.RightParen h = not_true h
+same_mark_is marks.LeftParen marks.LeftBrace h = not_true h
+same_mark_is marks.LeftParen marks.RightBrace h = not_true h
+same_mark_is marks.LeftParen marks.Semicolon h = not_true h
+same_mark_is marks.LeftParen marks.Comma h = not_true h
+same_mark_is marks.LeftParen marks.Question h = not_true h
+same_mark_is marks.LeftParen marks.Colon h = not_true h
+same_mark_is marks.RightParen marks.LeftParen h = not_true h
 same_mark_is marks.RightParen marks.RightParen h = refl
-same_mark_is marks.RightParen marks.LeftBrace h = absurd (cc h)
-same_mark_is marks.RightParen marks.RightBrace h = absurd (cc h)
-same_mark_is marks.RightParen marks.Semicolon h = absurd (cc h)
-same_mark_is marks.RightParen marks.Comma h = absurd (cc h)
-same_mark_is marks.RightParen marks.Question h = absurd (cc h)
-same_mark_is marks.RightParen marks.Colon h = absurd (cc h)
-same_mark_is marks.LeftBrace marks.LeftParen h = absurd (cc h)
-same_mark_is marks.LeftBrace marks.RightParen h = absurd (cc h)
+same_mark_is marks.RightParen marks.LeftBrace h = not_true h
+same_mark_is marks.RightParen marks.RightBrace h = not_true h
+same_mark_is marks.RightParen marks.Semicolon h = not_true h
+same_mark_is marks.RightParen marks.Comma h = not_true h
+same_mark_is marks.RightParen marks.Question h = not_true h
+same_mark_is marks.RightParen marks.Colon h = not_true h
+same_mark_is marks.LeftBrace marks.LeftParen h = not_true h
+same_mark_is marks.LeftBrace marks.RightParen h = not_true h
 same_mark_is marks.LeftBrace marks.LeftBrace h = refl
-same_mark_is marks.LeftBrace marks.RightBrace h = absurd (cc h)
-same_mark_is marks.LeftBrace marks.Semicolon h = absurd (cc h)
-same_mark_is marks.LeftBrace marks.Comma h = absurd (cc h)
-same_mark_is marks.LeftBrace marks.Question h = absurd (cc h)
-same_mark_is marks.LeftBrace marks.Colon h = absurd (cc h)
-same_mark_is marks.RightBrace marks.LeftParen h = absurd (cc h)
-same_mark_is marks.RightBrace marks.RightParen h = absurd (cc h)
-same_mark_is marks.RightBrace marks.LeftBrace h = absurd (cc h)
+same_mark_is marks.LeftBrace marks.RightBrace h = not_true h
+same_mark_is marks.LeftBrace marks.Semicolon h = not_true h
+same_mark_is marks.LeftBrace marks.Comma h = not_true h
+same_mark_is marks.LeftBrace marks.Question h = not_true h
+same_mark_is marks.LeftBrace marks.Colon h = not_true h
+same_mark_is marks.RightBrace marks.LeftParen h = not_true h
+same_mark_is marks.RightBrace marks.RightParen h = not_true h
+same_mark_is marks.RightBrace marks.LeftBrace h = not_true h
 same_mark_is marks.RightBrace marks.RightBrace h = refl
-same_mark_is marks.RightBrace marks.Semicolon h = absurd (cc h)
-same_mark_is marks.RightBrace marks.Comma h = absurd (cc h)
-same_mark_is marks.RightBrace marks.Question h = absurd (cc h)
-same_mark_is marks.RightBrace marks.Colon h = absurd (cc h)
-same_mark_is marks.Semicolon marks.LeftParen h = absurd (cc h)
-same_mark_is marks.Semicolon marks.RightParen h = absurd (cc h)
-same_mark_is marks.Semicolon marks.LeftBrace h = absurd (cc h)
-same_mark_is marks.Semicolon marks.RightBrace h = absurd (cc h)
+same_mark_is marks.RightBrace marks.Semicolon h = not_true h
+same_mark_is marks.RightBrace marks.Comma h = not_true h
+same_mark_is marks.RightBrace marks.Question h = not_true h
+same_mark_is marks.RightBrace marks.Colon h = not_true h
+same_mark_is marks.Semicolon marks.LeftParen h = not_true h
+same_mark_is marks.Semicolon marks.RightParen h = not_true h
+same_mark_is marks.Semicolon marks.LeftBrace h = not_true h
+same_mark_is marks.Semicolon marks.RightBrace h = not_true h
 same_mark_is marks.Semicolon marks.Semicolon h = refl
-same_mark_is marks.Semicolon marks.Comma h = absurd (cc h)
-same_mark_is marks.Semicolon marks.Question h = absurd (cc h)
-same_mark_is marks.Semicolon marks.Colon h = absurd (cc h)
-same_mark_is marks.Comma marks.LeftParen h = absurd (cc h)
-same_mark_is marks.Comma marks.RightParen h = absurd (cc h)
-same_mark_is marks.Comma marks.LeftBrace h = absurd (cc h)
-same_mark_is marks.Comma marks.RightBrace h = absurd (cc h)
-same_mark_is marks.Comma marks.Semicolon h = absurd (cc h)
+same_mark_is marks.Semicolon marks.Comma h = not_true h
+same_mark_is marks.Semicolon marks.Question h = not_true h
+same_mark_is marks.Semicolon marks.Colon h = not_true h
+same_mark_is marks.Comma marks.LeftParen h = not_true h
+same_mark_is marks.Comma marks.RightParen h = not_true h
+same_mark_is marks.Comma marks.LeftBrace h = not_true h
+same_mark_is marks.Comma marks.RightBrace h = not_true h
+same_mark_is marks.Comma marks.Semicolon h = not_true h
 same_mark_is marks.Comma marks.Comma h = refl
-same_mark_is marks.Comma marks.Question h = absurd (cc h)
-same_mark_is marks.Comma marks.Colon h = absurd (cc h)
-same_mark_is marks.Question marks.LeftParen h = absurd (cc h)
-same_mark_is marks.Question marks.RightParen h = absurd (cc h)
-same_mark_is marks.Question marks.LeftBrace h = absurd (cc h)
-same_mark_is marks.Question marks.RightBrace h = absurd (cc h)
-same_mark_is marks.Question marks.Semicolon h = absurd (cc h)
-same_mark_is marks.Question marks.Comma h = absurd (cc h)
+same_mark_is marks.Comma marks.Question h = not_true h
+same_mark_is marks.Comma marks.Colon h = not_true h
+same_mark_is marks.Question marks.LeftParen h = not_true h
+same_mark_is marks.Question marks.RightParen h = not_true h
+same_mark_is marks.Question marks.LeftBrace h = not_true h
+same_mark_is marks.Question marks.RightBrace h = not_true h
+same_mark_is marks.Question marks.Semicolon h = not_true h
+same_mark_is marks.Question marks.Comma h = not_true h
 same_mark_is marks.Question marks.Question h = refl
-same_mark_is marks.Question marks.Colon h = absurd (cc h)
-same_mark_is marks.Colon marks.LeftParen h = absurd (cc h)
-same_mark_is marks.Colon marks.RightParen h = absurd (cc h)
-same_mark_is marks.Colon marks.LeftBrace h = absurd (cc h)
-same_mark_is marks.Colon marks.RightBrace h = absurd (cc h)
-same_mark_is marks.Colon marks.Semicolon h = absurd (cc h)
-same_mark_is marks.Colon marks.Comma h = absurd (cc h)
-same_mark_is marks.Colon marks.Question h = absurd (cc h)
+same_mark_is marks.Question marks.Colon h = not_true h
+same_mark_is marks.Colon marks.LeftParen h = not_true h
+same_mark_is marks.Colon marks.RightParen h = not_true h
+same_mark_is marks.Colon marks.LeftBrace h = not_true h
+same_mark_is marks.Colon marks.RightBrace h = not_true h
+same_mark_is marks.Colon marks.Semicolon h = not_true h
+same_mark_is marks.Colon marks.Comma h = not_true h
+same_mark_is marks.Colon marks.Question h = not_true h
 same_mark_is marks.Colon marks.Colon h = refl
 
 pub is_mark_is : (mark : Mark) (k : TokenKind) → is_mark mark k ≡ true → k ≡ kinds.Mark mark
 is_mark_is mark (kinds.Mark m) h = ap kinds.Mark (same_mark_is mark m h)
-is_mark_is mark (kinds.Number x) h = absurd (cc h)
-is_mark_is mark (kinds.Str x) h = absurd (cc h)
-is_mark_is mark (kinds.Name x) h = absurd (cc h)
-is_mark_is mark (kinds.Kind x) h = absurd (cc h)
-is_mark_is mark (kinds.Class x) h = absurd (cc h)
-is_mark_is mark (kinds.Type x) h = absurd (cc h)
-is_mark_is mark (kinds.Word x) h = absurd (cc h)
-is_mark_is mark (kinds.Operator x) h = absurd (cc h)
-is_mark_is mark kinds.Not h = absurd (cc h)
-is_mark_is mark (kinds.Set x) h = absurd (cc h)
-is_mark_is mark kinds.Bad h = absurd (cc h)
+is_mark_is mark (kinds.Number x) h = not_true h
+is_mark_is mark (kinds.Str x) h = not_true h
+is_mark_is mark (kinds.Name x) h = not_true h
+is_mark_is mark (kinds.Kind x) h = not_true h
+is_mark_is mark (kinds.Class x) h = not_true h
+is_mark_is mark (kinds.Type x) h = not_true h
+is_mark_is mark (kinds.Word x) h = not_true h
+is_mark_is mark (kinds.Operator x) h = not_true h
+is_mark_is mark kinds.Not h = not_true h
+is_mark_is mark (kinds.Set x) h = not_true h
+is_mark_is mark kinds.Bad h = not_true h
 
 -- what passed on a test
 pub passed : {A : Type 0} (b : Bool) (x y : A) → cond b (Some x) None ≡ Some y → (b ≡ true) × (x ≡ y)
 passed true x y e = (refl, cc)
-passed false x y e = absurd (cc e)
+passed false x y e = not_some e
 
 some_is : {A : Type 0} (x y : A) → ◌≡◌ {A = Option A} (Some x) (Some y) → x ≡ y
 some_is x y e = cc
 
 -- what was made of an optional value
 pub mapped : {A B : Type 0} (f : A → B) (o : Option A) (y : B) → option_map f o ≡ Some y → (x : A) × ((o ≡ Some x) × (f x ≡ y))
-mapped f None y e = absurd (cc e)
+mapped f None y e = not_some e
 mapped f (Some x) y e = (x, (refl, cc))
 
 pub behind_is : (p : TokenKind → Bool) (k : TokenKind) → ((j : TokenKind) → p j ≡ true → j ≡ k) → (ts rest : List Token) → behind p ts ≡ Some rest → kinds_of ts ≡ k ∷ kinds_of rest
-behind_is p k only [] rest h = absurd (cc h)
+behind_is p k only [] rest h = not_some h
 behind_is p k only (t ∷ ts) rest h =
     let e = passed (p t.kind) ts rest h in ap (λ j. j ∷ kinds_of ts) (only t.kind e.0) ∙ ap (λ us. k ∷ kinds_of us) e.1
 
@@ -117,7 +118,7 @@ pub mark_behind : (mark : Mark) (ts rest : List Token) → behind (is_mark mark)
 mark_behind mark ts rest h = behind_is (is_mark mark) (kinds.Mark mark) (is_mark_is mark) ts rest h
 
 pub line_behind_is : (mark : Mark) (ts : List Token) (o : ℕ × List Token) → line_behind mark ts ≡ Some o → kinds_of ts ≡ kinds.Mark mark ∷ kinds_of o.1
-line_behind_is mark [] o h = absurd (cc h)
+line_behind_is mark [] o h = not_some h
 line_behind_is mark (t ∷ ts) o h =
     let here : ℕ × List Token = (t.line, ts) in
     let e = passed (is_mark mark t.kind) here o h in
@@ -125,20 +126,20 @@ line_behind_is mark (t ∷ ts) o h =
 
 operator_is : (row : Row) (k : TokenKind) (o : Operator) → operator_in row k ≡ Some o → k ≡ kinds.Operator o
 operator_is row (kinds.Operator p) o h = ap kinds.Operator (passed (same_row row (row_of p)) p o h).1
-operator_is row (kinds.Number x) o h = absurd (cc h)
-operator_is row (kinds.Str x) o h = absurd (cc h)
-operator_is row (kinds.Name x) o h = absurd (cc h)
-operator_is row (kinds.Kind x) o h = absurd (cc h)
-operator_is row (kinds.Class x) o h = absurd (cc h)
-operator_is row (kinds.Type x) o h = absurd (cc h)
-operator_is row (kinds.Word x) o h = absurd (cc h)
-operator_is row (kinds.Mark x) o h = absurd (cc h)
-operator_is row kinds.Not o h = absurd (cc h)
-operator_is row (kinds.Set x) o h = absurd (cc h)
-operator_is row kinds.Bad o h = absurd (cc h)
+operator_is row (kinds.Number x) o h = not_some h
+operator_is row (kinds.Str x) o h = not_some h
+operator_is row (kinds.Name x) o h = not_some h
+operator_is row (kinds.Kind x) o h = not_some h
+operator_is row (kinds.Class x) o h = not_some h
+operator_is row (kinds.Type x) o h = not_some h
+operator_is row (kinds.Word x) o h = not_some h
+operator_is row (kinds.Mark x) o h = not_some h
+operator_is row kinds.Not o h = not_some h
+operator_is row (kinds.Set x) o h = not_some h
+operator_is row kinds.Bad o h = not_some h
 
 pub operator_at_is : (row : Row) (ts : List Token) (x : Operator × ℕ × List Token) → operator_at row ts ≡ Some x → kinds_of ts ≡ kinds.Operator x.0 ∷ kinds_of x.2
-operator_at_is row [] x h = absurd (cc h)
+operator_at_is row [] x h = not_some h
 operator_at_is row (t ∷ ts) x h =
     let m = mapped (λ o. (o, t.line, ts)) (operator_in row t.kind) x h in
     ap (λ j. j ∷ kinds_of ts) (operator_is row t.kind m.0 m.1.0) ∙ ap (λ y. kinds.Operator y.0 ∷ kinds_of y.2) m.1.1
@@ -146,32 +147,32 @@ operator_at_is row (t ∷ ts) x h =
 prefix_is : (k : TokenKind) (p : Prefix) → prefix_in k ≡ Some p → k ≡ spelled_prefix p
 prefix_is (kinds.Operator operators.Subtract) p h = ap spelled_prefix (some_is prefixes.Negative p h)
 prefix_is kinds.Not p h = ap spelled_prefix (some_is prefixes.Not p h)
-prefix_is (kinds.Operator operators.Or) p h = absurd (cc h)
-prefix_is (kinds.Operator operators.And) p h = absurd (cc h)
-prefix_is (kinds.Operator operators.Equal) p h = absurd (cc h)
-prefix_is (kinds.Operator operators.NotEqual) p h = absurd (cc h)
-prefix_is (kinds.Operator operators.Less) p h = absurd (cc h)
-prefix_is (kinds.Operator operators.LessEqual) p h = absurd (cc h)
-prefix_is (kinds.Operator operators.Greater) p h = absurd (cc h)
-prefix_is (kinds.Operator operators.GreaterEqual) p h = absurd (cc h)
-prefix_is (kinds.Operator operators.Add) p h = absurd (cc h)
-prefix_is (kinds.Operator operators.Cross) p h = absurd (cc h)
-prefix_is (kinds.Operator operators.Multiply) p h = absurd (cc h)
-prefix_is (kinds.Operator operators.Divide) p h = absurd (cc h)
-prefix_is (kinds.Operator operators.Dot) p h = absurd (cc h)
-prefix_is (kinds.Number x) p h = absurd (cc h)
-prefix_is (kinds.Str x) p h = absurd (cc h)
-prefix_is (kinds.Name x) p h = absurd (cc h)
-prefix_is (kinds.Kind x) p h = absurd (cc h)
-prefix_is (kinds.Class x) p h = absurd (cc h)
-prefix_is (kinds.Type x) p h = absurd (cc h)
-prefix_is (kinds.Word x) p h = absurd (cc h)
-prefix_is (kinds.Mark x) p h = absurd (cc h)
-prefix_is (kinds.Set x) p h = absurd (cc h)
-prefix_is kinds.Bad p h = absurd (cc h)
+prefix_is (kinds.Operator operators.Or) p h = not_some h
+prefix_is (kinds.Operator operators.And) p h = not_some h
+prefix_is (kinds.Operator operators.Equal) p h = not_some h
+prefix_is (kinds.Operator operators.NotEqual) p h = not_some h
+prefix_is (kinds.Operator operators.Less) p h = not_some h
+prefix_is (kinds.Operator operators.LessEqual) p h = not_some h
+prefix_is (kinds.Operator operators.Greater) p h = not_some h
+prefix_is (kinds.Operator operators.GreaterEqual) p h = not_some h
+prefix_is (kinds.Operator operators.Add) p h = not_some h
+prefix_is (kinds.Operator operators.Cross) p h = not_some h
+prefix_is (kinds.Operator operators.Multiply) p h = not_some h
+prefix_is (kinds.Operator operators.Divide) p h = not_some h
+prefix_is (kinds.Operator operators.Dot) p h = not_some h
+prefix_is (kinds.Number x) p h = not_some h
+prefix_is (kinds.Str x) p h = not_some h
+prefix_is (kinds.Name x) p h = not_some h
+prefix_is (kinds.Kind x) p h = not_some h
+prefix_is (kinds.Class x) p h = not_some h
+prefix_is (kinds.Type x) p h = not_some h
+prefix_is (kinds.Word x) p h = not_some h
+prefix_is (kinds.Mark x) p h = not_some h
+prefix_is (kinds.Set x) p h = not_some h
+prefix_is kinds.Bad p h = not_some h
 
 pub prefix_at_is : (ts : List Token) (x : Prefix × ℕ × List Token) → prefix_at ts ≡ Some x → kinds_of ts ≡ spelled_prefix x.0 ∷ kinds_of x.2
-prefix_at_is [] x h = absurd (cc h)
+prefix_at_is [] x h = not_some h
 prefix_at_is (t ∷ ts) x h =
     let m = mapped (λ o. (o, t.line, ts)) (prefix_in t.kind) x h in
     ap (λ j. j ∷ kinds_of ts) (prefix_is t.kind m.0 m.1.0) ∙ ap (λ y. spelled_prefix y.0 ∷ kinds_of y.2) m.1.1

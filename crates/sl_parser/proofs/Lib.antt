@@ -7,6 +7,8 @@ pub mod FrontNames
 pub mod Fronts
 pub mod Good
 pub mod Levels
+mod Never
+mod Pieces
 mod Readers
 pub mod Spans
 pub mod Steps

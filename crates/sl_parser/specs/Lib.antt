@@ -2,6 +2,7 @@ pub mod Bytes
 pub mod Numbers
 pub mod Words
 pub mod Found
+pub mod Pieces
 pub mod Tokens
 pub mod Reading
 pub mod Expressions

@@ -25,3 +25,9 @@ abbrev pub MatchPast : Mark → List Token → Result (Bor (List Token)) Stop �
 MatchPast mark ts (Ok rest) = behind (is_mark mark) ts ≡ Some rest.now
 MatchPast mark ts (Err (At code rest)) = (behind (is_mark mark) ts ≡ None) × ((code ≡ code_for (head_is is_bad ts)) × (rest.now ≡ ts))
 MatchPast mark ts (Err NoMemory) = Unit {0}
+
+-- the item, and the tokens behind a mark; or that the mark does not stand there
+abbrev pub MatchClosed : {A : Type 0} → A → Mark → List Token → Result (A × Bor (List Token)) Stop → Type 0
+MatchClosed item mark ts (Ok x) = (x.0 ≡ item) × (behind (is_mark mark) ts ≡ Some x.1.now)
+MatchClosed item mark ts (Err (At code rest)) = (behind (is_mark mark) ts ≡ None) × ((code ≡ code_for (head_is is_bad ts)) × (rest.now ≡ ts))
+MatchClosed item mark ts (Err NoMemory) = Unit {0}

@@ -8,7 +8,6 @@ ghost use Rattle.sl_parser.specs.Parsing.{Gives, GivesItems};
 ghost use Rattle.sl_parser.specs.Naming.{MatchName};
 
 use crate::expressions::expr;
-use crate::heads::copied;
 use crate::reading::{Stop, behind, code_at};
 use crate::token::{Mark, Token, TokenKind};
 use fixed_math::{List, Text};
@@ -32,7 +31,7 @@ pub fn name<'a>(alloc: Global, ts: &'a [Token]) -> Result<(Text, u32, &'a [Token
         return Err(Stop::At(code_at(ts), ts));
     };
     match &first.kind {
-        TokenKind::Name(name) => Ok((copied(alloc, name)?, first.line, rest)),
+        TokenKind::Name(name) => Ok((name.copied(alloc)?, first.line, rest)),
         _ => Err(Stop::At(code_at(ts), ts)),
     }
 }

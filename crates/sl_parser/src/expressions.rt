@@ -1,15 +1,15 @@
 // Expressions from tokens.
-ghost use Rattle.std.specs.Prelude.{◌≡◌, ◌≤◌, [], ◌∷◌, IfOk, length};
+ghost use Rattle.std.specs.Prelude.{◌≡◌, ◌≤◌, [], ◌∷◌, IfOk, length, Some};
 ghost use Rattle.sl_ast.specs.SyntaxView.{expr_of, link_of};
 ghost use Rattle.sl_parser.specs.Reading.{with_front, many, after_comma};
-ghost use Rattle.sl_parser.specs.Expressions.{chain, links_in, expr_with, args_in, name_with, paren_with, inside_with, triple_with, typed_with, expr_at, unary_at, prim_at};
+ghost use Rattle.sl_parser.specs.Expressions.{chain, links_in, choice_then, expr_with, args_in, name_with, paren_with, inside_with, triple_with, typed_with, expr_at, unary_at, prim_at};
 ghost use Rattle.sl_parser.specs.Rows.{operand_with};
 ghost use Rattle.sl_parser.specs.Parsing.{Gives, GivesItems};
 
 use crate::fault::SlCode;
-use crate::heads::{begins_expr, copied, link_at, prefix_at, space_at};
-use crate::nodes::{make_call, make_chain};
-use crate::reading::{Stop, behind, code_at, line_behind, past};
+use crate::heads::{begins_expr, link_at, prefix_at, space_at};
+use crate::nodes::{make_call, make_chain, make_typed};
+use crate::reading::{Stop, behind, closed, code_at, line_behind, past};
 use crate::token::{Mark, Token, TokenKind};
 use fixed_math::Text;
 use sl_ast::{Expr, Link, Row, SlType, Space};
@@ -34,6 +34,20 @@ pub fn expr<'a>(
     }
 }
 
+// The same in a box.
+#[cycle(expressions)]
+fn boxed<'a>(
+    alloc: Global,
+    levels: u32,
+    ts: &'a [Token],
+) -> Result<(Box<Expr>, &'a [Token]), Stop<'a>>
+    ensures gives { Gives (λ e. expr_of e.value) result (expr_at levels ts.now) }
+    ensures within { IfOk result (λ e. length e.1.now ≤ length ts.now) }
+{
+    let (expr, rest) = expr(alloc, levels, ts)?;
+    Ok((Box::new(alloc, expr)?, rest))
+}
+
 // An expression that has opened its level.
 #[cycle(expressions)]
 fn choice<'a>(alloc: Global, levels: u32, ts: &'a [Token]) -> Result<(Expr, &'a [Token]), Stop<'a>>
@@ -41,19 +55,37 @@ fn choice<'a>(alloc: Global, levels: u32, ts: &'a [Token]) -> Result<(Expr, &'a 
     ensures within { IfOk result (λ e. length e.1.now ≤ length ts.now) }
 {
     let (test, rest) = chain(alloc, levels, Row::Or, ts)?;
-    let Some((line, rest)) = line_behind(Mark::Question, rest) else {
-        return Ok((test, rest));
-    };
-    let (first, rest) = expr(alloc, levels, rest)?;
+    match line_behind(Mark::Question, rest) {
+        None => Ok((test, rest)),
+        Some((line, rest)) => chosen(alloc, levels, test, line, rest),
+    }
+}
+
+// A choice behind its question mark.
+#[cycle(expressions)]
+fn chosen<'a>(
+    alloc: Global,
+    levels: u32,
+    test: Expr,
+    line: u32,
+    ts: &'a [Token],
+) -> Result<(Expr, &'a [Token]), Stop<'a>>
+    ensures gives { Gives expr_of result (choice_then (expr_at levels) (expr_of test) ts.now (Some (line, ts.now))) }
+    ensures within { IfOk result (λ e. length e.1.now ≤ length ts.now) }
+{
+    let test = Box::new(alloc, test)?;
+    let (first, rest) = boxed(alloc, levels, ts)?;
     let rest = past(Mark::Colon, rest)?;
-    let (second, rest) = expr(alloc, levels, rest)?;
-    let choice = Expr::Choice {
-        test: Box::new(alloc, test)?,
-        first: Box::new(alloc, first)?,
-        second: Box::new(alloc, second)?,
-        line,
-    };
-    Ok((choice, rest))
+    let (second, rest) = boxed(alloc, levels, rest)?;
+    Ok((
+        Expr::Choice {
+            test,
+            first,
+            second,
+            line,
+        },
+        rest,
+    ))
 }
 
 // A chain of that row.
@@ -156,14 +188,14 @@ fn prim<'a>(alloc: Global, levels: u32, ts: &'a [Token]) -> Result<(Expr, &'a [T
     let line = first.line;
     match &first.kind {
         TokenKind::Number(text) => {
-            let text = copied(alloc, text)?;
+            let text = text.copied(alloc)?;
             Ok((Expr::Number { text, line }, rest))
         }
         TokenKind::Str(text) => {
-            let text = copied(alloc, text)?;
+            let text = text.copied(alloc)?;
             Ok((Expr::Str { text, line }, rest))
         }
-        TokenKind::Name(name) => named(alloc, levels, copied(alloc, name)?, line, rest),
+        TokenKind::Name(name) => named(alloc, levels, name.copied(alloc)?, line, rest),
         TokenKind::Mark(Mark::LeftParen) => paren(alloc, levels, line, rest),
         TokenKind::Type(_) if levels == 0 => Err(Stop::At(SlCode::P3, ts)),
         TokenKind::Type(kind) => typed(alloc, levels - 1, *kind, line, rest),
@@ -205,8 +237,7 @@ fn arguments<'a>(
     }
     let (first, rest) = expr(alloc, levels, ts)?;
     let (args, rest) = further(alloc, levels, first, rest)?;
-    let rest = past(Mark::RightParen, rest)?;
-    Ok((args, rest))
+    closed(args, Mark::RightParen, rest)
 }
 
 // Further arguments behind the first.
@@ -242,9 +273,8 @@ fn paren<'a>(
     ensures gives { Gives expr_of result (paren_with (expr_at levels) line ts.now) }
     ensures within { IfOk result (λ e. length e.1.now ≤ length ts.now) }
 {
-    let (inner, rest) = expr(alloc, levels, ts)?;
-    let rest = past(Mark::RightParen, rest)?;
-    let inner = Box::new(alloc, inner)?;
+    let (inner, rest) = boxed(alloc, levels, ts)?;
+    let (inner, rest) = closed(inner, Mark::RightParen, rest)?;
     Ok((Expr::Paren { inner, line }, rest))
 }
 
@@ -291,24 +321,12 @@ fn inside<'a>(
     ensures gives { Gives expr_of result (inside_with (expr_at levels) kind space line inner ts.now) }
     ensures within { IfOk result (λ e. length e.1.now ≤ length ts.now) }
 {
-    let (x, rest) = expr(alloc, levels, ts)?;
-    let x = Box::new(alloc, x)?;
+    let (x, rest) = boxed(alloc, levels, ts)?;
     if let Some(rest) = behind(Mark::Comma, rest) {
         return triple(alloc, levels, kind, space, x, line, rest);
     }
     let rest = past(Mark::RightParen, rest)?;
-    let paren = Expr::Paren {
-        inner: x,
-        line: inner,
-    };
-    let value = Box::new(alloc, paren)?;
-    let typed = Expr::Typed {
-        kind,
-        space,
-        value,
-        line,
-    };
-    Ok((typed, rest))
+    Ok((make_typed(alloc, kind, space, x, inner, line)?, rest))
 }
 
 // The second and third of three values.
@@ -325,16 +343,16 @@ fn triple<'a>(
     ensures gives { Gives expr_of result (triple_with (expr_at levels) kind space line (expr_of x.value) ts.now) }
     ensures within { IfOk result (λ e. length e.1.now ≤ length ts.now) }
 {
-    let (y, rest) = expr(alloc, levels, ts)?;
+    let (y, rest) = boxed(alloc, levels, ts)?;
     let rest = past(Mark::Comma, rest)?;
-    let (z, rest) = expr(alloc, levels, rest)?;
+    let (z, rest) = boxed(alloc, levels, rest)?;
     let rest = past(Mark::RightParen, rest)?;
     let triple = Expr::Triple {
         kind,
         space,
         x,
-        y: Box::new(alloc, y)?,
-        z: Box::new(alloc, z)?,
+        y,
+        z,
         line,
     };
     Ok((triple, rest))

@@ -4,16 +4,9 @@ ghost use Rattle.sl_parser.specs.Reading.{head_is};
 ghost use Rattle.sl_parser.specs.Expressions.{begins_expr, begins_prim, is_single, same_row, row_of, operator_at, link_at, prefix_at, IsSpaceAt};
 
 use crate::token::{Mark, Token, TokenKind};
-use fixed_math::{NoMemory, Text};
+use fixed_math::NoMemory;
 use sl_ast::{Operator, Prefix, Row, Space};
 use std::alloc::Global;
-
-// A text of its own with the same bytes.
-pub fn copied(alloc: Global, text: &Text) -> Result<Text, NoMemory>
-    ensures { IfOk result (λ t. t ≡ text.now) }
-{
-    Text::from_bytes(alloc, text.as_str().as_bytes())
-}
 
 pub fn begins_expr(ts: &[Token]) -> bool
     ensures { result ≡ head_is begins_expr ts.now }
@@ -128,7 +121,7 @@ pub fn space_at(alloc: Global, ts: &[Token]) -> Result<(Option<Space>, &[Token])
     match &first.kind {
         TokenKind::Str(name) if begins_prim(rest) => {
             let space = Space {
-                name: copied(alloc, name)?,
+                name: name.copied(alloc)?,
                 line: first.line,
             };
             Ok((Some(space), rest))

@@ -1,7 +1,7 @@
 // Steps over single tokens, and the faults of the grammar.
 ghost use Rattle.std.specs.Prelude.{◌≡◌, ◌<◌, ◌≤◌, Ok, IfOk, IfSome, length, option_map};
 ghost use Rattle.sl_parser.specs.Reading.{head_is, is_bad, is_mark, code_for, behind, line_behind};
-ghost use Rattle.sl_parser.specs.Parsing.{MatchPast};
+ghost use Rattle.sl_parser.specs.Parsing.{MatchPast, MatchClosed};
 ghost use Rattle.sl_parser.specs.declared.reading.Stop.TheVariants.{NoMemory as OutOfMemory};
 
 use crate::fault::SlCode;
@@ -107,4 +107,13 @@ pub fn past(mark: Mark, ts: &[Token]) -> Result<&[Token], Stop<'_>>
         Some(rest) => Ok(rest),
         None => Err(Stop::At(code_at(ts), ts)),
     }
+}
+
+// An item that was read, and that mark behind it.
+pub fn closed<T: Drop>(item: T, mark: Mark, ts: &[Token]) -> Result<(T, &[Token]), Stop<'_>>
+    ensures gives { MatchClosed item mark ts.now result }
+    ensures within { IfOk result (λ r. length r.1.now < length ts.now) }
+{
+    let rest = past(mark, ts)?;
+    Ok((item, rest))
 }

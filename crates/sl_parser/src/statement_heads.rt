@@ -1,4 +1,4 @@
-// What stands in the parentheses of statements.
+// What stands in the parentheses of statements, in boxes, since it is held while a statement is read behind it.
 ghost use Rattle.std.specs.Prelude.{◌≡◌, ◌≤◌, ◌<◌, IfOk, length, option_map};
 ghost use Rattle.sl_ast.specs.SyntaxView.{expr_of, assignment_of, cone_of};
 ghost use Rattle.sl_parser.specs.Expressions.{expr_at};
@@ -7,7 +7,7 @@ ghost use Rattle.sl_parser.specs.Parsing.{Gives};
 
 use crate::declarations::maybe_assignment;
 use crate::expressions::expr;
-use crate::reading::{Stop, behind, past};
+use crate::reading::{Stop, behind, closed, past};
 use crate::token::{Mark, Token};
 use sl_ast::{Assignment, Cone, Expr};
 use std::alloc::Global;
@@ -17,14 +17,14 @@ pub fn test<'a>(
     alloc: Global,
     levels: u32,
     ts: &'a [Token],
-) -> Result<(Expr, &'a [Token]), Stop<'a>>
-    ensures gives { Gives expr_of result (test_with (expr_at levels) ts.now) }
+) -> Result<(Box<Expr>, &'a [Token]), Stop<'a>>
+    ensures gives { Gives (λ e. expr_of e.value) result (test_with (expr_at levels) ts.now) }
     ensures within { IfOk result (λ e. length e.1.now < length ts.now) }
 {
     let inside = past(Mark::LeftParen, ts)?;
     let (test, rest) = expr(alloc, levels, inside)?;
-    let rest = past(Mark::RightParen, rest)?;
-    Ok((test, rest))
+    let (test, rest) = closed(test, Mark::RightParen, rest)?;
+    Ok((Box::new(alloc, test)?, rest))
 }
 
 /// What stands in the parentheses of a `for`.
@@ -39,18 +39,19 @@ pub fn for_head<'a>(
     alloc: Global,
     levels: u32,
     ts: &'a [Token],
-) -> Result<(ForHead, &'a [Token]), Stop<'a>>
-    ensures gives { Gives (λ h. (option_map assignment_of h.first, expr_of h.test, option_map assignment_of h.step)) result (for_head (expr_at levels) ts.now) }
+) -> Result<(Box<ForHead>, &'a [Token]), Stop<'a>>
+    ensures gives { Gives (λ h. (option_map assignment_of h.value.first, expr_of h.value.test, option_map assignment_of h.value.step)) result (for_head (expr_at levels) ts.now) }
     ensures within { IfOk result (λ h. length h.1.now < length ts.now) }
 {
     let inside = past(Mark::LeftParen, ts)?;
     let (first, rest) = maybe_assignment(alloc, levels, inside)?;
-    let rest = past(Mark::Semicolon, rest)?;
+    let (first, rest) = closed(first, Mark::Semicolon, rest)?;
     let (test, rest) = expr(alloc, levels, rest)?;
-    let rest = past(Mark::Semicolon, rest)?;
+    let (test, rest) = closed(test, Mark::Semicolon, rest)?;
     let (step, rest) = maybe_assignment(alloc, levels, rest)?;
-    let rest = past(Mark::RightParen, rest)?;
-    Ok((ForHead { first, test, step }, rest))
+    let head = ForHead { first, test, step };
+    let (head, rest) = closed(head, Mark::RightParen, rest)?;
+    Ok((Box::new(alloc, head)?, rest))
 }
 
 // Two expressions with a comma between them, and a parenthesis.
@@ -59,10 +60,9 @@ fn pair<'a>(alloc: Global, levels: u32, ts: &'a [Token]) -> Result<(Cone, &'a [T
     ensures within { IfOk result (λ c. length c.1.now < length ts.now) }
 {
     let (axis, rest) = expr(alloc, levels, ts)?;
-    let rest = past(Mark::Comma, rest)?;
+    let (axis, rest) = closed(axis, Mark::Comma, rest)?;
     let (angle, rest) = expr(alloc, levels, rest)?;
-    let rest = past(Mark::RightParen, rest)?;
-    Ok((Cone { axis, angle }, rest))
+    closed(Cone { axis, angle }, Mark::RightParen, rest)
 }
 
 // An axis and an angle behind a comma, or none, and the parenthesis behind them.
@@ -93,24 +93,26 @@ pub fn lights_head<'a>(
     alloc: Global,
     levels: u32,
     ts: &'a [Token],
-) -> Result<(LightsHead, &'a [Token]), Stop<'a>>
-    ensures gives { Gives (λ h. (expr_of h.place, option_map cone_of h.cone)) result (lights_head (expr_at levels) ts.now) }
+) -> Result<(Box<LightsHead>, &'a [Token]), Stop<'a>>
+    ensures gives { Gives (λ h. (expr_of h.value.place, option_map cone_of h.value.cone)) result (lights_head (expr_at levels) ts.now) }
     ensures within { IfOk result (λ h. length h.1.now < length ts.now) }
 {
     let inside = past(Mark::LeftParen, ts)?;
     let (place, rest) = expr(alloc, levels, inside)?;
     let (cone, rest) = cone(alloc, levels, rest)?;
-    Ok((LightsHead { place, cone }, rest))
+    let head = LightsHead { place, cone };
+    Ok((Box::new(alloc, head)?, rest))
 }
 
 pub fn solar_head<'a>(
     alloc: Global,
     levels: u32,
     ts: &'a [Token],
-) -> Result<(Cone, &'a [Token]), Stop<'a>>
-    ensures gives { Gives cone_of result (solar_head (expr_at levels) ts.now) }
+) -> Result<(Box<Cone>, &'a [Token]), Stop<'a>>
+    ensures gives { Gives (λ c. cone_of c.value) result (solar_head (expr_at levels) ts.now) }
     ensures within { IfOk result (λ c. length c.1.now < length ts.now) }
 {
     let inside = past(Mark::LeftParen, ts)?;
-    pair(alloc, levels, inside)
+    let (cone, rest) = pair(alloc, levels, inside)?;
+    Ok((Box::new(alloc, cone)?, rest))
 }

@@ -9,8 +9,10 @@ ghost use Rattle.sl_parser.specs.Parsing.{Gives, GivesItems};
 use crate::declarations::{Valued, assignment, group};
 use crate::expressions::expr;
 use crate::fault::SlCode;
-use crate::nodes::make_block;
-use crate::reading::{Stop, behind, code_at, past};
+use crate::nodes::{
+    make_block, make_for, make_if, make_if_else, make_lights, make_solar, make_while,
+};
+use crate::reading::{Stop, behind, closed, code_at, past};
 use crate::statement_heads::{for_head, lights_head, solar_head, test};
 use crate::token::{Mark, Token, TokenKind, Word};
 use sl_ast::{LightWord, Stmt};
@@ -54,7 +56,7 @@ fn return_value<'a>(
     ensures within { IfOk result (λ s. length s.1.now < length ts.now) }
 {
     let (value, rest) = expr(alloc, levels, ts)?;
-    let rest = past(Mark::Semicolon, rest)?;
+    let (value, rest) = closed(value, Mark::Semicolon, rest)?;
     Ok((Stmt::Return { value, line }, rest))
 }
 
@@ -63,7 +65,7 @@ fn set<'a>(alloc: Global, levels: u32, ts: &'a [Token]) -> Result<(Stmt, &'a [To
     ensures within { IfOk result (λ s. length s.1.now < length ts.now) }
 {
     let (set, rest) = assignment(alloc, levels, ts)?;
-    let rest = past(Mark::Semicolon, rest)?;
+    let (set, rest) = closed(set, Mark::Semicolon, rest)?;
     Ok((Stmt::Set { set }, rest))
 }
 
@@ -77,7 +79,7 @@ fn declaration<'a>(
     ensures within { IfOk result (λ s. length s.1.now < length ts.now) }
 {
     let (group, rest) = group(alloc, levels, Valued::Freely, ts)?;
-    let rest = past(Mark::Semicolon, rest)?;
+    let (group, rest) = closed(group, Mark::Semicolon, rest)?;
     Ok((
         Stmt::Declare {
             class: group.class,
@@ -106,6 +108,20 @@ pub fn stmt<'a>(
     } else {
         Err(Stop::At(code_at(ts), ts))
     }
+}
+
+// The same in a box.
+#[cycle(statements)]
+fn boxed<'a>(
+    alloc: Global,
+    levels: u32,
+    ts: &'a [Token],
+) -> Result<(Box<Stmt>, &'a [Token]), Stop<'a>>
+    ensures gives { Gives (λ s. stmt_of s.value) result (stmt_at levels ts.now) }
+    ensures within { IfOk result (λ s. length s.1.now < length ts.now) }
+{
+    let (stmt, rest) = stmt(alloc, levels, ts)?;
+    Ok((Box::new(alloc, stmt)?, rest))
 }
 
 // A statement that has opened its level.
@@ -193,22 +209,12 @@ fn choice<'a>(
     ensures within { IfOk result (λ s. length s.1.now < length ts.now) }
 {
     let (test, rest) = test(alloc, levels, ts)?;
-    let (then, rest) = stmt(alloc, levels, rest)?;
-    let then = Box::new(alloc, then)?;
+    let (then, rest) = boxed(alloc, levels, rest)?;
     let Some(rest) = behind_else(rest) else {
-        return Ok((Stmt::If { test, then, line }, rest));
+        return Ok((make_if(test, then, line), rest));
     };
-    let (otherwise, rest) = stmt(alloc, levels, rest)?;
-    let otherwise = Box::new(alloc, otherwise)?;
-    Ok((
-        Stmt::IfElse {
-            test,
-            then,
-            otherwise,
-            line,
-        },
-        rest,
-    ))
+    let (otherwise, rest) = boxed(alloc, levels, rest)?;
+    Ok((make_if_else(test, then, otherwise, line), rest))
 }
 
 #[cycle(statements)]
@@ -222,9 +228,8 @@ fn repeated<'a>(
     ensures within { IfOk result (λ s. length s.1.now < length ts.now) }
 {
     let (test, rest) = test(alloc, levels, ts)?;
-    let (body, rest) = stmt(alloc, levels, rest)?;
-    let body = Box::new(alloc, body)?;
-    Ok((Stmt::While { test, body, line }, rest))
+    let (body, rest) = boxed(alloc, levels, rest)?;
+    Ok((make_while(test, body, line), rest))
 }
 
 #[cycle(statements)]
@@ -238,18 +243,8 @@ fn stepped<'a>(
     ensures within { IfOk result (λ s. length s.1.now < length ts.now) }
 {
     let (head, rest) = for_head(alloc, levels, ts)?;
-    let (body, rest) = stmt(alloc, levels, rest)?;
-    let body = Box::new(alloc, body)?;
-    Ok((
-        Stmt::For {
-            first: head.first,
-            test: head.test,
-            step: head.step,
-            body,
-            line,
-        },
-        rest,
-    ))
+    let (body, rest) = boxed(alloc, levels, rest)?;
+    Ok((make_for(head, body, line), rest))
 }
 
 #[cycle(statements)]
@@ -264,18 +259,8 @@ fn lit<'a>(
     ensures within { IfOk result (λ s. length s.1.now < length ts.now) }
 {
     let (head, rest) = lights_head(alloc, levels, ts)?;
-    let (body, rest) = stmt(alloc, levels, rest)?;
-    let body = Box::new(alloc, body)?;
-    Ok((
-        Stmt::Lights {
-            word,
-            place: head.place,
-            cone: head.cone,
-            body,
-            line,
-        },
-        rest,
-    ))
+    let (body, rest) = boxed(alloc, levels, rest)?;
+    Ok((make_lights(word, head, body, line), rest))
 }
 
 #[cycle(statements)]
@@ -289,15 +274,6 @@ fn solar<'a>(
     ensures within { IfOk result (λ s. length s.1.now < length ts.now) }
 {
     let (cone, rest) = solar_head(alloc, levels, ts)?;
-    let (body, rest) = stmt(alloc, levels, rest)?;
-    let body = Box::new(alloc, body)?;
-    Ok((
-        Stmt::Solar {
-            axis: cone.axis,
-            angle: cone.angle,
-            body,
-            line,
-        },
-        rest,
-    ))
+    let (body, rest) = boxed(alloc, levels, rest)?;
+    Ok((make_solar(cone, body, line), rest))
 }

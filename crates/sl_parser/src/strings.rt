@@ -1,10 +1,59 @@
 // Strings and comments.
-ghost use Rattle.std.specs.Prelude.{◌≡◌, ◌≤◌, IfOk, IfSome, length, false};
+ghost use Rattle.std.specs.Prelude.{◌≡◌, ◌≤◌, ◌∷◌, ℕ, List, IfOk, IfSome, length, true, false};
 ghost use Rattle.sl_parser.specs.Found.{string_in, comment_in};
+ghost use Rattle.sl_parser.specs.Pieces.{string_behind, IsAsciiPiece};
 
 use crate::bytes::plain;
 use fixed_math::{NoMemory, Text};
 use std::alloc::Global;
+
+/// What a byte of a string is there.
+enum Piece {
+    End,
+    Backslash,
+    Byte(u8),
+    Skipped,
+    Bad,
+}
+
+// A byte behind a backslash.
+fn escaped(byte: u8) -> Piece
+    ensures goes { (bs : List ℕ) → string_in true (byte ∷ bs) ≡ string_behind result (string_in true bs) (string_in false bs) }
+    ensures ascii { IsAsciiPiece result }
+{
+    match byte {
+        b'"' => Piece::Byte(b'"'),
+        b'\\' => Piece::Byte(b'\\'),
+        b'n' => Piece::Byte(b'\n'),
+        b't' => Piece::Byte(b'\t'),
+        b'\n' => Piece::Skipped,
+        _ => Piece::Bad,
+    }
+}
+
+// A byte that no backslash stands before.
+fn unescaped(byte: u8) -> Piece
+    ensures goes { (bs : List ℕ) → string_in false (byte ∷ bs) ≡ string_behind result (string_in true bs) (string_in false bs) }
+    ensures ascii { IsAsciiPiece result }
+{
+    match byte {
+        b'"' => Piece::End,
+        b'\\' => Piece::Backslash,
+        _ if plain(byte) => Piece::Byte(byte),
+        _ => Piece::Bad,
+    }
+}
+
+fn piece_at(behind: bool, byte: u8) -> Piece
+    ensures goes { (bs : List ℕ) → string_in behind (byte ∷ bs) ≡ string_behind result (string_in true bs) (string_in false bs) }
+    ensures ascii { IsAsciiPiece result }
+{
+    if behind {
+        escaped(byte)
+    } else {
+        unescaped(byte)
+    }
+}
 
 // A string's text behind its opening quote, and how many bytes it takes with its closing one.
 pub fn read_string(alloc: Global, bytes: &[u8]) -> Result<Option<(Text, usize)>, NoMemory>
@@ -14,24 +63,15 @@ pub fn read_string(alloc: Global, bytes: &[u8]) -> Result<Option<(Text, usize)>,
     let mut text = Vec::new(alloc);
     let mut behind = false;
     for (at, byte) in bytes.iter().enumerate() {
-        if behind {
-            match *byte {
-                b'"' => text.push(b'"')?,
-                b'\\' => text.push(b'\\')?,
-                b'n' => text.push(b'\n')?,
-                b't' => text.push(b'\t')?,
-                b'\n' => {}
-                _ => return Ok(None),
+        match piece_at(behind, *byte) {
+            Piece::End => return Ok(Some((Text::from_bytes(alloc, &text)?, at + 1))),
+            Piece::Bad => return Ok(None),
+            Piece::Backslash => behind = true,
+            Piece::Skipped => behind = false,
+            Piece::Byte(byte) => {
+                text.push(byte)?;
+                behind = false;
             }
-            behind = false;
-        } else if *byte == b'"' {
-            return Ok(Some((Text::from_bytes(alloc, &text)?, at + 1)));
-        } else if *byte == b'\\' {
-            behind = true;
-        } else if plain(*byte) {
-            text.push(*byte)?;
-        } else {
-            return Ok(None);
         }
     }
     Ok(None)

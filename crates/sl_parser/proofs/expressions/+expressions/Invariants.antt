@@ -8,8 +8,14 @@ use Rattle.sl_parser.proofs.expressions.+expressions.Given as goal
 abbrev pub decreases-expr : goal.decreases-expr
 decreases-expr l = 40 * l.levels
 
+abbrev pub decreases-boxed : goal.decreases-boxed
+decreases-boxed l = 40 * l.levels + 1
+
 abbrev pub decreases-choice : goal.decreases-choice
 decreases-choice l = 40 * l.levels + 39
+
+abbrev pub decreases-chosen : goal.decreases-chosen
+decreases-chosen l = 40 * l.levels + 38
 
 abbrev pub decreases-chain : goal.decreases-chain
 decreases-chain l = 40 * l.levels + 3 * rows_from l.row + 14

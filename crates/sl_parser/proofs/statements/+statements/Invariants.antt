@@ -7,29 +7,32 @@ use Rattle.sl_parser.proofs.statements.+statements.Given as goal
 abbrev pub decreases-stmt : goal.decreases-stmt
 decreases-stmt l = 6 * l.levels
 
+abbrev pub decreases-boxed : goal.decreases-boxed
+decreases-boxed l = 6 * l.levels + 1
+
 abbrev pub decreases-opened : goal.decreases-opened
-decreases-opened l = 6 * l.levels + 3
+decreases-opened l = 6 * l.levels + 4
 
 abbrev pub decreases-worded : goal.decreases-worded
-decreases-worded l = 6 * l.levels + 2
+decreases-worded l = 6 * l.levels + 3
 
 abbrev pub decreases-block : goal.decreases-block
 decreases-block l = 6 * l.levels + 1
 
 abbrev pub decreases-choice : goal.decreases-choice
-decreases-choice l = 6 * l.levels + 1
+decreases-choice l = 6 * l.levels + 2
 
 abbrev pub decreases-repeated : goal.decreases-repeated
-decreases-repeated l = 6 * l.levels + 1
+decreases-repeated l = 6 * l.levels + 2
 
 abbrev pub decreases-stepped : goal.decreases-stepped
-decreases-stepped l = 6 * l.levels + 1
+decreases-stepped l = 6 * l.levels + 2
 
 abbrev pub decreases-lit : goal.decreases-lit
-decreases-lit l = 6 * l.levels + 1
+decreases-lit l = 6 * l.levels + 2
 
 abbrev pub decreases-solar : goal.decreases-solar
-decreases-solar l = 6 * l.levels + 1
+decreases-solar l = 6 * l.levels + 2
 
 abbrev pub invariant-block-loop-behind : goal.invariant-block-loop-behind
 invariant-block-loop-behind l = record {
