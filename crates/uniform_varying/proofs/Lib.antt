@@ -1,5 +1,4 @@
 pub mod Scopes
-mod Loops
 mod Lengths
 pub mod Leaves
 pub mod Parts

@@ -1,5 +1,5 @@
 -- A statement adds to the scope, and what stood in it stays in front; lists one behind another.
-use Rattle.std.proofs.Common.{◌≡◌, Bool, List, [], ◌∷◌, ◌++◌, length, take, refl, ap, ◌∙◌, append_assoc}
+use Rattle.std.proofs.Common.{◌≡◌, Bool, List, [], ◌∷◌, ◌++◌, length, take, refl, ap, append_assoc}
 use Rattle.sl_ast.specs.Typed.{Stmt, empty, leave, again, block, group, declare, start, assign, test, test_else, repeat, steps, lights}
 use Rattle.sl_ast.specs.Classes.{after}
 
@@ -38,9 +38,3 @@ all_kept (u ∷ us) = ap (λ r. u ∷ r) (all_kept us)
 
 pub joined : (xs ys zs : List Bool) → (xs ++ ys) ++ zs ≡ xs ++ (ys ++ zs)
 joined xs ys zs = append_assoc xs ys zs
-
-pub five_joined : (old : List Bool) (u : Bool) (a b c d : List Bool) →
-    ((((old ++ (u ∷ [])) ++ a) ++ b) ++ c) ++ d ≡ old ++ (u ∷ (a ++ (b ++ (c ++ d))))
-five_joined old u a b c d =
-    joined (((old ++ (u ∷ [])) ++ a) ++ b) c d ∙ joined ((old ++ (u ∷ [])) ++ a) b (c ++ d) ∙
-    joined (old ++ (u ∷ [])) a (b ++ (c ++ d)) ∙ joined old (u ∷ []) (a ++ (b ++ (c ++ d)))

@@ -40,7 +40,6 @@ pub fn is_uniform_loop(
 
 // Whether each break and continue that leaves the statement stands in uniform control.
 #[cycle(leaving)]
-#[tactic(auto, using(sl_ast::proofs::TypedShown::block_shown, sl_ast::proofs::TypedShown::group_shown, sl_ast::proofs::TypedShown::for_shown, sl_ast::proofs::TypedShown::lights_shown))]
 fn leaves_together(
     s: &TreeStmt,
     alloc: Global,

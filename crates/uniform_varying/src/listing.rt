@@ -1,9 +1,9 @@
 // The classes of all nodes.
-ghost use Rattle.std.specs.Prelude.{◌≡◌, ◌++◌, map, IfOk, OnOk};
+ghost use Rattle.std.specs.Prelude.{◌≡◌, ◌++◌, ◌&&◌, map, IfOk, OnOk, false};
 ghost use Rattle.sl_ast.specs.Typed.{exprs, stmts};
 ghost use Rattle.sl_ast.specs.TypedView.{tree_expr, tree_stmt, default_of};
 ghost use Rattle.sl_ast.specs.Classes as spec;
-ghost use Rattle.uniform_varying.specs.Nodes.{node_class};
+ghost use Rattle.uniform_varying.specs.Nodes.{node_class, for_classes};
 
 use crate::leaving::{in_branch, is_uniform_loop};
 use crate::scope::{class_of, enter, enter_all, formal_classes};
@@ -96,46 +96,139 @@ fn list_stmt(
         TreeStmt::Group { body } => list_stmts(body.as_slice(), alloc, us, uniform, list),
         TreeStmt::Declare { value, .. } => list_expr(value, alloc, us, uniform, list),
         TreeStmt::Set { value, .. } => list_expr(value, alloc, us, uniform, list),
-        TreeStmt::If { test, then, .. } => {
-            list_expr(test, alloc, us, uniform, list)?;
-            let inside = in_branch(test, alloc, us, uniform)?;
-            list_stmt(then, alloc, us, inside, list)
-        }
+        TreeStmt::If { test, then, .. } => list_branch(test, then, alloc, us, uniform, list),
         TreeStmt::IfElse {
             test,
             then,
             otherwise,
             ..
-        } => {
-            list_expr(test, alloc, us, uniform, list)?;
-            let inside = in_branch(test, alloc, us, uniform)?;
-            list_stmt(then, alloc, us, inside, list)?;
-            list_stmt(otherwise, alloc, us, inside, list)
-        }
-        TreeStmt::While { test, body, .. } => {
-            let inside = is_uniform_loop(test, body, alloc, us, uniform)?;
-            list_expr(test, alloc, us, inside, list)?;
-            list_stmt(body, alloc, us, inside, list)
-        }
+        } => list_branches(test, then, otherwise, alloc, us, uniform, list),
+        TreeStmt::While { test, body, .. } => list_while(test, body, alloc, us, uniform, list),
         TreeStmt::For {
             first,
             test,
             step,
             body,
             ..
-        } => {
-            list_stmts(first.as_slice(), alloc, us, uniform, list)?;
-            let inside = is_uniform_loop(test, body, alloc, us, uniform)?;
-            list_expr(test, alloc, us, inside, list)?;
-            list_stmts(step.as_slice(), alloc, us, inside, list)?;
-            list_stmt(body, alloc, us, inside, list)?;
-            Ok(())
-        }
-        TreeStmt::Lights { args, body, .. } => {
-            list_args(args.as_slice(), alloc, us, uniform, list)?;
-            list_stmt(body, alloc, us, false, list)
-        }
+        } => list_for(
+            first.as_slice(),
+            test,
+            step.as_slice(),
+            body,
+            alloc,
+            us,
+            uniform,
+            list,
+        ),
+        TreeStmt::Lights { args, body, .. } => list_lights(
+            args.as_slice(),
+            body,
+            alloc,
+            us,
+            uniform,
+            list,
+        ),
     }
+}
+
+// A condition and its branch.
+#[cycle(listing)]
+#[tactic(auto, using(crate::proofs::Scopes::joined))]
+fn list_branch(
+    test: &TreeExpr,
+    then: &TreeStmt,
+    alloc: Global,
+    us: &mut Vec<bool>,
+    uniform: bool,
+    list: &mut Vec<bool>,
+) -> Result<(), AllocError>
+    ensures list { OnOk result (list.new.items ≡ list.old.items ++ (spec.classes (tree_expr test.now) us.old.items uniform ++ spec.classes_stmt (tree_stmt then.now) us.old.items (uniform && spec.is_uniform (tree_expr test.now) us.old.items))) }
+    ensures same { OnOk result (us.new.items ≡ us.old.items) }
+{
+    list_expr(test, alloc, us, uniform, list)?;
+    let inside = in_branch(test, alloc, us, uniform)?;
+    list_stmt(then, alloc, us, inside, list)
+}
+
+// A condition and its two branches.
+#[cycle(listing)]
+#[tactic(auto, using(crate::proofs::Scopes::joined))]
+fn list_branches(
+    test: &TreeExpr,
+    then: &TreeStmt,
+    otherwise: &TreeStmt,
+    alloc: Global,
+    us: &mut Vec<bool>,
+    uniform: bool,
+    list: &mut Vec<bool>,
+) -> Result<(), AllocError>
+    ensures list { OnOk result (list.new.items ≡ list.old.items ++ (spec.classes (tree_expr test.now) us.old.items uniform ++ (spec.classes_stmt (tree_stmt then.now) us.old.items (uniform && spec.is_uniform (tree_expr test.now) us.old.items) ++ spec.classes_stmt (tree_stmt otherwise.now) us.old.items (uniform && spec.is_uniform (tree_expr test.now) us.old.items)))) }
+    ensures same { OnOk result (us.new.items ≡ us.old.items) }
+{
+    list_expr(test, alloc, us, uniform, list)?;
+    let inside = in_branch(test, alloc, us, uniform)?;
+    list_stmt(then, alloc, us, inside, list)?;
+    list_stmt(otherwise, alloc, us, inside, list)
+}
+
+// The condition and the body of a `while`.
+#[cycle(listing)]
+#[tactic(auto, using(crate::proofs::Scopes::joined))]
+fn list_while(
+    test: &TreeExpr,
+    body: &TreeStmt,
+    alloc: Global,
+    us: &mut Vec<bool>,
+    uniform: bool,
+    list: &mut Vec<bool>,
+) -> Result<(), AllocError>
+    ensures list { OnOk result (list.new.items ≡ list.old.items ++ (spec.classes (tree_expr test.now) us.old.items (spec.is_uniform_loop (tree_expr test.now) (tree_stmt body.now) us.old.items uniform) ++ spec.classes_stmt (tree_stmt body.now) us.old.items (spec.is_uniform_loop (tree_expr test.now) (tree_stmt body.now) us.old.items uniform))) }
+    ensures same { OnOk result (us.new.items ≡ us.old.items) }
+{
+    let inside = is_uniform_loop(test, body, alloc, us, uniform)?;
+    list_expr(test, alloc, us, inside, list)?;
+    list_stmt(body, alloc, us, inside, list)
+}
+
+// What stands in the parentheses of a `for`, and its body.
+#[cycle(listing)]
+#[tactic(auto, using(crate::proofs::Scopes::joined))]
+fn list_for(
+    first: &[TreeStmt],
+    test: &TreeExpr,
+    step: &[TreeStmt],
+    body: &TreeStmt,
+    alloc: Global,
+    us: &mut Vec<bool>,
+    uniform: bool,
+    list: &mut Vec<bool>,
+) -> Result<(), AllocError>
+    ensures list { OnOk result (list.new.items ≡ list.old.items ++ for_classes (stmts (map tree_stmt first.now)) (tree_expr test.now) (stmts (map tree_stmt step.now)) (tree_stmt body.now) us.old.items uniform) }
+    ensures same { OnOk result (us.new.items ≡ us.old.items) }
+{
+    list_stmts(first, alloc, us, uniform, list)?;
+    let inside = is_uniform_loop(test, body, alloc, us, uniform)?;
+    list_expr(test, alloc, us, inside, list)?;
+    list_stmts(step, alloc, us, inside, list)?;
+    list_stmt(body, alloc, us, inside, list)
+}
+
+// The operands of a statement over lights, and its body in varying control.
+#[cycle(listing)]
+#[tactic(auto, using(crate::proofs::Scopes::joined))]
+fn list_lights(
+    args: &[TreeExpr],
+    body: &TreeStmt,
+    alloc: Global,
+    us: &mut Vec<bool>,
+    uniform: bool,
+    list: &mut Vec<bool>,
+) -> Result<(), AllocError>
+    ensures list { OnOk result (list.new.items ≡ list.old.items ++ (spec.classes_args (exprs (map tree_expr args.now)) us.old.items uniform ++ spec.classes_stmt (tree_stmt body.now) us.old.items false)) }
+    ensures same { OnOk result (us.new.items ≡ us.old.items) }
+{
+    list_args(args, alloc, us, uniform, list)?;
+    list_stmt(body, alloc, us, false, list)
 }
 
 #[cycle(listing)]

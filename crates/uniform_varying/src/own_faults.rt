@@ -1,5 +1,6 @@
 // Faults at one node.
-ghost use Rattle.std.specs.Prelude.{◌≡◌, ◌&&◌, not, map, IfOk};
+ghost use Rattle.std.specs.Prelude.{◌≡◌, ◌&&◌, not, map, IfOk, Ok};
+ghost use Rattle.sl_ast.specs.declared.kinds.ControlCode.TheVariants.{T3};
 ghost use Rattle.sl_ast.specs.Typed.{exprs};
 ghost use Rattle.sl_ast.specs.TypedView.{tree_expr};
 ghost use Rattle.sl_ast.specs.Settled as spec;
@@ -173,5 +174,13 @@ pub fn settle_declare(
 {
     let wrong = is_varying_string(uniform, kind) || varies_into(uniform, value, alloc, us)?;
     refuse(wrong, ControlCode::T3, line)?;
+    Ok(lit)
+}
+
+// A declaration without a value, at the name that is declared.
+pub fn settle_start(uniform: bool, kind: SlType, line: u32, lit: bool) -> Result<bool, Stop>
+    ensures { Gives result (spec.unless (spec.is_varying_string uniform kind) T3 line (Ok lit)) }
+{
+    refuse(is_varying_string(uniform, kind), ControlCode::T3, line)?;
     Ok(lit)
 }

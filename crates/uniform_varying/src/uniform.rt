@@ -1,5 +1,5 @@
 // Uniform expressions.
-ghost use Rattle.std.specs.Prelude.{◌≡◌, map, IfOk, OnOk};
+ghost use Rattle.std.specs.Prelude.{◌≡◌, ◌&&◌, map, IfOk, OnOk};
 ghost use Rattle.sl_ast.specs.Typed.{exprs, stmts};
 ghost use Rattle.sl_ast.specs.TypedView.{tree_expr, tree_stmt};
 ghost use Rattle.sl_ast.specs.Classes as spec;
@@ -76,45 +76,108 @@ fn stmt_uniform(s: &TreeStmt, alloc: Global, us: &mut Vec<bool>) -> Result<bool,
         TreeStmt::Continue { .. } => Ok(true),
         TreeStmt::Block { body, .. } => stmts_uniform(body.as_slice(), alloc, us),
         TreeStmt::Group { body } => stmts_uniform(body.as_slice(), alloc, us),
-        TreeStmt::Declare { uniform, value, .. } => Ok(*uniform && is_uniform(value, alloc, us)?),
+        TreeStmt::Declare { uniform, value, .. } => value_uniform(*uniform, value, alloc, us),
         TreeStmt::Start { uniform, .. } => Ok(*uniform),
         TreeStmt::Set {
             variable,
             value,
             ..
-        } => { Ok(class_of(*variable, us) && is_uniform(value, alloc, us)?) }
-        TreeStmt::If { test, then, .. } => {
-            Ok(is_uniform(test, alloc, us)? && stmt_uniform(then, alloc, us)?)
-        }
+        } => value_uniform(class_of(*variable, us), value, alloc, us),
+        TreeStmt::If { test, then, .. } => branch_uniform(test, then, alloc, us),
         TreeStmt::IfElse {
             test,
             then,
             otherwise,
             ..
-        } => Ok(
-            is_uniform(test, alloc, us)?
-                && stmt_uniform(then, alloc, us)?
-                && stmt_uniform(otherwise, alloc, us)?,
-        ),
-        TreeStmt::While { test, body, .. } => {
-            Ok(is_uniform(test, alloc, us)? && stmt_uniform(body, alloc, us)?)
-        }
+        } => branches_uniform(test, then, otherwise, alloc, us),
+        TreeStmt::While { test, body, .. } => branch_uniform(test, body, alloc, us),
         TreeStmt::For {
             first,
             test,
             step,
             body,
             ..
-        } => Ok(
-            stmts_uniform(first.as_slice(), alloc, us)?
-                && is_uniform(test, alloc, us)?
-                && stmts_uniform(step.as_slice(), alloc, us)?
-                && stmt_uniform(body, alloc, us)?,
-        ),
-        TreeStmt::Lights { args, body, .. } => {
-            Ok(are_uniform(args.as_slice(), alloc, us)? && stmt_uniform(body, alloc, us)?)
-        }
+        } => for_uniform(first.as_slice(), test, step.as_slice(), body, alloc, us),
+        TreeStmt::Lights { args, body, .. } => lights_uniform(args.as_slice(), body, alloc, us),
     }
+}
+
+// Whether a variable of that class takes a uniform value.
+#[cycle(uniform)]
+fn value_uniform(
+    uniform: bool,
+    value: &TreeExpr,
+    alloc: Global,
+    us: &[bool],
+) -> Result<bool, AllocError>
+    ensures { IfOk result (λ u. u ≡ (uniform && spec.is_uniform (tree_expr value.now) us.now)) }
+{
+    Ok(uniform && is_uniform(value, alloc, us)?)
+}
+
+// A condition and what stands under it.
+#[cycle(uniform)]
+fn branch_uniform(
+    test: &TreeExpr,
+    body: &TreeStmt,
+    alloc: Global,
+    us: &mut Vec<bool>,
+) -> Result<bool, AllocError>
+    ensures class { IfOk result (λ u. u ≡ (spec.is_uniform (tree_expr test.now) us.old.items && spec.stmt_uniform (tree_stmt body.now) us.old.items)) }
+    ensures same { OnOk result (us.new.items ≡ us.old.items) }
+{
+    Ok(is_uniform(test, alloc, us)? && stmt_uniform(body, alloc, us)?)
+}
+
+// A condition and its two branches.
+#[cycle(uniform)]
+fn branches_uniform(
+    test: &TreeExpr,
+    then: &TreeStmt,
+    otherwise: &TreeStmt,
+    alloc: Global,
+    us: &mut Vec<bool>,
+) -> Result<bool, AllocError>
+    ensures class { IfOk result (λ u. u ≡ (spec.is_uniform (tree_expr test.now) us.old.items && (spec.stmt_uniform (tree_stmt then.now) us.old.items && spec.stmt_uniform (tree_stmt otherwise.now) us.old.items))) }
+    ensures same { OnOk result (us.new.items ≡ us.old.items) }
+{
+    if !is_uniform(test, alloc, us)? {
+        return Ok(false);
+    }
+    Ok(stmt_uniform(then, alloc, us)? && stmt_uniform(otherwise, alloc, us)?)
+}
+
+// What stands in the parentheses of a `for`, and its body.
+#[cycle(uniform)]
+fn for_uniform(
+    first: &[TreeStmt],
+    test: &TreeExpr,
+    step: &[TreeStmt],
+    body: &TreeStmt,
+    alloc: Global,
+    us: &mut Vec<bool>,
+) -> Result<bool, AllocError>
+    ensures class { IfOk result (λ u. u ≡ (spec.stmts_uniform (stmts (map tree_stmt first.now)) us.old.items && (spec.is_uniform (tree_expr test.now) us.old.items && (spec.stmts_uniform (stmts (map tree_stmt step.now)) us.old.items && spec.stmt_uniform (tree_stmt body.now) us.old.items)))) }
+    ensures same { OnOk result (us.new.items ≡ us.old.items) }
+{
+    if !stmts_uniform(first, alloc, us)? || !is_uniform(test, alloc, us)? {
+        return Ok(false);
+    }
+    Ok(stmts_uniform(step, alloc, us)? && stmt_uniform(body, alloc, us)?)
+}
+
+// The operands of a statement over lights, and its body.
+#[cycle(uniform)]
+fn lights_uniform(
+    args: &[TreeExpr],
+    body: &TreeStmt,
+    alloc: Global,
+    us: &mut Vec<bool>,
+) -> Result<bool, AllocError>
+    ensures class { IfOk result (λ u. u ≡ (spec.are_uniform (exprs (map tree_expr args.now)) us.old.items && spec.stmt_uniform (tree_stmt body.now) us.old.items)) }
+    ensures same { OnOk result (us.new.items ≡ us.old.items) }
+{
+    Ok(are_uniform(args, alloc, us)? && stmt_uniform(body, alloc, us)?)
 }
 
 #[cycle(uniform)]
