@@ -49,6 +49,9 @@ def faces(count):
     return (f"WorldBegin\nPointsPolygons [{'4 ' * count}] [{corners}] \"P\" [{points}]\n", "kind.rib:2: N4")
 
 
+# 1,000 frames whose ends bring back the lights that were made before them, 64,000 in the end
+LIT_FRAMES = ('LightSource "a" 1\n' * 64 + "FrameBegin 1 WorldBegin WorldEnd FrameEnd\n") * 1000
+
 KINDS = {
     # meshes and polygons of 65,536 patches
     "mesh_bilinear": mesh("bilinear", 257, "0 .5 1 "),
@@ -72,6 +75,7 @@ KINDS = {
     "lights": (full("", 'LightSource "a" 1 WorldBegin WorldEnd\n', share=min(1.0, 999 * 38 / MOST)), "-"),
     "switched": (full('LightSource "a" 1\n' * 64, "Illuminate 1 0 Illuminate 1 1\n"), "-"),
     # blocks and depth
+    "blocks_lit": (full(LIT_FRAMES, "AttributeBegin AttributeEnd\n"), "-"),
     "blocks_64": (full("", "AttributeBegin\n" * 64 + "AttributeEnd\n" * 64), "-"),
     "frames_named": (full('Display "' + "a" * (MOST // 2) + '" "file" "rgb"\n', "FrameBegin 1 FrameEnd\n"), "-"),
     "blocks_open": (full("", "AttributeBegin\n"), "kind.rib:65: M1"),

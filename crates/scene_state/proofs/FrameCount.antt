@@ -22,7 +22,7 @@ use Rattle.scene_state.specs.Choices.{ChoiceValues, chosen, view_of}
 use Rattle.scene_state.specs.State.{most_blocks, most_frames, most_lights, with_frame, name_or, moved, scaled, turned, of_rows, Stepped, first_state, closed, opened, innermost, frame_ended, attributes_ended, transform_ended, world_with, frame_made, frame_of, world_ended, with_choices, option_set, display_set, with_current, with_before, space_of, use_of, next_shader, with_shader, light_added, light_made, illuminated_by, light_named, with_prim, with_patches, is_past, mesh_from, mesh_counted, mesh_laid, face_points, with_face, with_faces, faces_laid, Located, located, laid, polygon_set, polygons_set}
 use Rattle.scene_state.specs.Bases.{patch_shape, mesh_shape}
 use Rattle.scene_state.specs.Faces.{FaceValues, one_face, faces_in}
-use Rattle.scene_state.specs.Variables.{variables_in, are_counted, mesh_extent, mesh_piece, faces_extent, face_piece}
+use Rattle.scene_state.specs.Variables.{variables_in, are_counted, mesh_extent, mesh_seat, faces_extent, face_seat}
 use Rattle.scene_state.specs.Shaders.{with_request}
 use Rattle.scene_state.specs.Steps.{with_surface, with_displacement, with_atmosphere, step, after, and_then, Placed, state_from, ended, last_line, scene_of}
 use Rattle.scene_state.specs.declared.fault.StateCode.{StateCode}
@@ -33,7 +33,7 @@ use Rattle.scene_state.specs.declared.attributes.Attributes.{Attributes}
 use Rattle.scene_state.specs.declared.state.Block.{Block}
 use Rattle.scene_state.specs.declared.state.Block.TheVariants.{InFrame, InWorld, InAttributes, InTransform}
 use Rattle.scene_state.specs.declared.state.World.{World}
-use Rattle.scene_state.specs.declared.piece.Piece.{Piece}
+use Rattle.scene_state.specs.declared.seat.Seat.{Seat}
 use Rattle.scene_state.specs.declared.state.State.{State}
 
 abbrev pub Few : State → Type 0
@@ -128,31 +128,31 @@ few_illuminated None on s g = tt
 few_illuminated (Some k) on s g = g
 
 -- patches that are placed one after another
-few_patches : (r : Read) (object : Map) (flat : Option Vec3) (pieces : ℕ → Piece) (k : ℕ) (ps : List Patch) (s : State) → Few s → Few (with_patches r object flat pieces k ps s)
+few_patches : (r : Read) (object : Map) (flat : Option Vec3) (seats : ℕ → Seat) (k : ℕ) (ps : List Patch) (s : State) → Few s → Few (with_patches r object flat seats k ps s)
 unfolding with_patches
-few_patches r object flat pieces k [] s g = g
-few_patches r object flat pieces k (p ∷ ps) s g = few_patches r object flat pieces (k + 1) ps (with_prim r object flat (pieces k) p s) g
+few_patches r object flat seats k [] s g = g
+few_patches r object flat seats k (p ∷ ps) s g = few_patches r object flat seats (k + 1) ps (with_prim r object flat (seats k) p s) g
 
-few_mesh_from : (r : Read) (object : Map) (pieces : ℕ → Piece) (k : ℕ) (o : Option (List Patch)) (s : State) → Few s → FewStep (mesh_from r object pieces k o s)
-few_mesh_from r object pieces k None s g = tt
-few_mesh_from r object pieces k (Some ps) s g = few_patches r object None pieces k ps s g
+few_mesh_from : (r : Read) (object : Map) (seats : ℕ → Seat) (k : ℕ) (o : Option (List Patch)) (s : State) → Few s → FewStep (mesh_from r object seats k o s)
+few_mesh_from r object seats k None s g = tt
+few_mesh_from r object seats k (Some ps) s g = few_patches r object None seats k ps s g
 
 few_counted : (r : Read) (object : Map) (shape : Shape) (ps : List Vec3) (o : Option Counts) (s : State) → Few s → FewStep (mesh_counted r object shape ps o s)
 few_counted r object shape ps None s g = tt
 few_counted r object shape ps (Some c) s g =
-    let laid = mesh_from r object (mesh_piece shape c) 0 (patches_in ps shape c) s in
+    let laid = mesh_from r object (mesh_seat shape c) 0 (patches_in ps shape c) s in
     either (not (are_counted (mesh_extent shape c) (variables_in r.params))) (Err G5) (if is_past (c.along_u * c.along_v) s then Err M3 else laid) tt
-    (either (is_past (c.along_u * c.along_v) s) (Err M3) laid tt (few_mesh_from r object (mesh_piece shape c) 0 (patches_in ps shape c) s g))
+    (either (is_past (c.along_u * c.along_v) s) (Err M3) laid tt (few_mesh_from r object (mesh_seat shape c) 0 (patches_in ps shape c) s g))
 
 -- and faces
 few_faces : (r : Read) (object : Map) (ps : List Vec3) (j first : ℕ) (sizes corners : List ℕ) (s : State) → Few s → Few (with_faces r object ps j first sizes corners s)
 unfolding with_faces
 few_faces r object ps j first [] corners s g = g
 few_faces r object ps j first (n ∷ ns) corners s g =
-    let pieces = face_piece j first (take n corners) in
+    let seats = face_seat j first (take n corners) in
     let face = face_points ps (take n corners) in
-    few_faces r object ps (j + 1) (first + n) ns (drop n corners) (with_face r object pieces face s)
-    (few_patches r object (Some (flat_normal face)) pieces 0 (pieces_of face) s g)
+    few_faces r object ps (j + 1) (first + n) ns (drop n corners) (with_face r object seats face s)
+    (few_patches r object (Some (flat_normal face)) seats 0 (pieces_of face) s g)
 
 few_faces_laid : (r : Read) (object : Map) (ps : List Vec3) (o : Option FaceValues) (s : State) → Few s → FewStep (faces_laid r object ps o s)
 few_faces_laid r object ps None s g = tt

@@ -19,7 +19,7 @@ use Rattle.scene_state.specs.Choices.{ChoiceValues, chosen, view_of}
 use Rattle.scene_state.specs.Looks.{look_after, is_single}
 use Rattle.scene_state.specs.Shaders.{with_request, placed_in, placed, some_placed, all_placed, light_of, with_light, without_light, is_among}
 use Rattle.scene_state.specs.State.{most_blocks, most_frames, most_lights, with_frame, name_or, moved, scaled, turned, of_rows, prim_of, Stepped, Located, first_state, closed, opened, innermost, frame_ended, attributes_ended, transform_ended, world_with, frame_made, frame_of, world_ended, with_choices, option_set, display_set, with_current, with_before, space_of, use_of, next_shader, with_shader, light_added, light_made, handle_for, illuminated_by, light_named, with_prim, with_patches, is_past, mesh_from, mesh_counted, mesh_laid, face_points, with_face, with_faces, faces_laid, located, laid}
-use Rattle.scene_state.specs.Variables.{variables_in, are_counted, mesh_extent, mesh_piece, faces_extent, face_piece}
+use Rattle.scene_state.specs.Variables.{variables_in, are_counted, mesh_extent, mesh_seat, faces_extent, face_seat}
 use Rattle.scene_state.specs.Bases.{bases_after, patch_shape, mesh_shape}
 use Rattle.scene_state.specs.Faces.{FaceValues, one_face, faces_in}
 use Rattle.mesh_basis.specs.declared.shape.Shape.{Shape}
@@ -42,7 +42,7 @@ use Rattle.scene_state.specs.declared.shaders.Handle.{Handle}
 use Rattle.scene_state.specs.declared.state.Block.{Block}
 use Rattle.scene_state.specs.declared.state.Block.TheVariants.{InFrame, InWorld, InAttributes, InTransform}
 use Rattle.scene_state.specs.declared.state.World.{World}
-use Rattle.scene_state.specs.declared.piece.Piece.{Piece}
+use Rattle.scene_state.specs.declared.seat.Seat.{Seat}
 use Rattle.scene_state.specs.declared.state.State.{State}
 
 -- ---- lists
@@ -454,8 +454,8 @@ good_illuminated (Some k) on s is g =
 
 -- ---- primitives
 
-pub good_prim : (r : Read) (object : Map) (flat : Option Vec3) (piece : Piece) (patch : Patch) (s : State) → IsGood s → IsGood (with_prim r object flat piece patch s)
-good_prim r object flat piece patch s g =
+pub good_prim : (r : Read) (object : Map) (flat : Option Vec3) (seat : Seat) (patch : Patch) (s : State) → IsGood s → IsGood (with_prim r object flat seat patch s)
+good_prim r object flat seat patch s g =
     let a = s.attributes in
     let w = g.attributes in
     let d = some_placed s.shaders a.displacement in
@@ -475,7 +475,7 @@ good_prim r object flat piece patch s g =
       attributes = h.attributes;
       blocks = h.blocks;
       handles = h.handles;
-      prims = all_more (HasUses l.0.uses) s.prims (prim_of r object flat piece patch a.look f.1 d.1 v.1 l.1) h.prims record {
+      prims = all_more (HasUses l.0.uses) s.prims (prim_of r object flat seat patch a.look f.1 d.1 v.1 l.1) h.prims record {
         surface = f_l.uses kinds.Surface f.1 (placed_is d.0 kinds.Surface a.surface (to_d.shaders kinds.Surface a.surface w.surface));
         displacement = some_use_keeps d.0 l.0 kinds.Displacement d.1 d_l (some_placed_is s.shaders kinds.Displacement a.displacement w.displacement);
         atmosphere = some_use_keeps v.0 l.0 kinds.Volume v.1 v_l (some_placed_is f.0 kinds.Volume a.atmosphere (some_keeps s.shaders f.0 kinds.Volume a.atmosphere to_f w.atmosphere));
@@ -484,35 +484,35 @@ good_prim r object flat piece patch s g =
       frames = h.frames;
     }
 
-good_patches : (r : Read) (object : Map) (flat : Option Vec3) (pieces : ℕ → Piece) (k : ℕ) (ps : List Patch) (s : State) → IsGood s → IsGood (with_patches r object flat pieces k ps s)
+good_patches : (r : Read) (object : Map) (flat : Option Vec3) (seats : ℕ → Seat) (k : ℕ) (ps : List Patch) (s : State) → IsGood s → IsGood (with_patches r object flat seats k ps s)
 unfolding with_patches
-good_patches r object flat pieces k [] s g = g
-good_patches r object flat pieces k (p ∷ ps) s g = good_patches r object flat pieces (k + 1) ps (with_prim r object flat (pieces k) p s) (good_prim r object flat (pieces k) p s g)
+good_patches r object flat seats k [] s g = g
+good_patches r object flat seats k (p ∷ ps) s g = good_patches r object flat seats (k + 1) ps (with_prim r object flat (seats k) p s) (good_prim r object flat (seats k) p s g)
 
-good_in_range : (r : Read) (object : Map) (pieces : ℕ → Piece) (o : Option (List Patch)) (s : State) → IsGood s → GoodStep (mesh_from r object pieces 0 o s)
-good_in_range r object pieces None s g = tt
-good_in_range r object pieces (Some ps) s g = good_patches r object None pieces 0 ps s g
+good_in_range : (r : Read) (object : Map) (seats : ℕ → Seat) (o : Option (List Patch)) (s : State) → IsGood s → GoodStep (mesh_from r object seats 0 o s)
+good_in_range r object seats None s g = tt
+good_in_range r object seats (Some ps) s g = good_patches r object None seats 0 ps s g
 
 good_counted : (r : Read) (object : Map) (shape : Shape) (ps : List Vec3) (o : Option Counts) (s : State) → IsGood s → GoodStep (mesh_counted r object shape ps o s)
 good_counted r object shape ps None s g = tt
 good_counted r object shape ps (Some c) s g =
-    let laid = mesh_from r object (mesh_piece shape c) 0 (patches_in ps shape c) s in
+    let laid = mesh_from r object (mesh_seat shape c) 0 (patches_in ps shape c) s in
     either (not (are_counted (mesh_extent shape c) (variables_in r.params))) (Err G5) (if is_past (c.along_u * c.along_v) s then Err M3 else laid) tt
-    (either (is_past (c.along_u * c.along_v) s) (Err M3) laid tt (good_in_range r object (mesh_piece shape c) (patches_in ps shape c) s g))
+    (either (is_past (c.along_u * c.along_v) s) (Err M3) laid tt (good_in_range r object (mesh_seat shape c) (patches_in ps shape c) s g))
 
 good_mesh : (r : Read) (shape : Shape) (object : Map) (ps : List Vec3) (s : State) → IsGood s → GoodStep (mesh_laid r shape object ps s)
 good_mesh r shape object ps s g = good_counted r object shape ps (counts_of shape (length ps)) s g
 
-pub good_face : (r : Read) (object : Map) (pieces : ℕ → Piece) (ps : List Vec3) (s : State) → IsGood s → IsGood (with_face r object pieces ps s)
-good_face r object pieces ps s g = good_patches r object (Some (flat_normal ps)) pieces 0 (pieces_of ps) s g
+pub good_face : (r : Read) (object : Map) (seats : ℕ → Seat) (ps : List Vec3) (s : State) → IsGood s → IsGood (with_face r object seats ps s)
+good_face r object seats ps s g = good_patches r object (Some (flat_normal ps)) seats 0 (pieces_of ps) s g
 
 good_all_faces : (r : Read) (object : Map) (ps : List Vec3) (j first : ℕ) (ns corners : List ℕ) (s : State) → IsGood s → IsGood (with_faces r object ps j first ns corners s)
 unfolding with_faces
 good_all_faces r object ps j first [] corners s g = g
 good_all_faces r object ps j first (n ∷ ns) corners s g =
-    let pieces = face_piece j first (take n corners) in
+    let seats = face_seat j first (take n corners) in
     let face = face_points ps (take n corners) in
-    good_all_faces r object ps (j + 1) (first + n) ns (drop n corners) (with_face r object pieces face s) (good_face r object pieces face s g)
+    good_all_faces r object ps (j + 1) (first + n) ns (drop n corners) (with_face r object seats face s) (good_face r object seats face s g)
 
 good_faces : (r : Read) (object : Map) (ps : List Vec3) (o : Option FaceValues) (s : State) → IsGood s → GoodStep (faces_laid r object ps o s)
 good_faces r object ps None s g = tt

@@ -20,103 +20,114 @@ use Rattle.mesh_basis.specs.Meshes.{all_from, patch_at, patches_in}
 use Rattle.mesh_basis.specs.Polygons.{point, piece_count, piece_of, pieces_of, flat_normal}
 use Rattle.mesh_basis.proofs.Runs.{all_step}
 use Rattle.scene_state.specs.Scene.{PrimValue}
-use Rattle.scene_state.specs.Shaders.{placed, some_placed, all_placed}
+use Rattle.scene_state.specs.Shaders.{placed, some_placed, all_placed, worn_by}
+use Rattle.scene_state.specs.declared.attributes.Attributes.{Attributes}
+use Rattle.scene_state.specs.declared.shaders.Worn.{Worn}
 use Rattle.scene_state.specs.declared.shaders.Shaders.{Shaders}
 use Rattle.scene_state.specs.Faces.{FaceValues, use_up}
 use Rattle.scene_state.specs.State.{Stepped, prim_of, with_prim, with_patches, is_past, mesh_from, mesh_counted, mesh_laid, face_points, with_face, with_faces, faces_laid}
 use Rattle.scene_state.specs.declared.fault.StateCode.TheVariants.{G5, M3, M7}
-use Rattle.scene_state.specs.Variables.{variables_in, are_counted, mesh_extent, mesh_piece, faces_extent, face_piece}
-use Rattle.scene_state.specs.declared.piece.Piece.{Piece}
+use Rattle.scene_state.specs.Variables.{variables_in, are_counted, mesh_extent, mesh_seat, faces_extent, face_seat}
+use Rattle.scene_state.specs.declared.seat.Seat.{Seat}
 use Rattle.scene_state.specs.declared.state.State.{State}
+
+abbrev pub worn : ℕ → Option ℕ → Option ℕ → List ℕ → Worn
+worn surface displacement atmosphere lights = record { surface = surface; displacement = displacement; atmosphere = atmosphere; lights = lights }
 
 -- ---- the patches of a mesh
 
-from_next : (r : Read) (object : Map) (pieces : ℕ → Piece) (k : ℕ) (p : Patch) (o : Option (List Patch)) (s : State) →
-    mesh_from r object pieces k (with_next (Some p) o) s ≡ mesh_from r object pieces (k + 1) o (with_prim r object None (pieces k) p s)
+from_next : (r : Read) (object : Map) (seats : ℕ → Seat) (k : ℕ) (p : Patch) (o : Option (List Patch)) (s : State) →
+    mesh_from r object seats k (with_next (Some p) o) s ≡ mesh_from r object seats (k + 1) o (with_prim r object None (seats k) p s)
 unfolding with_patches
-from_next r object pieces k p None s = refl
-from_next r object pieces k p (Some ps) s = refl
+from_next r object seats k p None s = refl
+from_next r object seats k p (Some ps) s = refl
 
-from_none : (r : Read) (object : Map) (pieces : ℕ → Piece) (k : ℕ) (o : Option (List Patch)) (s : State) → mesh_from r object pieces k (with_next None o) s ≡ Err M7
-from_none r object pieces k None s = refl
-from_none r object pieces k (Some ps) s = refl
+from_none : (r : Read) (object : Map) (seats : ℕ → Seat) (k : ℕ) (o : Option (List Patch)) (s : State) → mesh_from r object seats k (with_next None o) s ≡ Err M7
+from_none r object seats k None s = refl
+from_none r object seats k (Some ps) s = refl
 
-pub mesh_next : (f : ℕ → Option Patch) (r : Read) (object : Map) (pieces : ℕ → Piece) (k n : ℕ) (p : Patch) (s t : State) (all : Stepped) → k < n → f k ≡ Some p →
-    t ≡ with_prim r object None (pieces k) p s → mesh_from r object pieces k (all_from f k (n - k)) s ≡ all → mesh_from r object pieces (k + 1) (all_from f (k + 1) (n - (k + 1))) t ≡ all
-mesh_next f r object pieces k n p s t all h e g inv =
+pub mesh_next : (f : ℕ → Option Patch) (r : Read) (object : Map) (seats : ℕ → Seat) (k n : ℕ) (p : Patch) (s t : State) (all : Stepped) → k < n → f k ≡ Some p →
+    t ≡ with_prim r object None (seats k) p s → mesh_from r object seats k (all_from f k (n - k)) s ≡ all → mesh_from r object seats (k + 1) (all_from f (k + 1) (n - (k + 1))) t ≡ all
+mesh_next f r object seats k n p s t all h e g inv =
     let rest = all_from f (k + 1) (n - (k + 1)) in
-    ap (mesh_from r object pieces (k + 1) rest) g
-    ∙ sym (ap (λ o. mesh_from r object pieces k o s) (all_step f k n h ∙ ap (λ o. with_next o rest) e) ∙ from_next r object pieces k p rest s) ∙ inv
+    ap (mesh_from r object seats (k + 1) rest) g
+    ∙ sym (ap (λ o. mesh_from r object seats k o s) (all_step f k n h ∙ ap (λ o. with_next o rest) e) ∙ from_next r object seats k p rest s) ∙ inv
 
-pub mesh_none : (f : ℕ → Option Patch) (r : Read) (object : Map) (pieces : ℕ → Piece) (k n : ℕ) (s : State) (all : Stepped) → k < n → f k ≡ None →
-    mesh_from r object pieces k (all_from f k (n - k)) s ≡ all → all ≡ Err M7
-mesh_none f r object pieces k n s all h e inv =
+pub mesh_none : (f : ℕ → Option Patch) (r : Read) (object : Map) (seats : ℕ → Seat) (k n : ℕ) (s : State) (all : Stepped) → k < n → f k ≡ None →
+    mesh_from r object seats k (all_from f k (n - k)) s ≡ all → all ≡ Err M7
+mesh_none f r object seats k n s all h e inv =
     let rest = all_from f (k + 1) (n - (k + 1)) in
-    sym inv ∙ ap (λ o. mesh_from r object pieces k o s) (all_step f k n h ∙ ap (λ o. with_next o rest) e) ∙ from_none r object pieces k rest s
+    sym inv ∙ ap (λ o. mesh_from r object seats k o s) (all_step f k n h ∙ ap (λ o. with_next o rest) e) ∙ from_none r object seats k rest s
 
-pub mesh_end : (f : ℕ → Option Patch) (r : Read) (object : Map) (pieces : ℕ → Piece) (k n : ℕ) (s : State) (all : Stepped) → n ≤ k →
-    mesh_from r object pieces k (all_from f k (n - k)) s ≡ all → all ≡ Ok s
+pub mesh_end : (f : ℕ → Option Patch) (r : Read) (object : Map) (seats : ℕ → Seat) (k n : ℕ) (s : State) (all : Stepped) → n ≤ k →
+    mesh_from r object seats k (all_from f k (n - k)) s ≡ all → all ≡ Ok s
 unfolding all_from with_patches
-mesh_end f r object pieces k n s all h inv =
+mesh_end f r object seats k n s all h inv =
     let e : n - k ≡ 0 = omega arith in
-    sym inv ∙ ap (λ m. mesh_from r object pieces k (all_from f k m) s) e
+    sym inv ∙ ap (λ m. mesh_from r object seats k (all_from f k m) s) e
 
--- a patch is placed: its shaders are had one after another
-pub prim_is : (r : Read) (object : Map) (flat : Option Vec3) (piece : Piece) (patch : Patch) (s : State) (d : Shaders × Option ℕ) (f : Shaders × ℕ) (v : Shaders × Option ℕ)
-    (l : Shaders × List ℕ) (prims : List PrimValue) → d ≡ some_placed s.shaders s.attributes.displacement → f ≡ placed d.0 s.attributes.surface → v ≡ some_placed f.0 s.attributes.atmosphere
-    → l ≡ all_placed v.0 s.attributes.lights → prims ≡ s.prims ++ prim_of r object flat piece patch s.attributes.look f.1 d.1 v.1 l.1 ∷ []
-    → record s { shaders = l.0; prims = prims } ≡ with_prim r object flat piece patch s
-prim_is r object flat piece patch s d f v l prims ed ef ev el e =
-    let a = s.attributes in
-    let D = some_placed s.shaders a.displacement in
+-- the shaders of a primitive are had one after another
+pub worn_is : (s : Shaders) (a : Attributes) (d : Shaders × Option ℕ) (f : Shaders × ℕ) (v : Shaders × Option ℕ) (l : Shaders × List ℕ) →
+    d ≡ some_placed s a.displacement → f ≡ placed d.0 a.surface → v ≡ some_placed f.0 a.atmosphere → l ≡ all_placed v.0 a.lights →
+    (l.0, worn f.1 d.1 v.1 l.1) ≡ worn_by s a
+worn_is s a d f v l ed ef ev el =
+    let D = some_placed s a.displacement in
     let F = placed D.0 a.surface in
     let V = some_placed F.0 a.atmosphere in
-    let with : (d : Shaders × Option ℕ) (f : Shaders × ℕ) (v : Shaders × Option ℕ) (l : Shaders × List ℕ) → State =
-    λ d f v l. record s { shaders = l.0; prims = s.prims ++ prim_of r object flat piece patch a.look f.1 d.1 v.1 l.1 ∷ [] } in
+    let with : (d : Shaders × Option ℕ) (f : Shaders × ℕ) (v : Shaders × Option ℕ) (l : Shaders × List ℕ) → Shaders × Worn =
+    λ d f v l. (l.0, worn f.1 d.1 v.1 l.1) in
     let to_f : f ≡ F = ef ∙ ap (λ (x : Shaders × Option ℕ). placed x.0 a.surface) ed in
     let to_v : v ≡ V = ev ∙ ap (λ (x : Shaders × ℕ). some_placed x.0 a.atmosphere) to_f in
     let to_l : l ≡ all_placed V.0 a.lights = el ∙ ap (λ (x : Shaders × Option ℕ). all_placed x.0 a.lights) to_v in
-    ap (λ (ps : List PrimValue). record s { shaders = l.0; prims = ps }) e
-    ∙ ap (λ x. with x f v l) ed ∙ ap (λ x. with D x v l) to_f ∙ ap (λ x. with D F x l) to_v ∙ ap (λ x. with D F V x) to_l
+    ap (λ x. with x f v l) ed ∙ ap (λ x. with D x v l) to_f ∙ ap (λ x. with D F x l) to_v ∙ ap (λ x. with D F V x) to_l
+
+-- a patch is placed, and its shaders are had
+pub prim_is : (r : Read) (object : Map) (flat : Option Vec3) (seat : Seat) (patch : Patch) (s : State) (w : Shaders × Worn) (prims : List PrimValue) → w ≡ worn_by s.shaders s.attributes →
+    prims ≡ s.prims ++ prim_of r object flat seat patch s.attributes.look w.1.surface w.1.displacement w.1.atmosphere w.1.lights ∷ [] →
+    record s { shaders = w.0; prims = prims } ≡ with_prim r object flat seat patch s
+prim_is r object flat seat patch s w prims ew e =
+    let with : Shaders × Worn → State =
+    λ w. record s { shaders = w.0; prims = s.prims ++ prim_of r object flat seat patch s.attributes.look w.1.surface w.1.displacement w.1.atmosphere w.1.lights ∷ [] } in
+    ap (λ (ps : List PrimValue). record s { shaders = w.0; prims = ps }) e ∙ ap with ew
 
 -- a primitive more
-pub one_more : (r : Read) (object : Map) (flat : Option Vec3) (piece : Piece) (p : Patch) (s t : State) → t ≡ with_prim r object flat piece p s → length t.prims ≡ length s.prims + 1
-one_more r object flat piece p s t e = ap (λ (u : State). length u.prims) e ∙ length-append s.prims _
+pub one_more : (r : Read) (object : Map) (flat : Option Vec3) (seat : Seat) (p : Patch) (s t : State) → t ≡ with_prim r object flat seat p s → length t.prims ≡ length s.prims + 1
+one_more r object flat seat p s t e = ap (λ (u : State). length u.prims) e ∙ length-append s.prims _
 
 -- ---- the pieces of a face
 
-pub piece_next : (f : ℕ → Patch) (r : Read) (object : Map) (flat : Option Vec3) (pieces : ℕ → Piece) (i n : ℕ) (s t all : State) → i < n → t ≡ with_prim r object flat (pieces i) (f i) s →
-    with_patches r object flat pieces i (map f (range_with_len i (n - i))) s ≡ all → with_patches r object flat pieces (i + 1) (map f (range_with_len (i + 1) (n - (i + 1)))) t ≡ all
+pub piece_next : (f : ℕ → Patch) (r : Read) (object : Map) (flat : Option Vec3) (seats : ℕ → Seat) (i n : ℕ) (s t all : State) → i < n → t ≡ with_prim r object flat (seats i) (f i) s →
+    with_patches r object flat seats i (map f (range_with_len i (n - i))) s ≡ all → with_patches r object flat seats (i + 1) (map f (range_with_len (i + 1) (n - (i + 1)))) t ≡ all
 unfolding with_patches
-piece_next f r object flat pieces i n s t all h g inv =
+piece_next f r object flat seats i n s t all h g inv =
     let e : n - i ≡ suc (n - (i + 1)) = omega arith in
-    ap (with_patches r object flat pieces (i + 1) (map f (range_with_len (i + 1) (n - (i + 1))))) g
-    ∙ sym (ap (λ m. with_patches r object flat pieces i (map f (range_with_len i m)) s) e) ∙ inv
+    ap (with_patches r object flat seats (i + 1) (map f (range_with_len (i + 1) (n - (i + 1))))) g
+    ∙ sym (ap (λ m. with_patches r object flat seats i (map f (range_with_len i m)) s) e) ∙ inv
 
-pub piece_end : (f : ℕ → Patch) (r : Read) (object : Map) (flat : Option Vec3) (pieces : ℕ → Piece) (i n : ℕ) (s all : State) → n ≤ i →
-    with_patches r object flat pieces i (map f (range_with_len i (n - i))) s ≡ all → s ≡ all
+pub piece_end : (f : ℕ → Patch) (r : Read) (object : Map) (flat : Option Vec3) (seats : ℕ → Seat) (i n : ℕ) (s all : State) → n ≤ i →
+    with_patches r object flat seats i (map f (range_with_len i (n - i))) s ≡ all → s ≡ all
 unfolding with_patches
-piece_end f r object flat pieces i n s all h inv =
+piece_end f r object flat seats i n s all h inv =
     let e : n - i ≡ 0 = omega arith in
-    sym (ap (λ m. with_patches r object flat pieces i (map f (range_with_len i m)) s) e) ∙ inv
+    sym (ap (λ m. with_patches r object flat seats i (map f (range_with_len i m)) s) e) ∙ inv
 
 -- ---- faces
 
-pub patches_length : (r : Read) (object : Map) (flat : Option Vec3) (pieces : ℕ → Piece) (k : ℕ) (ps : List Patch) (s : State) → length (with_patches r object flat pieces k ps s).prims ≡ length s.prims + length ps
+pub patches_length : (r : Read) (object : Map) (flat : Option Vec3) (seats : ℕ → Seat) (k : ℕ) (ps : List Patch) (s : State) → length (with_patches r object flat seats k ps s).prims ≡ length s.prims + length ps
 unfolding with_patches
-patches_length r object flat pieces k [] s = omega arith
-patches_length r object flat pieces k (p ∷ ps) s =
-    let t = with_prim r object flat (pieces k) p s in
-    let e = patches_length r object flat pieces (k + 1) ps t in
-    let g = one_more r object flat (pieces k) p s t refl in
+patches_length r object flat seats k [] s = omega arith
+patches_length r object flat seats k (p ∷ ps) s =
+    let t = with_prim r object flat (seats k) p s in
+    let e = patches_length r object flat seats (k + 1) ps t in
+    let g = one_more r object flat (seats k) p s t refl in
     omega (arith, e, g)
 
-pub face_length : (r : Read) (object : Map) (pieces : ℕ → Piece) (ps : List Vec3) (corners : List ℕ) (s t : State) → t ≡ with_face r object pieces (face_points ps corners) s → length t.prims ≡ length s.prims + piece_count (length corners)
-face_length r object pieces ps corners s t e =
+pub face_length : (r : Read) (object : Map) (seats : ℕ → Seat) (ps : List Vec3) (corners : List ℕ) (s t : State) → t ≡ with_face r object seats (face_points ps corners) s → length t.prims ≡ length s.prims + piece_count (length corners)
+face_length r object seats ps corners s t e =
     let face = face_points ps corners in
     let long : length face ≡ length corners = length-map corners (point ps) in
     ap (λ (u : State). length u.prims) e
-    ∙ patches_length r object (Some (flat_normal face)) pieces 0 (pieces_of face) s
+    ∙ patches_length r object (Some (flat_normal face)) seats 0 (pieces_of face) s
     ∙ ap (λ n. length s.prims + n) (length-map-range_with_len (piece_of face) 0 (piece_count (length face)) ∙ ap piece_count long)
 
 drop_at : (xs : List ℕ) (k d : ℕ) → k < length xs → drop k xs ≡ slice_index_or xs k d ∷ drop (k + 1) xs
@@ -157,7 +168,7 @@ face_less sizes k d room left h l =
     one_less (slice_index_or sizes k d) (drop (k + 1) sizes) room left (subst (λ ns. Left ns room left) (drop_at sizes k d h) l)
 
 pub face_next : (r : Read) (object : Map) (ps : List Vec3) (first : ℕ) (sizes corners : List ℕ) (k d : ℕ) (s t all : State) → k < length sizes →
-    t ≡ with_face r object (face_piece k first (take (slice_index_or sizes k d) corners)) (face_points ps (take (slice_index_or sizes k d) corners)) s →
+    t ≡ with_face r object (face_seat k first (take (slice_index_or sizes k d) corners)) (face_points ps (take (slice_index_or sizes k d) corners)) s →
     with_faces r object ps k first (drop k sizes) corners s ≡ all →
     with_faces r object ps (k + 1) (first + slice_index_or sizes k d) (drop (k + 1) sizes) (drop (slice_index_or sizes k d) corners) t ≡ all
 unfolding with_faces
@@ -205,14 +216,14 @@ face_near ps (k ∷ ks) h = and_true (is_in_range (point ps k)) (are_in_range (f
 
 -- a mesh with room, whose points are in range
 pub mesh_is : (r : Read) (shape : Shape) (object : Map) (ps : List Vec3) (c : Counts) (s : State) → counts_of shape (length ps) ≡ Some c → are_counted (mesh_extent shape c) (variables_in r.params) ≡ true → is_past (c.along_u * c.along_v) s ≡ false → are_in_range ps ≡ true →
-    mesh_laid r shape object ps s ≡ mesh_from r object (mesh_piece shape c) 0 (all_from (patch_at ps shape c.along_u) 0 (c.along_u * c.along_v)) s
+    mesh_laid r shape object ps s ≡ mesh_from r object (mesh_seat shape c) 0 (all_from (patch_at ps shape c.along_u) 0 (c.along_u * c.along_v)) s
 mesh_is r shape object ps c s e n f g =
     let all = all_from (patch_at ps shape c.along_u) 0 (c.along_u * c.along_v) in
-    let pieces = mesh_piece shape c in
+    let seats = mesh_seat shape c in
     ap (λ o. mesh_counted r object shape ps o s) e
-    ∙ ap (λ b. if not b then Err G5 else (if is_past (c.along_u * c.along_v) s then Err M3 else mesh_from r object pieces 0 (patches_in ps shape c) s)) n
-    ∙ ap (λ b. if b then Err M3 else mesh_from r object pieces 0 (patches_in ps shape c) s) f
-    ∙ ap (λ b. mesh_from r object pieces 0 (if b then all else None) s) g
+    ∙ ap (λ b. if not b then Err G5 else (if is_past (c.along_u * c.along_v) s then Err M3 else mesh_from r object seats 0 (patches_in ps shape c) s)) n
+    ∙ ap (λ b. if b then Err M3 else mesh_from r object seats 0 (patches_in ps shape c) s) f
+    ∙ ap (λ b. mesh_from r object seats 0 (if b then all else None) s) g
 
 -- faces with room, whose points are in range
 pub faces_are : (r : Read) (object : Map) (ps : List Vec3) (f : FaceValues) (s : State) → are_counted (faces_extent (length ps) f) (variables_in r.params) ≡ true → is_past (sum_by piece_count f.sizes) s ≡ false → are_in_range ps ≡ true →

@@ -19,7 +19,7 @@ use Rattle.scene_state.specs.FirstUse.{place_in, places_in, places_of, all_place
 use Rattle.scene_state.specs.Choices.{ChoiceValues, chosen, view_of}
 use Rattle.scene_state.specs.Shaders.{with_request, placed_in, placed, some_placed, all_placed}
 use Rattle.scene_state.specs.State.{most_blocks, most_frames, most_lights, with_frame, name_or, moved, scaled, turned, of_rows, prim_of, Stepped, Located, first_state, opened, innermost, closed, outer, frame_ended, attributes_ended, transform_ended, world_with, frame_made, frame_of, world_ended, with_choices, option_set, display_set, with_current, with_before, space_of, use_of, next_shader, with_shader, light_added, light_made, illuminated_by, light_named, with_prim, with_patches, is_past, mesh_from, mesh_counted, mesh_laid, face_points, with_face, with_faces, faces_laid, in_space, located, laid}
-use Rattle.scene_state.specs.Variables.{variables_in, are_counted, mesh_extent, mesh_piece, faces_extent, face_piece}
+use Rattle.scene_state.specs.Variables.{variables_in, are_counted, mesh_extent, mesh_seat, faces_extent, face_seat}
 use Rattle.scene_state.specs.Bases.{patch_shape, mesh_shape}
 use Rattle.scene_state.specs.Faces.{FaceValues, one_face, faces_in}
 use Rattle.mesh_basis.specs.declared.shape.Shape.{Shape}
@@ -41,7 +41,7 @@ use Rattle.scene_state.specs.declared.shaders.Shaders.{Shaders}
 use Rattle.scene_state.specs.declared.state.Block.{Block}
 use Rattle.scene_state.specs.declared.state.Block.TheVariants.{InFrame, InWorld, InAttributes, InTransform}
 use Rattle.scene_state.specs.declared.state.World.{World}
-use Rattle.scene_state.specs.declared.piece.Piece.{Piece}
+use Rattle.scene_state.specs.declared.seat.Seat.{Seat}
 use Rattle.scene_state.specs.declared.state.State.{State}
 use Rattle.scene_state.proofs.FirstUse.{Reaches, reaches_again, reaches_next}
 use Rattle.scene_state.proofs.Keeping.{IsShader, IsSomeShader, SlotIs, IsGood, GoodStep, good_step, good_prim, good_face, first_good, some_keeps, keeps_both, placed_keeps, some_placed_keeps, all_then}
@@ -253,8 +253,8 @@ grouped : (w d : List ℕ) (f : ℕ) (v l : List ℕ) → (((w ++ d) ++ f ∷ []
 grouped w d f v l =
     append_assoc ((w ++ d) ++ f ∷ []) v l ∙ append_assoc (w ++ d) (f ∷ []) (v ++ l) ∙ append_assoc w d (f ∷ (v ++ l))
 
-ordered_prim : (r : Read) (object : Map) (flat : Option Vec3) (piece : Piece) (patch : Patch) (s : State) → is_some s.world ≡ true → IsGood s → IsOrdered s → IsOrdered (with_prim r object flat piece patch s)
-ordered_prim r object flat piece patch s opens g o =
+ordered_prim : (r : Read) (object : Map) (flat : Option Vec3) (seat : Seat) (patch : Patch) (s : State) → is_some s.world ≡ true → IsGood s → IsOrdered s → IsOrdered (with_prim r object flat seat patch s)
+ordered_prim r object flat seat patch s opens g o =
     let a = s.attributes in
     let w = g.attributes in
     let d = some_placed s.shaders a.displacement in
@@ -271,7 +271,7 @@ ordered_prim r object flat piece patch s opens g o =
     let had_f = placed_reaches d.0 kinds.Surface a.surface ds (to_d.shaders kinds.Surface a.surface w.surface) had_d in
     let had_v = some_reaches f.0 kinds.Volume a.atmosphere fs (some_keeps s.shaders f.0 kinds.Volume a.atmosphere to_f w.atmosphere) had_f in
     let had_l = all_reaches v.0 kinds.Light a.lights vs (all_then (IsShader s.shaders kinds.Light) (IsShader v.0 kinds.Light) a.lights (to_v.shaders kinds.Light) w.lights) had_v in
-    let p : PrimValue = prim_of r object flat piece patch a.look f.1 d.1 v.1 l.1 in
+    let p : PrimValue = prim_of r object flat seat patch a.look f.1 d.1 v.1 l.1 in
     let walk : vs ++ l.1 ≡ all_places s.frames ++ places_of (s.prims ++ p ∷ []) =
     grouped (walked s) (place_in d.1) f.1 (place_in v.1) l.1
     ∙ append_assoc (all_places s.frames) (places_of s.prims) (places_in p)
@@ -282,42 +282,42 @@ ordered_prim r object flat piece patch s opens g o =
     both_ways true t f = cc
     both_ways false t f = cc
 
-ordered_patches : (r : Read) (object : Map) (flat : Option Vec3) (pieces : ℕ → Piece) (k : ℕ) (ps : List Patch) (s : State) → is_some s.world ≡ true → IsGood s → IsOrdered s
-    → IsOrdered (with_patches r object flat pieces k ps s)
+ordered_patches : (r : Read) (object : Map) (flat : Option Vec3) (seats : ℕ → Seat) (k : ℕ) (ps : List Patch) (s : State) → is_some s.world ≡ true → IsGood s → IsOrdered s
+    → IsOrdered (with_patches r object flat seats k ps s)
 unfolding with_patches
-ordered_patches r object flat pieces k [] s opens g o = o
-ordered_patches r object flat pieces k (p ∷ ps) s opens g o =
-    ordered_patches r object flat pieces (k + 1) ps (with_prim r object flat (pieces k) p s) opens
-    (good_prim r object flat (pieces k) p s g) (ordered_prim r object flat (pieces k) p s opens g o)
+ordered_patches r object flat seats k [] s opens g o = o
+ordered_patches r object flat seats k (p ∷ ps) s opens g o =
+    ordered_patches r object flat seats (k + 1) ps (with_prim r object flat (seats k) p s) opens
+    (good_prim r object flat (seats k) p s g) (ordered_prim r object flat (seats k) p s opens g o)
 
-ordered_in_range : (r : Read) (object : Map) (pieces : ℕ → Piece) (p : Option (List Patch)) (s : State) → is_some s.world ≡ true → IsGood s → IsOrdered s → OrderedStep (mesh_from r object pieces 0 p s)
-ordered_in_range r object pieces None s opens g o = tt
-ordered_in_range r object pieces (Some ps) s opens g o = ordered_patches r object None pieces 0 ps s opens g o
+ordered_in_range : (r : Read) (object : Map) (seats : ℕ → Seat) (p : Option (List Patch)) (s : State) → is_some s.world ≡ true → IsGood s → IsOrdered s → OrderedStep (mesh_from r object seats 0 p s)
+ordered_in_range r object seats None s opens g o = tt
+ordered_in_range r object seats (Some ps) s opens g o = ordered_patches r object None seats 0 ps s opens g o
 
 ordered_counted : (r : Read) (object : Map) (shape : Shape) (ps : List Vec3) (c : Option Counts) (s : State) → is_some s.world ≡ true → IsGood s → IsOrdered s → OrderedStep (mesh_counted r object shape ps c s)
 ordered_counted r object shape ps None s opens g o = tt
 ordered_counted r object shape ps (Some c) s opens g o =
-    let laid = mesh_from r object (mesh_piece shape c) 0 (patches_in ps shape c) s in
+    let laid = mesh_from r object (mesh_seat shape c) 0 (patches_in ps shape c) s in
     either (not (are_counted (mesh_extent shape c) (variables_in r.params))) (Err G5) (if is_past (c.along_u * c.along_v) s then Err M3 else laid) tt
-    (either (is_past (c.along_u * c.along_v) s) (Err M3) laid tt (ordered_in_range r object (mesh_piece shape c) (patches_in ps shape c) s opens g o))
+    (either (is_past (c.along_u * c.along_v) s) (Err M3) laid tt (ordered_in_range r object (mesh_seat shape c) (patches_in ps shape c) s opens g o))
 
 ordered_mesh : (r : Read) (shape : Shape) (object : Map) (ps : List Vec3) (s : State) → is_some s.world ≡ true → IsGood s → IsOrdered s → OrderedStep (mesh_laid r shape object ps s)
 ordered_mesh r shape object ps s opens g o = ordered_counted r object shape ps (counts_of shape (length ps)) s opens g o
 
-still_open : (r : Read) (object : Map) (flat : Option Vec3) (pieces : ℕ → Piece) (k : ℕ) (ps : List Patch) (s : State) → (with_patches r object flat pieces k ps s).world ≡ s.world
+still_open : (r : Read) (object : Map) (flat : Option Vec3) (seats : ℕ → Seat) (k : ℕ) (ps : List Patch) (s : State) → (with_patches r object flat seats k ps s).world ≡ s.world
 unfolding with_patches
-still_open r object flat pieces k [] s = refl
-still_open r object flat pieces k (p ∷ ps) s = still_open r object flat pieces (k + 1) ps (with_prim r object flat (pieces k) p s)
+still_open r object flat seats k [] s = refl
+still_open r object flat seats k (p ∷ ps) s = still_open r object flat seats (k + 1) ps (with_prim r object flat (seats k) p s)
 
 ordered_all_faces : (r : Read) (object : Map) (ps : List Vec3) (j first : ℕ) (ns corners : List ℕ) (s : State) → is_some s.world ≡ true → IsGood s → IsOrdered s → IsOrdered (with_faces r object ps j first ns corners s)
 unfolding with_faces
 ordered_all_faces r object ps j first [] corners s opens g o = o
 ordered_all_faces r object ps j first (n ∷ ns) corners s opens g o =
-    let pieces = face_piece j first (take n corners) in
+    let seats = face_seat j first (take n corners) in
     let face = face_points ps (take n corners) in
-    ordered_all_faces r object ps (j + 1) (first + n) ns (drop n corners) (with_face r object pieces face s)
-    (ap is_some (still_open r object (Some (flat_normal face)) pieces 0 (pieces_of face) s) ∙ opens)
-    (good_face r object pieces face s g) (ordered_patches r object (Some (flat_normal face)) pieces 0 (pieces_of face) s opens g o)
+    ordered_all_faces r object ps (j + 1) (first + n) ns (drop n corners) (with_face r object seats face s)
+    (ap is_some (still_open r object (Some (flat_normal face)) seats 0 (pieces_of face) s) ∙ opens)
+    (good_face r object seats face s g) (ordered_patches r object (Some (flat_normal face)) seats 0 (pieces_of face) s opens g o)
 
 ordered_faces : (r : Read) (object : Map) (ps : List Vec3) (f : Option FaceValues) (s : State) → is_some s.world ≡ true → IsGood s → IsOrdered s → OrderedStep (faces_laid r object ps f s)
 ordered_faces r object ps None s opens g o = tt

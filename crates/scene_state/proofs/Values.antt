@@ -23,9 +23,9 @@ use Rattle.mesh_basis.specs.Counts.{linear_count, cubic_count, count_along, both
 use Rattle.mesh_basis.specs.Polygons.{piece_count}
 use Rattle.scene_state.specs.Faces.{are_places}
 use Rattle.scene_state.specs.Scene.{IsVariable, corners}
-use Rattle.scene_state.specs.declared.piece.Extent.{Extent}
-use Rattle.scene_state.specs.declared.piece.Piece.{Piece}
-use Rattle.scene_state.specs.Variables.{variables_in, values_in, is_counted, are_counted, places_of, varies, items_at, taken, variable_of, IsIn, IsOfKind, IsThere, IsBelow, IsPiece, corners_along, HasSides, mesh_extent, corner_in, mesh_piece, face_piece}
+use Rattle.scene_state.specs.declared.seat.Extent.{Extent}
+use Rattle.scene_state.specs.declared.seat.Seat.{Seat}
+use Rattle.scene_state.specs.Variables.{variables_in, values_in, is_counted, are_counted, places_of, varies, items_at, taken, variable_of, IsIn, IsOfKind, IsThere, IsBelow, IsSeat, corners_along, HasSides, mesh_extent, corner_in, mesh_seat, face_seat}
 use Rattle.scene_state.proofs.Keeping.{all_none, all_one, all_first, all_then, all_either}
 
 both_true : (a b : Bool) → (a && b) ≡ true → (a ≡ true) × (b ≡ true)
@@ -88,24 +88,24 @@ fits_in kinds.Pair n v c h e = omega (arith, h, e)
 same_number : (a b : ℕ) → (a == b) ≡ true → a ≡ b
 same_number a b e = grind (arith, nat_tests)
 
-there_by : (e : Extent) (piece : Piece) (p : Param) (class : Class) → IsPiece e piece → count p.values ≡ width p.kind * values_in class e → All (IsIn p) (places_of class piece)
-there_by e piece p Constant inside counted = all_one (IsIn p) 0 (fits_in p.kind 0 1 (count p.values) (omega arith) counted)
-there_by e piece p Uniform inside counted = all_one (IsIn p) piece.face (fits_in p.kind piece.face e.faces (count p.values) inside.face counted)
-there_by e piece p Varying inside counted = all_then (IsBelow e.points) (IsIn p) piece.points (λ n h. fits_in p.kind n e.points (count p.values) h counted) inside.points
-there_by e piece p Vertex inside counted = all_then (IsBelow e.points) (IsIn p) piece.points (λ n h. fits_in p.kind n e.points (count p.values) h counted) inside.points
-there_by e piece p FaceVarying inside counted = all_then (IsBelow e.corners) (IsIn p) piece.corners (λ n h. fits_in p.kind n e.corners (count p.values) h counted) inside.corners
+there_by : (e : Extent) (seat : Seat) (p : Param) (class : Class) → IsSeat e seat → count p.values ≡ width p.kind * values_in class e → All (IsIn p) (places_of class seat)
+there_by e seat p Constant inside counted = all_one (IsIn p) 0 (fits_in p.kind 0 1 (count p.values) (omega arith) counted)
+there_by e seat p Uniform inside counted = all_one (IsIn p) seat.face (fits_in p.kind seat.face e.faces (count p.values) inside.face counted)
+there_by e seat p Varying inside counted = all_then (IsBelow e.points) (IsIn p) seat.points (λ n h. fits_in p.kind n e.points (count p.values) h counted) inside.points
+there_by e seat p Vertex inside counted = all_then (IsBelow e.points) (IsIn p) seat.points (λ n h. fits_in p.kind n e.points (count p.values) h counted) inside.points
+there_by e seat p FaceVarying inside counted = all_then (IsBelow e.corners) (IsIn p) seat.corners (λ n h. fits_in p.kind n e.corners (count p.values) h counted) inside.corners
 
-there_of : (e : Extent) (piece : Piece) (p : Param) → IsPiece e piece → IsOfKind p → is_counted e p ≡ true → IsThere piece p
-there_of e piece p inside kind counted =
-    record { kind = kind; within = there_by e piece p p.class inside (same_number (count p.values) (width p.kind * values_in p.class e) counted) }
+there_of : (e : Extent) (seat : Seat) (p : Param) → IsSeat e seat → IsOfKind p → is_counted e p ≡ true → IsThere seat p
+there_of e seat p inside kind counted =
+    record { kind = kind; within = there_by e seat p p.class inside (same_number (count p.values) (width p.kind * values_in p.class e) counted) }
 
 -- variables that are counted have values wherever a patch of their primitive stands
-pub all_there : (e : Extent) (piece : Piece) (ps : List Param) → IsPiece e piece → All IsOfKind ps → are_counted e ps ≡ true → All (IsThere piece) ps
-all_there e piece [] inside kinds counted = all_none (IsThere piece)
-all_there e piece (p ∷ ps) inside kinds counted =
+pub all_there : (e : Extent) (seat : Seat) (ps : List Param) → IsSeat e seat → All IsOfKind ps → are_counted e ps ≡ true → All (IsThere seat) ps
+all_there e seat [] inside kinds counted = all_none (IsThere seat)
+all_there e seat (p ∷ ps) inside kinds counted =
     let parts = all_rest IsOfKind p ps kinds in
     let counts = both_true (is_counted e p) (are_counted e ps) counted in
-    all_first (IsThere piece) p ps (there_of e piece p inside parts.0 counts.0) (all_there e piece ps inside parts.1 counts.1)
+    all_first (IsThere seat) p ps (there_of e seat p inside parts.0 counts.0) (all_there e seat ps inside parts.1 counts.1)
 
 -- ---- patches of meshes
 
@@ -133,7 +133,7 @@ some_factors (suc m) zero k h = absurd (none (suc m) k h)
 some_factors (suc m) (suc n) k h = (omega arith, omega arith)
 
 -- a patch of a mesh stands in it
-pub mesh_inside : (s : Shape) (c : Counts) (k : ℕ) → k < c.along_u * c.along_v → IsPiece (mesh_extent s c) (mesh_piece s c k)
+pub mesh_inside : (s : Shape) (c : Counts) (k : ℕ) → k < c.along_u * c.along_v → IsSeat (mesh_extent s c) (mesh_seat s c k)
 mesh_inside s c k h =
     let some = some_factors c.along_u c.along_v k h in
     let u = corners_along s.periodic_u c.along_u in
@@ -219,7 +219,7 @@ across_below n i false e h = omega (arith, h)
 
 -- a piece of a face stands among the primitive's faces
 pub face_inside : (e : Extent) (face first : ℕ) (points : List ℕ) (i : ℕ) → i < piece_count (length points) → face < e.faces → first + length points ≤ e.corners
-    → are_places e.points points ≡ true → IsPiece e (face_piece face first points i)
+    → are_places e.points points ≡ true → IsSeat e (face_seat face first points i)
 face_inside e face first points i h is_face few places =
     let n = length points in
     let t = nat_lt (2 * i + 3) n in
@@ -289,16 +289,16 @@ count_taken k (Numbers xs) ns all = items_length (width k) xs ns all
 count_taken k (Strings ts) ns all = items_length (width k) ts ns all
 
 -- one place, or four
-places_length : (class : Class) (piece : Piece) → length piece.points ≡ 4 → length piece.corners ≡ 4 → length (places_of class piece) ≡ corners (varies class)
-places_length Constant piece p c = refl
-places_length Uniform piece p c = refl
-places_length Varying piece p c = p
-places_length Vertex piece p c = p
-places_length FaceVarying piece p c = c
+places_length : (class : Class) (seat : Seat) → length seat.points ≡ 4 → length seat.corners ≡ 4 → length (places_of class seat) ≡ corners (varies class)
+places_length Constant seat p c = refl
+places_length Uniform seat p c = refl
+places_length Varying seat p c = p
+places_length Vertex seat p c = p
+places_length FaceVarying seat p c = c
 
 -- it has values of its kind, as many as one value or four have
-pub is_variable : (piece : Piece) (p : Param) → length piece.points ≡ 4 → length piece.corners ≡ 4 → IsThere piece p → IsVariable (variable_of piece p)
-is_variable piece p points corner there = record {
-  kind = kind_taken p.kind p.values (places_of p.class piece) there.kind;
-  counted = count_taken p.kind p.values (places_of p.class piece) there.within ∙ ap (λ n. width p.kind * n) (places_length p.class piece points corner);
+pub is_variable : (seat : Seat) (p : Param) → length seat.points ≡ 4 → length seat.corners ≡ 4 → IsThere seat p → IsVariable (variable_of seat p)
+is_variable seat p points corner there = record {
+  kind = kind_taken p.kind p.values (places_of p.class seat) there.kind;
+  counted = count_taken p.kind p.values (places_of p.class seat) there.within ∙ ap (λ n. width p.kind * n) (places_length p.class seat points corner);
 }

@@ -1,5 +1,5 @@
 -- What is answered of a request and of a list of requests.
-use Rattle.std.specs.Prelude.{◌≡◌, Result, Ok, Err, List, map}
+use Rattle.std.specs.Prelude.{◌≡◌, ℕ, Result, Ok, Err, List, map}
 use Rattle.rib_reader.specs.declared.request.Request.{Request}
 use Rattle.rib_reader.specs.Reading.{plain}
 use Rattle.fixed_math.specs.declared.vec3.Vec3.{Vec3}
@@ -19,6 +19,11 @@ abbrev pub Steps : {A : Type 0} → Result A Stop → Stepped → State → Type
 Steps (Ok done) stepped new = stepped ≡ Ok new
 Steps (Err (Fault code)) stepped new = stepped ≡ Err code
 Steps (Err NoMemory) stepped new = Unit {0}
+
+-- why there is no scene, where a request in that line isn't done
+abbrev pub stopped_at : ℕ → Stop → StateFault
+stopped_at line (Fault code) = faults.At code line
+stopped_at line NoMemory = faults.NoMemory
 
 -- the state behind these requests, or its first fault with its line
 abbrev pub GivesState : Result State StateFault → Result State Placed → Type 0

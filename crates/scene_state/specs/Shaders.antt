@@ -12,6 +12,7 @@ use Rattle.scene_state.specs.declared.attributes.Attributes.{Attributes}
 use Rattle.scene_state.specs.declared.shaders.Slot.{Slot}
 use Rattle.scene_state.specs.declared.shaders.Slot.TheVariants.{Waiting, Used}
 use Rattle.scene_state.specs.declared.shaders.Shaders.{Shaders}
+use Rattle.scene_state.specs.declared.shaders.Worn.{Worn}
 use Rattle.scene_state.specs.declared.shaders.Handle.{Handle}
 
 -- the surface that holds at the start
@@ -53,6 +54,15 @@ all_placed s (k ∷ ks) =
     let p = placed s k in
     let others = all_placed p.0 ks in
     (others.0, p.1 ∷ others.1)
+
+-- those of a primitive with these attributes, had in the order displacement, surface, atmosphere, lights
+abbrev pub worn_by : Shaders → Attributes → Shaders × Worn
+worn_by s a =
+    let d = some_placed s a.displacement in
+    let f = placed d.0 a.surface in
+    let v = some_placed f.0 a.atmosphere in
+    let l = all_placed v.0 a.lights in
+    (l.0, record { surface = f.1; displacement = d.1; atmosphere = v.1; lights = l.1 })
 
 -- ---- lights
 

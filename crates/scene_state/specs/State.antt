@@ -26,7 +26,7 @@ use Rattle.scene_state.specs.Scene.{PrimValue, FrameValue, most_prims}
 use Rattle.scene_state.specs.Choices.{ChoiceValues, first_choices, chosen, view_of}
 use Rattle.scene_state.specs.Bases.{patch_shape, mesh_shape}
 use Rattle.scene_state.specs.Faces.{FaceValues, one_face, faces_in}
-use Rattle.scene_state.specs.Variables.{variables_in, are_counted, variables_of, mesh_extent, mesh_piece, faces_extent, face_piece}
+use Rattle.scene_state.specs.Variables.{variables_in, are_counted, variables_of, mesh_extent, mesh_seat, faces_extent, face_seat}
 use Rattle.scene_state.specs.Looks.{LookValues, is_single}
 use Rattle.scene_state.specs.Shaders.{first_attributes, first_shaders, with_request, placed, some_placed, all_placed, light_of, with_light, without_light}
 use Rattle.scene_state.specs.declared.fault.StateCode.{StateCode}
@@ -39,7 +39,7 @@ use Rattle.scene_state.specs.declared.attributes.Attributes.{Attributes}
 use Rattle.scene_state.specs.declared.state.Block.{Block}
 use Rattle.scene_state.specs.declared.state.Block.TheVariants.{InFrame, InWorld, InAttributes, InTransform}
 use Rattle.scene_state.specs.declared.state.World.{World}
-use Rattle.scene_state.specs.declared.piece.Piece.{Piece}
+use Rattle.scene_state.specs.declared.seat.Seat.{Seat}
 use Rattle.scene_state.specs.declared.state.State.{State}
 
 abbrev pub first_state : State
@@ -261,8 +261,8 @@ points_from m (x ∷ y ∷ z ∷ xs) = with_next (Some (camera_point m (record {
 points_from m _ = None
 
 -- a primitive of these attributes, whose shaders have these places among the uses
-abbrev pub prim_of : Read → Map → Option Vec3 → Piece → Patch → LookValues → ℕ → Option ℕ → Option ℕ → List ℕ → PrimValue
-prim_of r object flat piece patch l surface displacement atmosphere lights = record {
+abbrev pub prim_of : Read → Map → Option Vec3 → Seat → Patch → LookValues → ℕ → Option ℕ → Option ℕ → List ℕ → PrimValue
+prim_of r object flat seat patch l surface displacement atmosphere lights = record {
   patch = patch;
   flat = flat;
   cs = l.cs;
@@ -275,26 +275,26 @@ prim_of r object flat piece patch l surface displacement atmosphere lights = rec
   rate = l.rate;
   one_sided = l.one_sided;
   flip = differ l.flip object.mirrored;
-  vars = variables_of piece (variables_in r.params);
+  vars = variables_of seat (variables_in r.params);
   object = object;
-  place = piece.place;
+  place = seat.place;
   line = r.line;
 }
 
 -- a patch is placed: its shaders are had in the order displacement, surface, atmosphere, lights
-abbrev pub with_prim : Read → Map → Option Vec3 → Piece → Patch → State → State
-with_prim r object flat piece patch s =
+abbrev pub with_prim : Read → Map → Option Vec3 → Seat → Patch → State → State
+with_prim r object flat seat patch s =
     let a = s.attributes in
     let d = some_placed s.shaders a.displacement in
     let f = placed d.0 a.surface in
     let v = some_placed f.0 a.atmosphere in
     let l = all_placed v.0 a.lights in
-    record s { shaders = l.0; prims = s.prims ++ prim_of r object flat piece patch a.look f.1 d.1 v.1 l.1 ∷ [] }
+    record s { shaders = l.0; prims = s.prims ++ prim_of r object flat seat patch a.look f.1 d.1 v.1 l.1 ∷ [] }
 
 -- patches one after another, the first of these being patch k of those that stand so in their primitive
-unfoldable pub with_patches : Read → Map → Option Vec3 → (ℕ → Piece) → ℕ → List Patch → State → State
-with_patches r object flat pieces k [] s = s
-with_patches r object flat pieces k (p ∷ ps) s = with_patches r object flat pieces (k + 1) ps (with_prim r object flat (pieces k) p s)
+unfoldable pub with_patches : Read → Map → Option Vec3 → (ℕ → Seat) → ℕ → List Patch → State → State
+with_patches r object flat seats k [] s = s
+with_patches r object flat seats k (p ∷ ps) s = with_patches r object flat seats (k + 1) ps (with_prim r object flat (seats k) p s)
 
 -- a frame has no room for so many primitives more
 abbrev pub is_past : ℕ → State → Bool
@@ -303,9 +303,9 @@ is_past count s = nat_lt most_prims (length s.prims + count)
 -- ---- patches and meshes
 
 -- those from patch k on, where each is in range
-abbrev pub mesh_from : Read → Map → (ℕ → Piece) → ℕ → Option (List Patch) → State → Stepped
-mesh_from r object pieces k None s = Err M7
-mesh_from r object pieces k (Some ps) s = Ok (with_patches r object None pieces k ps s)
+abbrev pub mesh_from : Read → Map → (ℕ → Seat) → ℕ → Option (List Patch) → State → Stepped
+mesh_from r object seats k None s = Err M7
+mesh_from r object seats k (Some ps) s = Ok (with_patches r object None seats k ps s)
 
 -- as many points as the shape has, as many values of each variable as its class has, room in the frame, and then each point in
 -- range
@@ -314,7 +314,7 @@ mesh_counted r object shape ps None s = Err G5
 mesh_counted r object shape ps (Some c) s =
     if not (are_counted (mesh_extent shape c) (variables_in r.params)) then Err G5
     else if is_past (c.along_u * c.along_v) s then Err M3
-    else mesh_from r object (mesh_piece shape c) 0 (patches_in ps shape c) s
+    else mesh_from r object (mesh_seat shape c) 0 (patches_in ps shape c) s
 
 abbrev pub mesh_laid : Read → Shape → Map → List Vec3 → State → Stepped
 mesh_laid r shape object ps s = mesh_counted r object shape ps (counts_of shape (length ps)) s
@@ -326,15 +326,15 @@ abbrev pub face_points : List Vec3 → List ℕ → List Vec3
 face_points ps corners = map (point ps) corners
 
 -- a face is taken apart; each of its pieces has the normal of the face
-abbrev pub with_face : Read → Map → (ℕ → Piece) → List Vec3 → State → State
-with_face r object pieces ps s = with_patches r object (Some (flat_normal ps)) pieces 0 (pieces_of ps) s
+abbrev pub with_face : Read → Map → (ℕ → Seat) → List Vec3 → State → State
+with_face r object seats ps s = with_patches r object (Some (flat_normal ps)) seats 0 (pieces_of ps) s
 
 -- faces one after another, the first of these being that face of its primitive, and its first corner that one of all corners
 unfoldable pub with_faces : Read → Map → List Vec3 → ℕ → ℕ → List ℕ → List ℕ → State → State
 with_faces r object ps face first [] corners s = s
 with_faces r object ps face first (n ∷ ns) corners s =
     with_faces r object ps (face + 1) (first + n) ns (drop n corners)
-    (with_face r object (face_piece face first (take n corners)) (face_points ps (take n corners)) s)
+    (with_face r object (face_seat face first (take n corners)) (face_points ps (take n corners)) s)
 
 -- faces, as many values of each variable as its class has, room in the frame, and then each point in range, those that no face has
 -- too

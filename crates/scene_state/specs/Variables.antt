@@ -17,8 +17,8 @@ use Rattle.mesh_basis.specs.declared.counts.Counts.{Counts}
 use Rattle.mesh_basis.specs.Polygons.{piece_corners}
 use Rattle.scene_state.specs.Faces.{FaceValues}
 use Rattle.scene_state.specs.Scene.{VariableValue}
-use Rattle.scene_state.specs.declared.piece.Extent.{Extent}
-use Rattle.scene_state.specs.declared.piece.Piece.{Piece}
+use Rattle.scene_state.specs.declared.seat.Extent.{Extent}
+use Rattle.scene_state.specs.declared.seat.Seat.{Seat}
 
 -- the variables that a primitive has: those of its list that hold, without its points P
 abbrev pub variables_in : List Param → List Param
@@ -42,12 +42,12 @@ are_counted e ps = list_all (is_counted e) ps
 -- ---- the values that a patch has
 
 -- where they stand among those of the primitive: one value, or one at each corner of the patch
-abbrev pub places_of : Class → Piece → List ℕ
-places_of Constant piece = 0 ∷ []
-places_of Uniform piece = piece.face ∷ []
-places_of Varying piece = piece.points
-places_of Vertex piece = piece.points
-places_of FaceVarying piece = piece.corners
+abbrev pub places_of : Class → Seat → List ℕ
+places_of Constant seat = 0 ∷ []
+places_of Uniform seat = seat.face ∷ []
+places_of Varying seat = seat.points
+places_of Vertex seat = seat.points
+places_of FaceVarying seat = seat.corners
 
 abbrev pub varies : Class → Bool
 varies Constant = false
@@ -63,11 +63,11 @@ abbrev pub taken : Kind → Values → List ℕ → Values
 taken k (Numbers xs) ns = Numbers (items_at (width k) xs ns)
 taken k (Strings ts) ns = Strings (items_at (width k) ts ns)
 
-abbrev pub variable_of : Piece → Param → VariableValue
-variable_of piece p = record { name = p.name; kind = p.kind; varying = varies p.class; values = taken p.kind p.values (places_of p.class piece) }
+abbrev pub variable_of : Seat → Param → VariableValue
+variable_of seat p = record { name = p.name; kind = p.kind; varying = varies p.class; values = taken p.kind p.values (places_of p.class seat) }
 
-abbrev pub variables_of : Piece → List Param → List VariableValue
-variables_of piece ps = map (variable_of piece) ps
+abbrev pub variables_of : Seat → List Param → List VariableValue
+variables_of seat ps = map (variable_of seat) ps
 
 -- a value at that place is there
 abbrev pub IsIn : Param → ℕ → Type 0
@@ -77,18 +77,18 @@ abbrev pub IsOfKind : Param → Type 0
 IsOfKind p = is_of_kind p.kind p.values ≡ true
 
 -- the variable has values of its kind, and one at each place of the patch
-pub record IsThere (piece : Piece) (p : Param) : Type 0 where
+pub record IsThere (seat : Seat) (p : Param) : Type 0 where
   pub kind : IsOfKind p
-  pub within : All (IsIn p) (places_of p.class piece)
+  pub within : All (IsIn p) (places_of p.class seat)
 
 abbrev pub IsBelow : ℕ → ℕ → Type 0
 IsBelow most n = n < most
 
 -- the patch stands in a primitive of that extent
-pub record IsPiece (e : Extent) (piece : Piece) : Type 0 where
-  pub face : piece.face < e.faces
-  pub points : All (IsBelow e.points) piece.points
-  pub corners : All (IsBelow e.corners) piece.corners
+pub record IsSeat (e : Extent) (seat : Seat) : Type 0 where
+  pub face : seat.face < e.faces
+  pub points : All (IsBelow e.points) seat.points
+  pub corners : All (IsBelow e.corners) seat.corners
 
 -- ---- meshes
 
@@ -124,8 +124,8 @@ abbrev pub mesh_corners : Shape → Counts → ℕ → List ℕ
 mesh_corners s c k = corners_of (corners_along s.periodic_u c.along_u) (corners_along s.periodic_v c.along_v) (k % c.along_u) (k / c.along_u)
 
 -- patch k of a mesh
-abbrev pub mesh_piece : Shape → Counts → ℕ → Piece
-mesh_piece s c k = record { place = mesh_place c k; face = k; points = mesh_corners s c k; corners = mesh_corners s c k }
+abbrev pub mesh_seat : Shape → Counts → ℕ → Seat
+mesh_seat s c k = record { place = mesh_place c k; face = k; points = mesh_corners s c k; corners = mesh_corners s c k }
 
 -- ---- faces
 
@@ -138,8 +138,8 @@ abbrev pub faces_extent : ℕ → FaceValues → Extent
 faces_extent n f = record { faces = length f.sizes; points = n; corners = length f.corners }
 
 -- piece i of a face with these points, whose first corner is that one of all corners
-abbrev pub face_piece : ℕ → ℕ → List ℕ → ℕ → Piece
-face_piece face first points i = record {
+abbrev pub face_seat : ℕ → ℕ → List ℕ → ℕ → Seat
+face_seat face first points i = record {
   place = whole_place;
   face = face;
   points = map (λ k. slice_index_or points k 0) (piece_corners (length points) i);
@@ -175,15 +175,15 @@ ring_facevarying : is_counted (mesh_extent ring three) (number FaceVarying (0 �
 ring_facevarying = refl
 
 -- the last patch goes back to the first column
-last_of_ring : (mesh_piece ring three 2).points ≡ 2 ∷ 0 ∷ 5 ∷ 3 ∷ []
+last_of_ring : (mesh_seat ring three 2).points ≡ 2 ∷ 0 ∷ 5 ∷ 3 ∷ []
 last_of_ring = refl
 
-value_of_last : (variable_of (mesh_piece ring three 2) (number Uniform (7 ∷ 8 ∷ 9 ∷ []))).values ≡ Numbers (pos 9 ∷ [])
+value_of_last : (variable_of (mesh_seat ring three 2) (number Uniform (7 ∷ 8 ∷ 9 ∷ []))).values ≡ Numbers (pos 9 ∷ [])
 value_of_last = refl
 
 -- a square and a triangle: the triangle is face 1, and its first corner is corner 4
-second_face : face_piece 1 4 (1 ∷ 4 ∷ 2 ∷ []) 0 ≡ record { place = whole_place; face = 1; points = 1 ∷ 4 ∷ 2 ∷ 2 ∷ []; corners = 4 ∷ 5 ∷ 6 ∷ 6 ∷ [] }
+second_face : face_seat 1 4 (1 ∷ 4 ∷ 2 ∷ []) 0 ≡ record { place = whole_place; face = 1; points = 1 ∷ 4 ∷ 2 ∷ 2 ∷ []; corners = 4 ∷ 5 ∷ 6 ∷ 6 ∷ [] }
 second_face = refl
 
-values_of_second : (variable_of (face_piece 1 4 (1 ∷ 4 ∷ 2 ∷ []) 0) (number FaceVarying (0 ∷ 1 ∷ 2 ∷ 3 ∷ 40 ∷ 50 ∷ 60 ∷ []))).values ≡ Numbers (pos 40 ∷ pos 50 ∷ pos 60 ∷ pos 60 ∷ [])
+values_of_second : (variable_of (face_seat 1 4 (1 ∷ 4 ∷ 2 ∷ []) 0) (number FaceVarying (0 ∷ 1 ∷ 2 ∷ 3 ∷ 40 ∷ 50 ∷ 60 ∷ []))).values ≡ Numbers (pos 40 ∷ pos 50 ∷ pos 60 ∷ pos 60 ∷ [])
 values_of_second = refl

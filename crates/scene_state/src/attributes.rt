@@ -4,7 +4,8 @@ ghost use Rattle.scene_state.specs.Shaders.{first_attributes};
 
 use crate::bases::Bases;
 use crate::look::Look;
-use fixed_math::{List, NoMemory};
+use crate::shared_lights::SharedLights;
+use fixed_math::NoMemory;
 use std::alloc::Global;
 
 /// The attributes in force. A shader is named by its place among all shader requests so far.
@@ -15,37 +16,35 @@ pub(crate) struct Attributes {
     pub(crate) surface: usize,
     pub(crate) displacement: Option<usize>,
     pub(crate) atmosphere: Option<usize>,
-    pub(crate) lights: List<usize>,
+    pub(crate) lights: SharedLights,
 }
 
 impl Attributes {
     /// The attributes at the start.
-    pub(crate) fn first(alloc: Global) -> Attributes
-        ensures { result ≡ first_attributes }
+    pub(crate) fn first(alloc: Global) -> Result<Attributes, NoMemory>
+        ensures { IfOk result (λ a. a ≡ first_attributes) }
     {
-        Attributes {
+        Ok(Attributes {
             look: Look::first(),
             bases: Bases::first(),
             surface: 0,
             displacement: None,
             atmosphere: None,
-            lights: List(Vec::new(alloc)),
-        }
+            lights: SharedLights::none(alloc)?,
+        })
     }
 
-    /// A copy of the attributes.
-    pub(crate) fn copy(&self, alloc: Global) -> Result<Attributes, NoMemory>
+    /// The same attributes, with their list of lights shared.
+    pub(crate) fn shared(&self) -> Result<Attributes, NoMemory>
         ensures { IfOk result (λ a. a ≡ self.now) }
     {
-        let mut lights = Vec::new(alloc);
-        lights.extend_from_slice(self.lights.as_slice())?;
         Ok(Attributes {
             look: self.look,
             bases: self.bases,
             surface: self.surface,
             displacement: self.displacement,
             atmosphere: self.atmosphere,
-            lights: List(lights),
+            lights: self.lights.shared()?,
         })
     }
 }

@@ -1,14 +1,15 @@
 // Blocks: what they save, and what their ends bring back.
-ghost use Rattle.std.specs.Prelude.{◌≡◌, Some};
-ghost use Rattle.scene_state.specs.State.{opened, innermost, frame_begun, closed, frame_ended, frame_made, attributes_ended, transform_ended, world_begun, world_ended};
+ghost use Rattle.std.specs.Prelude.{◌≡◌, Some, [], ◌∷◌, ◌++◌, IfOk};
+ghost use Rattle.scene_state.specs.State.{opened, innermost, frame_begun, closed, frame_ended, frame_of, frame_made, attributes_ended, transform_ended, world_begun, world_ended};
 ghost use Rattle.scene_state.specs.Answers.{Steps};
 ghost use Rattle.scene_state.specs.declared.state.Block.TheVariants.{InAttributes, InTransform};
 
 use crate::attributes::Attributes;
 use crate::fault::{StateCode, Stop, code_of};
 use crate::frame::Frame;
+use crate::shared_lights::SharedLights;
 use crate::state::{Block, State, World};
-use fixed_math::List;
+use fixed_math::{List, NoMemory};
 use std::alloc::Global;
 use transforms::{Affine, Camera};
 
@@ -43,14 +44,14 @@ impl State {
         self.current = current;
     }
 
-    pub(crate) fn begin_frame(&mut self, alloc: Global) -> Result<(), Stop>
+    pub(crate) fn begin_frame(&mut self) -> Result<(), Stop>
         ensures { Steps result (frame_begun self.old) self.new }
     {
         if self.blocks.len() != 0 {
             return Err(Stop::Fault(StateCode::N1));
         }
         let block = Block::InFrame {
-            attributes: self.attributes.copy(alloc)?,
+            attributes: self.attributes.shared()?,
             current: self.current,
             choices: self.choices,
             name: self.name.shared()?,
@@ -79,11 +80,11 @@ impl State {
         }
     }
 
-    pub(crate) fn begin_attributes(&mut self, alloc: Global) -> Result<(), Stop>
+    pub(crate) fn begin_attributes(&mut self) -> Result<(), Stop>
         ensures { Steps result (opened (InAttributes self.old.attributes self.old.current) self.old) self.new }
     {
         let block = Block::InAttributes {
-            attributes: self.attributes.copy(alloc)?,
+            attributes: self.attributes.shared()?,
             current: self.current,
         };
         self.open(block)
@@ -128,7 +129,7 @@ impl State {
         }
     }
 
-    pub(crate) fn begin_world(&mut self, alloc: Global) -> Result<(), Stop>
+    pub(crate) fn begin_world(&mut self) -> Result<(), Stop>
         ensures { Steps result (world_begun self.old) self.new }
     {
         if self.world.is_some() {
@@ -139,7 +140,7 @@ impl State {
             Err(fault) => return Err(Stop::Fault(code_of(fault))),
         };
         let block = Block::InWorld {
-            attributes: self.attributes.copy(alloc)?,
+            attributes: self.attributes.shared()?,
             current: self.current,
         };
         self.world = Some(World {
@@ -150,30 +151,38 @@ impl State {
         self.open(block)
     }
 
-    // The frame of the open world.
-    fn make_frame(
-        &mut self,
-        alloc: Global,
-        world: &World,
-        attributes: Attributes,
-        current: Affine,
-    ) -> Result<(), Stop>
-        ensures { Steps result (frame_made (Some world.now) attributes current self.old) self.new }
+    // The frame of a world, whose primitives it takes.
+    fn take_frame(&mut self, alloc: Global, world: &World) -> Result<Frame, NoMemory>
+        ensures frame { IfOk result (λ frame. frame ≡ frame_of world.now self.old) }
+        ensures taken { IfOk result (λ _. self.new ≡ record self.old { prims = [] }) }
     {
-        if self.frames.len() >= MOST_FRAMES {
-            return Err(Stop::Fault(StateCode::M2));
-        }
-        let frame = Frame {
+        Ok(Frame {
             name: self.name.copied(alloc)?,
             options: self.choices.picture(),
             camera: world.camera,
             world: world.to_camera,
             prims: self.prims.take(alloc),
-        };
+        })
+    }
+
+    // Adds the frame of a world.
+    fn add_frame(&mut self, alloc: Global, world: &World) -> Result<(), NoMemory>
+        ensures { IfOk result (λ _. self.new ≡ record self.old { prims = []; frames = self.old.frames ++ frame_of world.now self.old ∷ [] }) }
+    {
+        let frame = self.take_frame(alloc, world)?;
         self.frames.0.push(frame)?;
-        self.attributes = attributes;
-        self.attributes.lights = List(Vec::new(alloc));
-        self.current = current;
+        Ok(())
+    }
+
+    // The frame of the open world, where what the world's block saved is back.
+    fn make_frame(&mut self, alloc: Global, world: &World) -> Result<(), Stop>
+        ensures { Steps result (frame_made (Some world.now) self.old.attributes self.old.current self.old) self.new }
+    {
+        if self.frames.len() >= MOST_FRAMES {
+            return Err(Stop::Fault(StateCode::M2));
+        }
+        self.add_frame(alloc, world)?;
+        self.attributes.lights = SharedLights::none(alloc)?;
         self.world = None;
         self.handles = List(Vec::new(alloc));
         Ok(())
@@ -188,10 +197,13 @@ impl State {
                     attributes,
                     current,
                 },
-            ) => match self.world {
-                Some(world) => self.make_frame(alloc, &world, attributes, current),
-                None => Err(Stop::Fault(StateCode::N1)),
-            },
+            ) => {
+                self.restore(attributes, current);
+                match self.world {
+                    Some(world) => self.make_frame(alloc, &world),
+                    None => Err(Stop::Fault(StateCode::N1)),
+                }
+            }
             _ => Err(Stop::Fault(StateCode::N1)),
         }
     }

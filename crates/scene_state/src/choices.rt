@@ -267,31 +267,27 @@ impl Choices {
     pub(crate) fn chosen(self, request: &Request) -> Result<Choices, StateCode>
         ensures { result ≡ chosen (plain request.now) self }
     {
-        Ok(match request.name {
-            Req::Format => return self.with_format(request.whole(0), request.whole(1)),
-            Req::FrameAspectRatio => self.with_ratio(request.number(0)),
-            Req::ScreenWindow => self.with_window(
+        match request.name {
+            Req::Format => self.with_format(request.whole(0), request.whole(1)),
+            Req::FrameAspectRatio => Ok(self.with_ratio(request.number(0))),
+            Req::ScreenWindow => Ok(self.with_window(
                 request.number(0),
                 request.number(1),
                 request.number(2),
                 request.number(3),
+            )),
+            Req::Clipping => Ok(self.with_depths(request.number(0), request.number(1))),
+            Req::Projection => Ok(self.with_field(field(request))),
+            Req::PixelSamples => self.with_samples(request.number(0), request.number(1)),
+            Req::PixelFilter => self.with_filter(
+                request.word(0).as_str(),
+                request.number(1),
+                request.number(2),
             ),
-            Req::Clipping => self.with_depths(request.number(0), request.number(1)),
-            Req::Projection => self.with_field(field(request)),
-            Req::PixelSamples => {
-                return self.with_samples(request.number(0), request.number(1));
-            }
-            Req::PixelFilter => {
-                return self.with_filter(
-                    request.word(0).as_str(),
-                    request.number(1),
-                    request.number(2),
-                );
-            }
-            Req::Exposure => self.with_exposure(request.number(0), request.number(1)),
-            Req::Quantize => self.with_quantize(request),
-            _ => self,
-        })
+            Req::Exposure => Ok(self.with_exposure(request.number(0), request.number(1))),
+            Req::Quantize => Ok(self.with_quantize(request)),
+            _ => Ok(self),
+        }
     }
 
     // The ratio of the frame's sides.

@@ -1,5 +1,6 @@
 ghost use Rattle.std.specs.Prelude.{◌≡◌};
 ghost use Rattle.scene_state.specs.State.{code_of};
+ghost use Rattle.scene_state.specs.Answers.{stopped_at};
 ghost use Rattle.scene_state.specs.declared.fault.StateFault.TheVariants.{NoMemory as OutOfMemory};
 ghost use Rattle.scene_state.specs.declared.fault.Stop.TheVariants.{NoMemory as Exhausted};
 
@@ -64,10 +65,22 @@ impl From<NoMemory> for StateFault {
 }
 
 /// Why a request doesn't change the state.
-#[derive(Debug, Clone, Copy, PartialEq, Eq)]
+#[derive(Clone, Copy)]
 pub(crate) enum Stop {
     Fault(StateCode),
     NoMemory,
+}
+
+impl Stop {
+    /// The same, of a request whose name stands in that line.
+    pub(crate) fn at(self, line: u32) -> StateFault
+        ensures { result ≡ stopped_at line self }
+    {
+        match self {
+            Stop::Fault(code) => StateFault::At { code, line },
+            Stop::NoMemory => StateFault::NoMemory,
+        }
+    }
 }
 
 impl From<NoMemory> for Stop {

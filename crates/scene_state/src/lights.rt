@@ -12,7 +12,7 @@ ghost use Rattle.scene_state.specs.Steps.{with_surface, with_displacement, with_
 ghost use Rattle.scene_state.specs.Answers.{Steps, GivesMap};
 
 use crate::fault::{StateCode, Stop, code_of};
-use crate::shaders::{Handle, light_of, put_light, without_light};
+use crate::shaders::{Handle, light_of};
 use crate::state::State;
 use crate::uses::{ShaderKind, ShaderUse, params_copy};
 use fixed_math::NoMemory;
@@ -99,11 +99,11 @@ impl State {
     }
 
     // Puts a new light into force, and lets its number stand for it.
-    fn add_light(&mut self, light: usize, request: &Request) -> Result<(), NoMemory>
+    fn add_light(&mut self, alloc: Global, light: usize, request: &Request) -> Result<(), NoMemory>
         requires { request.now.name ≡ reqs.LightSource }
         ensures { IfOk result (λ _. self.new ≡ light_added light (whole_at request.now.args 1) self.old) }
     {
-        self.attributes.lights.0.push(light)?;
+        self.attributes.lights.push(alloc, light)?;
         self.handles.0.push(Handle {
             number: request.whole(1),
             light,
@@ -129,7 +129,7 @@ impl State {
             return Err(Stop::Fault(StateCode::M4));
         }
         let light = self.add_shader(alloc, ShaderKind::Light, request, space)?;
-        self.add_light(light, request)?;
+        self.add_light(alloc, light, request)?;
         Ok(())
     }
 
@@ -149,10 +149,9 @@ impl State {
             return Err(Stop::Fault(StateCode::N3));
         };
         if request.whole(1) == 1 {
-            put_light(light, &mut self.attributes.lights)?;
+            self.attributes.lights.put(alloc, light)?;
         } else {
-            let lights = without_light(alloc, light, self.attributes.lights.as_slice())?;
-            self.attributes.lights = lights;
+            self.attributes.lights = self.attributes.lights.without(alloc, light)?;
         }
         Ok(())
     }

@@ -5,7 +5,7 @@ ghost use Rattle.mesh_basis.specs.Counts.{counts_of};
 ghost use Rattle.mesh_basis.specs.Ranges.{are_in_range};
 ghost use Rattle.mesh_basis.specs.Meshes.{patch_at, all_from};
 ghost use Rattle.mesh_basis.specs.Polygons.{piece_count, pieces_of};
-ghost use Rattle.scene_state.specs.Variables.{variables_in, mesh_piece, face_piece, HasSides, IsThere};
+ghost use Rattle.scene_state.specs.Variables.{variables_in, mesh_seat, face_seat, HasSides, IsThere};
 ghost use Rattle.scene_state.specs.State.{prim_of, with_prim, with_patches, mesh_from, with_face};
 ghost use Rattle.scene_state.specs.Scene.{IsPlace, most_prims};
 ghost use Rattle.scene_state.specs.Answers.{Steps};
@@ -13,7 +13,8 @@ ghost use Rattle.scene_state.specs.Answers.{Steps};
 use crate::fault::{StateCode, Stop};
 use crate::frame::{Primitive, Variable};
 use crate::look::Look;
-use crate::piece::{Face, Piece, face_piece, mesh_piece};
+use crate::seat::{Face, Seat, face_seat, mesh_seat};
+use crate::shaders::Worn;
 use crate::state::State;
 use crate::variables::patch_variables;
 use fixed_math::{List, NoMemory, Vec3};
@@ -23,30 +24,21 @@ use rib_reader::{Param, Request};
 use std::alloc::Global;
 use transforms::Affine;
 
-// The places of a primitive's shaders among the uses.
-#[derive(Drop)]
-struct Worn {
-    surface: u32,
-    displacement: Option<u32>,
-    atmosphere: Option<u32>,
-    lights: List<u32>,
-}
-
 // A primitive of that look, with these shaders and variables.
 fn primitive(
     request: &Request,
     object: Affine,
     flat: Option<Vec3>,
-    piece: Piece,
+    seat: Seat,
     patch: Patch,
     look: Look,
     worn: Worn,
     vars: List<Variable>,
 ) -> Primitive
-    requires { IsPlace piece.place }
-    ensures { result ≡ record (prim_of (plain request.now) object flat piece patch look worn.surface worn.displacement worn.atmosphere worn.lights) { vars = vars } }
+    requires { IsPlace seat.place }
+    ensures { result ≡ record (prim_of (plain request.now) object flat seat patch look worn.surface worn.displacement worn.atmosphere worn.lights) { vars = vars } }
 {
-    let place = piece.place;
+    let place = seat.place;
     Primitive {
         patch,
         flat,
@@ -75,31 +67,20 @@ impl State {
         request: &Request,
         object: Affine,
         flat: Option<Vec3>,
-        piece: Piece,
+        seat: Seat,
         params: &[&Param],
         patch: Patch,
     ) -> Result<(), NoMemory>
         requires room { length self.old.prims < most_prims }
-        requires place { IsPlace piece.place }
+        requires place { IsPlace seat.place }
         requires params { map (λ p. p.now) params.now ≡ variables_in request.now.params }
-        requires there { All (IsThere piece) (variables_in request.now.params) }
-        ensures { IfOk result (λ _. self.new ≡ with_prim (plain request.now) object flat piece patch self.old) }
+        requires there { All (IsThere seat) (variables_in request.now.params) }
+        ensures { IfOk result (λ _. self.new ≡ with_prim (plain request.now) object flat seat patch self.old) }
     {
-        let vars = patch_variables(alloc, request, &piece, params)?;
-        let displacement = self.shaders.place_some(self.attributes.displacement)?;
-        let surface = self.shaders.place(self.attributes.surface)?;
-        let atmosphere = self.shaders.place_some(self.attributes.atmosphere)?;
-        let lights = self
-            .shaders
-            .place_all(alloc, self.attributes.lights.as_slice())?;
+        let vars = patch_variables(alloc, request, &seat, params)?;
+        let worn = self.shaders.wear(alloc, &self.attributes)?;
         let look = self.attributes.look;
-        let worn = Worn {
-            surface,
-            displacement,
-            atmosphere,
-            lights,
-        };
-        let prim = primitive(request, object, flat, piece, patch, look, worn, vars);
+        let prim = primitive(request, object, flat, seat, patch, look, worn, vars);
         self.prims.push(prim)?;
         Ok(())
     }
@@ -120,15 +101,15 @@ impl State {
         requires room { length self.old.prims + counts.along_u * counts.along_v ≤ most_prims }
         requires sides { HasSides shape.now counts }
         requires params { map (λ p. p.now) params.now ≡ variables_in request.now.params }
-        requires there { (k : ℕ) → k < counts.along_u * counts.along_v → All (IsThere (mesh_piece shape.now counts k)) (variables_in request.now.params) }
-        ensures { Steps result (mesh_from (plain request.now) object (mesh_piece shape.now counts) 0 (all_from (patch_at points.now shape.now counts.along_u) 0 (counts.along_u * counts.along_v)) self.old) self.new }
+        requires there { (k : ℕ) → k < counts.along_u * counts.along_v → All (IsThere (mesh_seat shape.now counts k)) (variables_in request.now.params) }
+        ensures { Steps result (mesh_from (plain request.now) object (mesh_seat shape.now counts) 0 (all_from (patch_at points.now shape.now counts.along_u) 0 (counts.along_u * counts.along_v)) self.old) self.new }
     {
         for k in 0..counts.along_u as u64 * counts.along_v as u64 {
             let Some(patch) = patch_at(points, shape, counts, k) else {
                 return Err(Stop::Fault(StateCode::M7));
             };
-            let piece = mesh_piece(shape, counts, k);
-            self.place(alloc, request, object, None, piece, params, patch)?;
+            let seat = mesh_seat(shape, counts, k);
+            self.place(alloc, request, object, None, seat, params, patch)?;
         }
         Ok(())
     }
@@ -140,17 +121,17 @@ impl State {
         request: &Request,
         object: Affine,
         flat: &Vec3,
-        piece: Piece,
+        seat: Seat,
         params: &[&Param],
         patch: Patch,
     ) -> Result<(), NoMemory>
         requires room { length self.old.prims < most_prims }
-        requires place { IsPlace piece.place }
+        requires place { IsPlace seat.place }
         requires params { map (λ p. p.now) params.now ≡ variables_in request.now.params }
-        requires there { All (IsThere piece) (variables_in request.now.params) }
-        ensures { IfOk result (λ _. self.new ≡ with_prim (plain request.now) object (Some flat.now) piece patch self.old) }
+        requires there { All (IsThere seat) (variables_in request.now.params) }
+        ensures { IfOk result (λ _. self.new ≡ with_prim (plain request.now) object (Some flat.now) seat patch self.old) }
     {
-        self.place(alloc, request, object, Some(*flat), piece, params, patch)
+        self.place(alloc, request, object, Some(*flat), seat, params, patch)
     }
 
     // Places the pieces of a face of this normal.
@@ -170,13 +151,13 @@ impl State {
         requires same { length face.now.points.now ≡ length points.now }
         requires few { face.now.first + length points.now < 2 ^ 64 }
         requires params { map (λ p. p.now) params.now ≡ variables_in request.now.params }
-        requires there { (i : ℕ) → i < piece_count (length face.now.points.now) → All (IsThere (face_piece face.now.index face.now.first face.now.points.now i)) (variables_in request.now.params) }
-        ensures { IfOk result (λ _. self.new ≡ with_patches (plain request.now) object (Some flat.now) (face_piece face.now.index face.now.first face.now.points.now) 0 (pieces_of points.now) self.old) }
+        requires there { (i : ℕ) → i < piece_count (length face.now.points.now) → All (IsThere (face_seat face.now.index face.now.first face.now.points.now i)) (variables_in request.now.params) }
+        ensures { IfOk result (λ _. self.new ≡ with_patches (plain request.now) object (Some flat.now) (face_seat face.now.index face.now.first face.now.points.now) 0 (pieces_of points.now) self.old) }
     {
         for i in 0..(points.len() - 1) / 2 {
             let patch = piece_of(points, i);
-            let piece = face_piece(face.index, face.first, face.points, i);
-            self.place_piece(alloc, request, object, flat, piece, params, patch)?;
+            let seat = face_seat(face.index, face.first, face.points, i);
+            self.place_piece(alloc, request, object, flat, seat, params, patch)?;
         }
         Ok(())
     }
@@ -197,8 +178,8 @@ impl State {
         requires same { length face.now.points.now ≡ length points.now }
         requires few { face.now.first + length points.now < 2 ^ 64 }
         requires params { map (λ p. p.now) params.now ≡ variables_in request.now.params }
-        requires there { (i : ℕ) → i < piece_count (length face.now.points.now) → All (IsThere (face_piece face.now.index face.now.first face.now.points.now i)) (variables_in request.now.params) }
-        ensures { IfOk result (λ _. self.new ≡ with_face (plain request.now) object (face_piece face.now.index face.now.first face.now.points.now) points.now self.old) }
+        requires there { (i : ℕ) → i < piece_count (length face.now.points.now) → All (IsThere (face_seat face.now.index face.now.first face.now.points.now i)) (variables_in request.now.params) }
+        ensures { IfOk result (λ _. self.new ≡ with_face (plain request.now) object (face_seat face.now.index face.now.first face.now.points.now) points.now self.old) }
     {
         let flat = flat_normal(points);
         self.lay_pieces(alloc, request, object, points, &flat, face, params)

@@ -6,15 +6,15 @@ ghost use Rattle.rib_reader.specs.declared.req.Req.TheVariants as reqs;
 ghost use Rattle.mesh_basis.specs.Ranges.{are_in_range};
 ghost use Rattle.mesh_basis.specs.Polygons.{piece_count};
 ghost use Rattle.scene_state.specs.Faces.{FaceValues, use_up, are_places};
-ghost use Rattle.scene_state.specs.Variables.{variables_in, are_counted, faces_extent, face_piece, IsOfKind, IsThere};
+ghost use Rattle.scene_state.specs.Variables.{variables_in, are_counted, faces_extent, face_seat, IsOfKind, IsThere};
 ghost use Rattle.scene_state.specs.State.{mesh_laid, face_points, with_face, with_faces, faces_laid, patch_set, mesh_set, polygon_set, polygons_set};
 ghost use Rattle.scene_state.specs.Scene.{most_prims};
 ghost use Rattle.scene_state.specs.Answers.{Steps};
 
 use crate::faces::{Faces, faces_in, one_face, piece_total};
 use crate::fault::{StateCode, Stop};
-use crate::piece::{Face, faces_extent, mesh_extent};
 use crate::points::face_points;
+use crate::seat::{Face, faces_extent, mesh_extent};
 use crate::state::State;
 use crate::variables::{are_counted, variables_in};
 use fixed_math::{NoMemory, Vec3};
@@ -73,8 +73,8 @@ impl State {
         requires room { length self.old.prims + piece_count (length face.now.points.now) ≤ most_prims }
         requires few { face.now.first + length face.now.points.now < 2 ^ 64 }
         requires params { map (λ p. p.now) params.now ≡ variables_in request.now.params }
-        requires there { (i : ℕ) → i < piece_count (length face.now.points.now) → All (IsThere (face_piece face.now.index face.now.first face.now.points.now i)) (variables_in request.now.params) }
-        ensures { IfOk result (λ _. self.new ≡ with_face (plain request.now) object (face_piece face.now.index face.now.first face.now.points.now) (face_points points.now face.now.points.now) self.old) }
+        requires there { (i : ℕ) → i < piece_count (length face.now.points.now) → All (IsThere (face_seat face.now.index face.now.first face.now.points.now i)) (variables_in request.now.params) }
+        ensures { IfOk result (λ _. self.new ≡ with_face (plain request.now) object (face_seat face.now.index face.now.first face.now.points.now) (face_points points.now face.now.points.now) self.old) }
     {
         let corners = face_points(alloc, points, face.points)?;
         self.place_pieces(alloc, request, object, corners.as_slice(), face, params)
@@ -117,7 +117,52 @@ impl State {
         Ok(())
     }
 
-    // Places faces over these points.
+    // Places faces over these points, with these variables.
+    fn lay_counted(
+        &mut self,
+        alloc: Global,
+        request: &Request,
+        object: Affine,
+        points: &[Vec3],
+        faces: &Faces,
+        params: &[&Param],
+    ) -> Result<(), Stop>
+        requires points { are_places (length points.now) faces.now.corners ≡ true }
+        requires params { map (λ p. p.now) params.now ≡ variables_in request.now.params }
+        requires kinds { All IsOfKind (variables_in request.now.params) }
+        ensures { Steps result (faces_laid (plain request.now) object points.now (Some faces.now) self.old) self.new }
+    {
+        if !are_counted(&faces_extent(faces, points.len()), params) {
+            return Err(Stop::Fault(StateCode::G5));
+        }
+        let (sizes, corners) = (faces.sizes.as_slice(), faces.corners.as_slice());
+        if self.prims.lack_room(piece_total(sizes)) {
+            return Err(Stop::Fault(StateCode::M3));
+        }
+        if !are_in_range(points) {
+            return Err(Stop::Fault(StateCode::M7));
+        }
+        self.place_faces(alloc, request, object, points, sizes, corners, params)?;
+        Ok(())
+    }
+
+    // Places faces over these points, with the variables of the request.
+    fn lay_some(
+        &mut self,
+        alloc: Global,
+        request: &Request,
+        object: Affine,
+        points: &[Vec3],
+        faces: &Faces,
+    ) -> Result<(), Stop>
+        requires { are_places (length points.now) faces.now.corners ≡ true }
+        ensures { Steps result (faces_laid (plain request.now) object points.now (Some faces.now) self.old) self.new }
+    {
+        let params = variables_in(alloc, request)?;
+        self.lay_counted(alloc, request, object, points, faces, &params)
+    }
+
+    // Places faces over these points, where they are some.
     fn lay_faces(
         &mut self,
         alloc: Global,
@@ -129,22 +174,10 @@ impl State {
         requires { IfSome faces (λ f. are_places (length points.now) f.corners ≡ true) }
         ensures { Steps result (faces_laid (plain request.now) object points.now faces self.old) self.new }
     {
-        let Some(faces) = faces else {
-            return Err(Stop::Fault(StateCode::G5));
-        };
-        let params = variables_in(alloc, request)?;
-        if !are_counted(&faces_extent(&faces, points.len()), &params) {
-            return Err(Stop::Fault(StateCode::G5));
+        match faces {
+            Some(faces) => self.lay_some(alloc, request, object, points, &faces),
+            None => Err(Stop::Fault(StateCode::G5)),
         }
-        let (sizes, corners) = (faces.sizes.as_slice(), faces.corners.as_slice());
-        if self.prims.lack_room(piece_total(sizes)) {
-            return Err(Stop::Fault(StateCode::M3));
-        }
-        if !are_in_range(points) {
-            return Err(Stop::Fault(StateCode::M7));
-        }
-        self.place_faces(alloc, request, object, points, sizes, corners, &params)?;
-        Ok(())
     }
 
     pub(crate) fn place_patch(&mut self, alloc: Global, request: &Request) -> Result<(), Stop>

@@ -5,7 +5,7 @@ ghost use Rattle.scene_state.specs.Steps.{state_from, last_line};
 ghost use Rattle.scene_state.specs.FirstUse.{InFirstUse};
 ghost use Rattle.scene_state.specs.Answers.{GivesState, GivesScene};
 
-use crate::fault::{StateCode, StateFault, Stop};
+use crate::fault::{StateCode, StateFault};
 use crate::frame::Scene;
 use crate::shaders::Shaders;
 use crate::state::State;
@@ -18,15 +18,8 @@ fn state_of(alloc: Global, requests: &[Request]) -> Result<State, StateFault>
 {
     let mut state = State::first(alloc)?;
     for request in requests {
-        match state.step(alloc, request) {
-            Ok(()) => {}
-            Err(Stop::Fault(code)) => {
-                return Err(StateFault::At {
-                    code,
-                    line: request.line,
-                });
-            }
-            Err(Stop::NoMemory) => return Err(StateFault::NoMemory),
+        if let Err(stop) = state.step(alloc, request) {
+            return Err(stop.at(request.line));
         }
     }
     Ok(state)

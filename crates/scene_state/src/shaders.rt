@@ -1,7 +1,8 @@
 // Shader requests, and lights by their numbers.
 ghost use Rattle.std.specs.Prelude.{◌≡◌, IfOk, slice_get};
-ghost use Rattle.scene_state.specs.Shaders.{IsWaiting, first_shaders, with_request, placed, some_placed, all_placed, light_of, is_among, with_light, without_light};
+ghost use Rattle.scene_state.specs.Shaders.{IsWaiting, first_shaders, with_request, placed, some_placed, all_placed, worn_by, light_of};
 
+use crate::attributes::Attributes;
 use crate::uses::{ShaderKind, ShaderUse};
 use fixed_math::{List, NoMemory, Text};
 use std::alloc::Global;
@@ -20,6 +21,15 @@ pub(crate) enum Slot {
 pub(crate) struct Shaders {
     pub(crate) slots: List<Slot>,
     pub(crate) uses: List<ShaderUse>,
+}
+
+/// The places of a primitive's shaders among the uses.
+#[derive(Drop)]
+pub(crate) struct Worn {
+    pub(crate) surface: u32,
+    pub(crate) displacement: Option<u32>,
+    pub(crate) atmosphere: Option<u32>,
+    pub(crate) lights: List<u32>,
 }
 
 /// A light by the number that a scene calls it.
@@ -107,6 +117,22 @@ impl Shaders {
         }
         Ok(List(places))
     }
+
+    /// The places of those that a primitive with these attributes has.
+    pub(crate) fn wear(&mut self, alloc: Global, attributes: &Attributes) -> Result<Worn, NoMemory>
+        ensures { IfOk result (λ worn. (self.new, worn) ≡ worn_by self.old attributes.now) }
+    {
+        let displacement = self.place_some(attributes.displacement)?;
+        let surface = self.place(attributes.surface)?;
+        let atmosphere = self.place_some(attributes.atmosphere)?;
+        let lights = self.place_all(alloc, attributes.lights.as_slice())?;
+        Ok(Worn {
+            surface,
+            displacement,
+            atmosphere,
+            lights,
+        })
+    }
 }
 
 /// The light that a number stands for: the one that was made last.
@@ -120,32 +146,4 @@ pub(crate) fn light_of(handles: &[Handle], number: i64) -> Option<usize>
         }
     }
     found
-}
-
-fn is_among(light: usize, lights: &[usize]) -> bool
-    ensures { result ≡ is_among light lights.now }
-{
-    lights.iter().any(|other| *other == light)
-}
-
-/// Puts a light into force, last, where it isn't in force.
-pub(crate) fn put_light(light: usize, lights: &mut List<usize>) -> Result<(), NoMemory>
-    ensures { IfOk result (λ _. lights.new ≡ with_light light lights.old) }
-{
-    if !is_among(light, lights.as_slice()) {
-        lights.0.push(light)?;
-    }
-    Ok(())
-}
-
-/// The lights in force without this one.
-pub(crate) fn without_light(
-    alloc: Global,
-    light: usize,
-    lights: &[usize],
-) -> Result<List<usize>, NoMemory>
-    ensures { IfOk result (λ l. l ≡ without_light light lights.now) }
-{
-    let kept = lights.iter().copied().filter(|other| *other != light);
-    Ok(List(kept.collect(alloc)?))
 }

@@ -66,7 +66,7 @@ impl State {
         Ok(State {
             choices: Choices::first(),
             name: SharedName::new(alloc, Text::from_bytes(alloc, b"out.ppm")?)?,
-            attributes: Attributes::first(alloc),
+            attributes: Attributes::first(alloc)?,
             current: Affine::identity(),
             blocks: List(Vec::new(alloc)),
             world: None,

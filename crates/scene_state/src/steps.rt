@@ -61,14 +61,14 @@ impl State {
         ensures { Steps result (after (plain request.now) self.old) self.new }
     {
         match request.name {
-            Req::FrameBegin => self.begin_frame(alloc)?,
-            Req::FrameEnd => self.end_frame()?,
-            Req::WorldBegin => self.begin_world(alloc)?,
-            Req::WorldEnd => self.end_world(alloc)?,
-            Req::AttributeBegin => self.begin_attributes(alloc)?,
-            Req::AttributeEnd => self.end_attributes()?,
-            Req::TransformBegin => self.begin_transform()?,
-            Req::TransformEnd => self.end_transform()?,
+            Req::FrameBegin => self.begin_frame(),
+            Req::FrameEnd => self.end_frame(),
+            Req::WorldBegin => self.begin_world(),
+            Req::WorldEnd => self.end_world(alloc),
+            Req::AttributeBegin => self.begin_attributes(),
+            Req::AttributeEnd => self.end_attributes(),
+            Req::TransformBegin => self.begin_transform(),
+            Req::TransformEnd => self.end_transform(),
             Req::Format
             | Req::FrameAspectRatio
             | Req::ScreenWindow
@@ -78,33 +78,41 @@ impl State {
             | Req::PixelSamples
             | Req::PixelFilter
             | Req::Exposure
-            | Req::Quantize => self.set_option(request)?,
-            Req::Display => self.set_display(alloc, request)?,
+            | Req::Quantize => self.set_option(request),
+            Req::Display => self.set_display(alloc, request),
             Req::Color
             | Req::Opacity
             | Req::ShadingRate
             | Req::Sides
             | Req::Orientation
             | Req::ReverseOrientation
-            | Req::Attribute => self.set_look(request),
-            Req::Surface => self.set_surface(alloc, request)?,
-            Req::Displacement => self.set_displacement(alloc, request)?,
-            Req::Atmosphere => self.set_atmosphere(alloc, request)?,
-            Req::LightSource => self.make_light(alloc, request)?,
-            Req::Illuminate => self.illuminate(alloc, request)?,
-            Req::Identity => self.set_identity(),
-            Req::Transform => self.transform(request)?,
-            Req::ConcatTransform => self.concat(request)?,
-            Req::Translate => self.translate(request)?,
-            Req::Scale => self.scale(request)?,
-            Req::Rotate => self.rotate(request)?,
-            Req::Basis => self.set_bases(request),
-            Req::Patch => self.place_patch(alloc, request)?,
-            Req::PatchMesh => self.place_mesh(alloc, request)?,
-            Req::Polygon => self.place_polygon(alloc, request)?,
-            Req::PointsPolygons => self.place_polygons(alloc, request)?,
-            _ => {}
+            | Req::Attribute => {
+                self.set_look(request);
+                Ok(())
+            }
+            Req::Surface => self.set_surface(alloc, request),
+            Req::Displacement => self.set_displacement(alloc, request),
+            Req::Atmosphere => self.set_atmosphere(alloc, request),
+            Req::LightSource => self.make_light(alloc, request),
+            Req::Illuminate => self.illuminate(alloc, request),
+            Req::Identity => {
+                self.set_identity();
+                Ok(())
+            }
+            Req::Transform => self.transform(request),
+            Req::ConcatTransform => self.concat(request),
+            Req::Translate => self.translate(request),
+            Req::Scale => self.scale(request),
+            Req::Rotate => self.rotate(request),
+            Req::Basis => {
+                self.set_bases(request);
+                Ok(())
+            }
+            Req::Patch => self.place_patch(alloc, request),
+            Req::PatchMesh => self.place_mesh(alloc, request),
+            Req::Polygon => self.place_polygon(alloc, request),
+            Req::PointsPolygons => self.place_polygons(alloc, request),
+            _ => Ok(()),
         }
-        Ok(())
     }
 }

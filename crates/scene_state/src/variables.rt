@@ -5,7 +5,7 @@ ghost use Rattle.scene_state.specs.Variables.{variables_in, values_in, is_counte
 ghost use Rattle.scene_state.specs.Scene.{IsVariable};
 
 use crate::frame::Variable;
-use crate::piece::{Extent, Piece};
+use crate::seat::{Extent, Seat};
 use fixed_math::{List, NoMemory, Num, Text};
 use rib_reader::{Class, Kind, Param, Request, Values, holding};
 use std::alloc::Global;
@@ -159,25 +159,25 @@ fn varies(class: Class) -> bool
 }
 
 // The values of a variable that a patch has.
-fn values_of(alloc: Global, piece: &Piece, param: &Param) -> Result<Values, NoMemory>
-    requires { IsThere piece.now param.now }
-    ensures { IfOk result (λ r. r ≡ taken param.now.kind param.now.values (places_of param.now.class piece.now)) }
+fn values_of(alloc: Global, seat: &Seat, param: &Param) -> Result<Values, NoMemory>
+    requires { IsThere seat.now param.now }
+    ensures { IfOk result (λ r. r ≡ taken param.now.kind param.now.values (places_of param.now.class seat.now)) }
 {
     let (kind, values) = (param.kind, &param.values);
     match param.class {
         Class::Constant => taken(alloc, kind, values, &[0]),
-        Class::Uniform => taken(alloc, kind, values, &[piece.face]),
-        Class::Varying | Class::Vertex => taken(alloc, kind, values, &piece.points),
-        Class::FaceVarying => taken(alloc, kind, values, &piece.corners),
+        Class::Uniform => taken(alloc, kind, values, &[seat.face]),
+        Class::Varying | Class::Vertex => taken(alloc, kind, values, &seat.points),
+        Class::FaceVarying => taken(alloc, kind, values, &seat.corners),
     }
 }
 
 // A variable of a patch.
-fn variable_of(alloc: Global, piece: &Piece, param: &Param) -> Result<Variable, NoMemory>
-    requires { IsThere piece.now param.now }
-    ensures { IfOk result (λ r. r ≡ variable_of piece.now param.now) }
+fn variable_of(alloc: Global, seat: &Seat, param: &Param) -> Result<Variable, NoMemory>
+    requires { IsThere seat.now param.now }
+    ensures { IfOk result (λ r. r ≡ variable_of seat.now param.now) }
 {
-    let values = values_of(alloc, piece, param)?;
+    let values = values_of(alloc, seat, param)?;
     let name = param.name.copied(alloc)?;
     Ok(Variable {
         name,
@@ -188,13 +188,13 @@ fn variable_of(alloc: Global, piece: &Piece, param: &Param) -> Result<Variable, 
 }
 
 // The variables of a patch, of these.
-fn variables_of(alloc: Global, piece: &Piece, params: &[&Param]) -> Result<List<Variable>, NoMemory>
-    requires { All (IsThere piece.now) (map (λ p. p.now) params.now) }
-    ensures { IfOk result (λ r. r ≡ variables_of piece.now (map (λ p. p.now) params.now)) }
+fn variables_of(alloc: Global, seat: &Seat, params: &[&Param]) -> Result<List<Variable>, NoMemory>
+    requires { All (IsThere seat.now) (map (λ p. p.now) params.now) }
+    ensures { IfOk result (λ r. r ≡ variables_of seat.now (map (λ p. p.now) params.now)) }
 {
     let mut all = Vec::new(alloc);
     for param in params {
-        all.push(variable_of(alloc, piece, param)?)?;
+        all.push(variable_of(alloc, seat, param)?)?;
     }
     Ok(List(all))
 }
@@ -203,14 +203,14 @@ fn variables_of(alloc: Global, piece: &Piece, params: &[&Param]) -> Result<List<
 pub(crate) fn patch_variables(
     alloc: Global,
     request: &Request,
-    piece: &Piece,
+    seat: &Seat,
     params: &[&Param],
 ) -> Result<List<Variable>, NoMemory>
     requires params { map (λ p. p.now) params.now ≡ variables_in request.now.params }
-    requires there { All (IsThere piece.now) (variables_in request.now.params) }
-    ensures { IfOk result (λ r. r ≡ variables_of piece.now (variables_in request.now.params)) }
+    requires there { All (IsThere seat.now) (variables_in request.now.params) }
+    ensures { IfOk result (λ r. r ≡ variables_of seat.now (variables_in request.now.params)) }
 {
     let _request = request;
-    let variables = variables_of(alloc, piece, params)?;
+    let variables = variables_of(alloc, seat, params)?;
     Ok(variables)
 }

@@ -6,11 +6,11 @@ use Rattle.scene_state.proofs.variables.variable_of.Goals as goal
 
 pub invariant_of-result : goal.invariant_of-result
 invariant_of-result c =
-    let piece = c.args.piece.now in
+    let seat = c.args.seat.now in
     let p = c.args.param.now in
-    let points : length piece.points ≡ 4 = search rules in
-    let corner : length piece.corners ≡ 4 = search rules in
-    let v = is_variable piece p points corner c.requires in
+    let points : length seat.points ≡ 4 = search rules in
+    let corner : length seat.corners ≡ 4 = search rules in
+    let v = is_variable seat p points corner c.requires in
     let same = c.in_ok-values.ensures in
     record {
       kind = ap (is_of_kind p.kind) same ∙ v.kind;

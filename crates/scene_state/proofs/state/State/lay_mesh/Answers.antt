@@ -2,7 +2,7 @@ use Rattle.std.proofs.Common.{◌∙◌, ap, sym, subst, rules, true, false, map
 use Rattle.rib_reader.specs.Reading.{plain}
 use Rattle.mesh_basis.specs.Ranges.{are_in_range}
 use Rattle.scene_state.specs.State.{is_past}
-use Rattle.scene_state.specs.Variables.{variables_in, are_counted, mesh_extent, mesh_piece}
+use Rattle.scene_state.specs.Variables.{variables_in, are_counted, mesh_extent, mesh_seat}
 use Rattle.scene_state.specs.Answers.{Steps}
 use Rattle.scene_state.proofs.Laying.{mesh_is}
 use Rattle.scene_state.proofs.Values.{sides_fit, all_there, mesh_inside}
@@ -24,7 +24,7 @@ place_patches-requires-clause-there c =
     sym (c.are_counted.ensures ∙ ap (λ e. are_counted e (map (λ p. p.now) c.deref.result.now)) c.mesh_extent.ensures
     ∙ ap (λ ps. are_counted (mesh_extent shape m) (map (λ p. p.now) ps)) c.deref.ensures.value
     ∙ ap (are_counted (mesh_extent shape m)) c.in_ok-params.ensures.value) ∙ yes in
-    λ k h. all_there (mesh_extent shape m) (mesh_piece shape m k) vars (mesh_inside shape m k h) c.in_ok-params.ensures.kinds counted
+    λ k h. all_there (mesh_extent shape m) (mesh_seat shape m k) vars (mesh_inside shape m k h) c.in_ok-params.ensures.kinds counted
 
 pub returns : goal.returns
 returns c =

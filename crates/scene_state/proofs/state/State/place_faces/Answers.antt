@@ -2,7 +2,7 @@ use Rattle.std.proofs.Common.{◌≡◌, ◌∙◌, ap, sym, subst, arith, ◌+�
 use Rattle.rib_reader.specs.Reading.{plain}
 use Rattle.mesh_basis.specs.Polygons.{piece_count}
 use Rattle.scene_state.specs.Faces.{are_places}
-use Rattle.scene_state.specs.Variables.{variables_in, faces_extent, face_piece}
+use Rattle.scene_state.specs.Variables.{variables_in, faces_extent, face_seat}
 use Rattle.scene_state.specs.State.{face_points, with_face, with_faces}
 use Rattle.scene_state.proofs.Laying.{Left, face_fits, face_less, face_next, face_length, faces_end}
 use Rattle.scene_state.proofs.Values.{all_there, face_inside, places_take, places_drop}
@@ -35,7 +35,7 @@ place_face-requires-clause-there c =
     let places : are_places (length c.args.points.now) face ≡ true =
     ap (λ ks. are_places (length c.args.points.now) ks) c.split_at.ensures.front
     ∙ places_take (length c.args.points.now) c.loop-size.rest.now (slice_index_or sizes c.loop-size.size-index 0) c.loop-size.invariant.1.1.1.1 in
-    λ i h. all_there extent (face_piece j first face i) vars (face_inside extent j first face i h is_face within places) c.requires.kinds c.requires.counted
+    λ i h. all_there extent (face_seat j first face i) vars (face_inside extent j first face i h is_face within places) c.requires.kinds c.requires.counted
 
 pub loop-size-preserved : goal.loop-size-preserved
 loop-size-preserved c =
@@ -56,15 +56,15 @@ loop-size-preserved c =
     let whole = c.loop-size.invariant.1.1.1.0 in
     let fits = face_fits sizes k 0 (length s.prims) (length rest) here c.loop-size.invariant.1.0 in
     let less = face_less sizes k 0 (length s.prims) (length rest) here c.loop-size.invariant.1.0 in
-    let pieces = face_piece j first c.split_at.result.0.now in
+    let seats = face_seat j first c.split_at.result.0.now in
     let long : length t.prims ≡ length s.prims + piece_count n =
-    face_length r object pieces ps c.split_at.result.0.now s t c.in_ok-place_face.ensures ∙ ap (λ m. length s.prims + piece_count m) c.split_at.ensures.front_len in
+    face_length r object seats ps c.split_at.result.0.now s t c.in_ok-place_face.ensures ∙ ap (λ m. length s.prims + piece_count m) c.split_at.ensures.front_len in
     let back = c.split_at.ensures.back_len in
     let left : length c.split_at.result.1.now ≡ length rest - n = omega (arith, back) in
     let at : with_faces r object ps k first (drop k sizes) rest s ≡ _ = ap (λ i. with_faces r object ps i first (drop k sizes) rest s) (sym same) ∙ c.loop-size.invariant.0 in
-    let placed : t ≡ with_face r object (face_piece k first (take n rest)) (face_points ps (take n rest)) s =
-    c.in_ok-place_face.ensures ∙ ap (λ cs. with_face r object (face_piece j first cs) (face_points ps cs) s) c.split_at.ensures.front
-    ∙ ap (λ i. with_face r object (face_piece i first (take n rest)) (face_points ps (take n rest)) s) same in (
+    let placed : t ≡ with_face r object (face_seat k first (take n rest)) (face_points ps (take n rest)) s =
+    c.in_ok-place_face.ensures ∙ ap (λ cs. with_face r object (face_seat j first cs) (face_points ps cs) s) c.split_at.ensures.front
+    ∙ ap (λ i. with_face r object (face_seat i first (take n rest)) (face_points ps (take n rest)) s) same in (
       ap (λ cs. with_faces r object ps (j + 1) (first + n) behind cs t) c.split_at.ensures.back
           ∙ ap (λ i. with_faces r object ps (i + 1) (first + n) behind (drop n rest) t) same
           ∙ face_next r object ps first sizes rest k 0 s t _ here placed at,

@@ -2,14 +2,14 @@
 ghost use Rattle.std.specs.Prelude.{◌≡◌, ◌<◌, ◌≤◌, ◌+◌, ◌*◌, ◌^◌, length};
 ghost use Rattle.mesh_basis.specs.Polygons.{piece_count};
 ghost use Rattle.scene_state.specs.Scene.{IsPlace, most_prims};
-ghost use Rattle.scene_state.specs.Variables.{corners_along, corner_in, corners_of, mesh_extent, mesh_place, mesh_corners, mesh_piece, faces_extent, face_piece, HasSides};
+ghost use Rattle.scene_state.specs.Variables.{corners_along, corner_in, corners_of, mesh_extent, mesh_place, mesh_corners, mesh_seat, faces_extent, face_seat, HasSides};
 
 use crate::faces::Faces;
 use mesh_basis::{Counts, Shape, piece_corners};
 
 /// How many faces, points and corners of faces a primitive has. The faces of a mesh are its patches, and both its points and its
 /// corners are the corners of its patches.
-#[derive(Debug, Clone, Copy)]
+#[derive(Clone, Copy)]
 pub(crate) struct Extent {
     pub(crate) faces: usize,
     pub(crate) points: usize,
@@ -18,8 +18,8 @@ pub(crate) struct Extent {
 
 /// Where a patch stands in its primitive: the column c of m and the row d of n that it has in its mesh, as [c, m, d, n], its face,
 /// and the places of its four corners, in the order of a bilinear patch, among the points and among the corners of all faces.
-#[derive(Debug, Clone, Copy)]
-pub(crate) struct Piece {
+#[derive(Clone, Copy)]
+pub(crate) struct Seat {
     pub(crate) place: [u32; 4],
     pub(crate) face: usize,
     pub(crate) points: [usize; 4],
@@ -106,17 +106,17 @@ fn mesh_corners(shape: &Shape, counts: Counts, c: u32, d: u32) -> [usize; 4]
 }
 
 /// Where patch `k` of a mesh stands.
-pub(crate) fn mesh_piece(shape: &Shape, counts: Counts, k: u64) -> Piece
+pub(crate) fn mesh_seat(shape: &Shape, counts: Counts, k: u64) -> Seat
     requires sides { HasSides shape.now counts }
     requires there { k < counts.along_u * counts.along_v }
     requires few { counts.along_u * counts.along_v ≤ most_prims }
-    ensures value { result ≡ mesh_piece shape.now counts k }
+    ensures value { result ≡ mesh_seat shape.now counts k }
     ensures place { IsPlace result.place }
 {
     let columns = counts.along_u as u64;
     let (column, row) = ((k % columns) as u32, (k / columns) as u32);
     let corners = mesh_corners(shape, counts, column, row);
-    Piece {
+    Seat {
         place: [column, counts.along_u, row, counts.along_v],
         face: k as usize,
         points: corners,
@@ -125,14 +125,14 @@ pub(crate) fn mesh_piece(shape: &Shape, counts: Counts, k: u64) -> Piece
 }
 
 /// Where piece `i` of a face stands: the places of its points, and its first corner among all corners.
-pub(crate) fn face_piece(face: usize, first: usize, points: &[usize], i: usize) -> Piece
+pub(crate) fn face_seat(face: usize, first: usize, points: &[usize], i: usize) -> Seat
     requires there { i < piece_count (length points.now) }
     requires few { first + length points.now < 2 ^ 64 }
-    ensures value { result ≡ face_piece face first points.now i }
+    ensures value { result ≡ face_seat face first points.now i }
     ensures place { IsPlace result.place }
 {
     let [a, b, c, d] = piece_corners(points.len(), i);
-    Piece {
+    Seat {
         place: [0, 1, 0, 1],
         face,
         points: [points[a], points[b], points[c], points[d]],

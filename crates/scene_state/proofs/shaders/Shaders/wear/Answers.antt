@@ -1,0 +1,10 @@
+use Rattle.std.proofs.Common.{◌∙◌, ap}
+use Rattle.scene_state.specs.Shaders.{all_placed}
+use Rattle.scene_state.proofs.Laying.{worn_is}
+use Rattle.scene_state.proofs.shaders.Shaders.wear.Goals as goal
+
+pub returns : goal.returns
+returns c =
+    worn_is c.args.self.now c.args.attributes.now (c.place_some.new.self, c.in_ok-displacement.displacement) (c.place.new.self, c.in_ok-surface.surface)
+    (c.place_some-2.new.self, c.in_ok-atmosphere.atmosphere) (c.place_all.new.self, c.in_ok-lights.lights)
+    c.in_ok-displacement.ensures c.in_ok-surface.ensures c.in_ok-atmosphere.ensures (c.in_ok-lights.ensures ∙ ap (all_placed c.place_some-2.new.self) c.as_slice.ensures)
