@@ -7,3 +7,4 @@ pub mod Named
 pub mod Branches
 pub mod Chains
 pub mod Ends
+pub mod StmtRows

@@ -107,4 +107,5 @@ chain-returns t c =
     let g = around_of c.args.g.now in
     let ls = map local_of c.args.scope.now in
     let v = T.chained (typed_of c.loop-link.first-1) (map tlink_of c.loop-link.typed.items) in
-    sym c.loop-link.invariant.same ∙ ap (typed_links g ls v) (chain_end c.args.links.now c.loop-link.link-index (omega arith)) ∙ ap Ok (sym c.in_ok-chained.ensures)
+    let before = typed_links g ls v (U.links (map link_of (drop c.loop-link.link-index c.args.links.now))) in
+    sym {a = before} c.loop-link.invariant.same ∙ ap (typed_links g ls v) (chain_end c.args.links.now c.loop-link.link-index (omega arith)) ∙ ap Ok (sym c.in_ok-chained.ensures)
