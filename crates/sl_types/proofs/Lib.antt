@@ -14,3 +14,4 @@ pub mod WellStmts
 pub mod WellFile
 pub mod Parted
 pub mod Apart
+pub mod StmtTrees

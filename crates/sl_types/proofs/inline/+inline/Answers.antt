@@ -1,5 +1,6 @@
-use Rattle.std.proofs.Common.{◌≡◌, ◌+◌, IfOk, OnOk, length, map, get_or, arith, ap, ap₂, sym, subst, ◌∙◌}
+use Rattle.std.proofs.Common.{◌≡◌, ◌+◌, List, IfOk, OnOk, length, map, get_or, arith, ap, ap₂, sym, subst, ◌∙◌}
 use Rattle.std.proofs.lemmas.List.{length-map}
+use Rattle.sl_ast.specs.Typed as A
 use Rattle.sl_ast.specs.TypedView.{tree_expr, tree_stmt}
 use Rattle.sl_types.specs.Extents.{absent}
 use Rattle.sl_types.specs.Inline.{nothing, extents_of, count, count_args, count_stmt, count_stmts, inline, inline_args, inline_stmt, inline_stmts}
@@ -10,7 +11,9 @@ use Rattle.sl_types.specs.Weights.{weight, weight_stmt, weight_stmts}
 use Rattle.sl_types.proofs.Chains.{chain_shown, count_links, tree_links, links_counted, links_weighed, links_inlined, links_split, links_end, light_link, pair_tree, call_tree, on_ok}
 use Rattle.sl_types.proofs.Numbered.{extent_at}
 use Rattle.sl_types.proofs.Placed.{light_arg, light_stmt, args_before, stmts_before, args_alone, stmts_alone, args_split, stmts_split, args_end, stmts_end, args_step, stmts_step, for_tree}
-use Rattle.sl_types.proofs.TypedNodes.{call_shown, for_shown}
+use Rattle.sl_types.proofs.StmtTrees.{block_tree, declare_tree, set_tree, test_tree, else_tree, repeat_tree, lights_tree, behind_one, behind_two, behind_three, behind_four}
+use Rattle.sl_types.proofs.TypedNodes.{call_shown, block_shown, group_shown, for_shown}
+use Rattle.sl_typing.specs.declared.typed.TypedStmt.{TypedStmt}
 use Rattle.sl_types.proofs.inline.+inline.Goals as goal
 
 pub expr-call-requires : goal.expr-call-requires
@@ -212,3 +215,176 @@ stmts-returns-clause-tree t c =
     let fs = functions c.args.by_default c.args.known.now in
     let made = map tree_stmt c.loop-s.made.items in
     sym (stmts_alone made) ∙ sym (ap (λ z. stmts_before made (inline_stmts fs c.loop-s.next z)) (stmts_end c.args.body.now c.loop-s.s-index (omega arith))) ∙ c.loop-s.invariant.tree
+
+pub stmt-returns-in-Empty-clause-tree : goal.stmt-returns-in-Empty-clause-tree
+stmt-returns-in-Empty-clause-tree t c =
+    let fs = functions c.args.by_default c.args.known.now in
+    let n = c.args.next.now in
+    ap (λ p. A.empty p) c.place.ensures.place ∙ sym (ap (λ s. inline_stmt fs n (tstmt_of s)) c.in-Empty.is)
+
+pub stmt-returns-in-Empty-clause-next : goal.stmt-returns-in-Empty-clause-next
+stmt-returns-in-Empty-clause-next t c =
+    let fs = functions c.args.by_default c.args.known.now in
+    let n = c.args.next.now in
+    c.place.ensures.next ∙ sym (ap (λ s. n + count_stmt fs (tstmt_of s)) c.in-Empty.is)
+
+pub stmt-returns-in-Break-clause-tree : goal.stmt-returns-in-Break-clause-tree
+stmt-returns-in-Break-clause-tree t c =
+    let fs = functions c.args.by_default c.args.known.now in
+    let n = c.args.next.now in
+    ap (λ p. A.leave p) c.place-in-Break.ensures.place ∙ sym (ap (λ s. inline_stmt fs n (tstmt_of s)) c.in-Break.is)
+
+pub stmt-returns-in-Break-clause-next : goal.stmt-returns-in-Break-clause-next
+stmt-returns-in-Break-clause-next t c =
+    let fs = functions c.args.by_default c.args.known.now in
+    let n = c.args.next.now in
+    c.place-in-Break.ensures.next ∙ sym (ap (λ s. n + count_stmt fs (tstmt_of s)) c.in-Break.is)
+
+pub stmt-returns-in-Continue-clause-tree : goal.stmt-returns-in-Continue-clause-tree
+stmt-returns-in-Continue-clause-tree t c =
+    let fs = functions c.args.by_default c.args.known.now in
+    let n = c.args.next.now in
+    ap (λ p. A.again p) c.place-in-Continue.ensures.place ∙ sym (ap (λ s. inline_stmt fs n (tstmt_of s)) c.in-Continue.is)
+
+pub stmt-returns-in-Continue-clause-next : goal.stmt-returns-in-Continue-clause-next
+stmt-returns-in-Continue-clause-next t c =
+    let fs = functions c.args.by_default c.args.known.now in
+    let n = c.args.next.now in
+    c.place-in-Continue.ensures.next ∙ sym (ap (λ s. n + count_stmt fs (tstmt_of s)) c.in-Continue.is)
+
+pub stmt-returns-in-Start-clause-tree : goal.stmt-returns-in-Start-clause-tree
+stmt-returns-in-Start-clause-tree t c =
+    let fs = functions c.args.by_default c.args.known.now in
+    let n = c.args.next.now in
+    ap (λ p. A.start c.in-Start.uniform c.in-Start.kind p) c.place-in-Start.ensures.place ∙ sym (ap (λ s. inline_stmt fs n (tstmt_of s)) c.in-Start.is)
+
+pub stmt-returns-in-Start-clause-next : goal.stmt-returns-in-Start-clause-next
+stmt-returns-in-Start-clause-next t c =
+    let fs = functions c.args.by_default c.args.known.now in
+    let n = c.args.next.now in
+    c.place-in-Start.ensures.next ∙ sym (ap (λ s. n + count_stmt fs (tstmt_of s)) c.in-Start.is)
+
+pub stmt-returns-in_ok-body-in-Block-clause-tree : goal.stmt-returns-in_ok-body-in-Block-clause-tree
+stmt-returns-in_ok-body-in-Block-clause-tree t c =
+    let fs = functions c.args.by_default c.args.known.now in
+    let n = c.args.next.now in
+    c.block_node.ensures ∙ block_tree fs n _ c.in-Block.line _ _ _ c.place-at.ensures.place c.place-at.ensures.next c.in_ok-body-in-Block.ensures.tree
+    ∙ ap (λ xs. inline_stmt fs n (T.block (T.stmts (map tstmt_of xs)) c.in-Block.line)) c.as_slice.ensures ∙ ap (inline_stmt fs n) (sym (block_shown c.args.s.now c.in-Block.body c.in-Block.line c.in-Block.is))
+
+pub stmt-returns-in_ok-body-in-Block-clause-next : goal.stmt-returns-in_ok-body-in-Block-clause-next
+stmt-returns-in_ok-body-in-Block-clause-next t c =
+    let fs = functions c.args.by_default c.args.known.now in
+    let n = c.args.next.now in
+    behind_one n _ _ _ c.place-at.ensures.next c.in_ok-body-in-Block.ensures.next
+    ∙ ap (λ xs. n + count_stmt fs (T.block (T.stmts (map tstmt_of xs)) c.in-Block.line)) c.as_slice.ensures ∙ ap (λ s. n + count_stmt fs s) (sym (block_shown c.args.s.now c.in-Block.body c.in-Block.line c.in-Block.is))
+
+pub stmt-returns-in_ok-body-in-Group-clause-tree : goal.stmt-returns-in_ok-body-in-Group-clause-tree
+stmt-returns-in_ok-body-in-Group-clause-tree t c =
+    let fs = functions c.args.by_default c.args.known.now in
+    let n = c.args.next.now in
+    c.group_node.ensures ∙ ap (λ x. A.group x) (c.in_ok-body-in-Group.ensures.tree ∙ ap (λ xs. inline_stmts fs n (T.stmts (map tstmt_of xs))) c.as_slice-in-Group.ensures)
+    ∙ ap (inline_stmt fs n) (sym (group_shown c.args.s.now c.in-Group.body c.in-Group.is))
+
+pub stmt-returns-in_ok-body-in-Group-clause-next : goal.stmt-returns-in_ok-body-in-Group-clause-next
+stmt-returns-in_ok-body-in-Group-clause-next t c =
+    let fs = functions c.args.by_default c.args.known.now in
+    let n = c.args.next.now in
+    c.in_ok-body-in-Group.ensures.next ∙ ap (λ xs. n + count_stmts fs (T.stmts (map tstmt_of xs))) c.as_slice-in-Group.ensures
+    ∙ ap (λ s. n + count_stmt fs s) (sym (group_shown c.args.s.now c.in-Group.body c.in-Group.is))
+
+pub stmt-returns-in_ok-value-in-Declare-clause-tree : goal.stmt-returns-in_ok-value-in-Declare-clause-tree
+stmt-returns-in_ok-value-in-Declare-clause-tree t c =
+    let fs = functions c.args.by_default c.args.known.now in
+    let n = c.args.next.now in
+    declare_tree fs n _ c.in-Declare.line c.in-Declare.uniform c.in-Declare.kind _ _ _ c.place-at-in-Declare.ensures.place c.place-at-in-Declare.ensures.next c.in_ok-value-in-Declare.ensures.tree
+    ∙ sym (ap (λ s. inline_stmt fs n (tstmt_of s)) c.in-Declare.is)
+
+pub stmt-returns-in_ok-value-in-Declare-clause-next : goal.stmt-returns-in_ok-value-in-Declare-clause-next
+stmt-returns-in_ok-value-in-Declare-clause-next t c =
+    let fs = functions c.args.by_default c.args.known.now in
+    let n = c.args.next.now in
+    behind_one n _ _ _ c.place-at-in-Declare.ensures.next c.in_ok-value-in-Declare.ensures.next ∙ sym (ap (λ s. n + count_stmt fs (tstmt_of s)) c.in-Declare.is)
+
+pub stmt-returns-in_ok-value-in-Set-clause-tree : goal.stmt-returns-in_ok-value-in-Set-clause-tree
+stmt-returns-in_ok-value-in-Set-clause-tree t c =
+    let fs = functions c.args.by_default c.args.known.now in
+    let n = c.args.next.now in
+    set_tree fs n _ c.in-Set.line c.in-Set.variable c.in-Set.operator c.in-Set.kind _ _ _ c.place-at-in-Set.ensures.place c.place-at-in-Set.ensures.next c.in_ok-value-in-Set.ensures.tree
+    ∙ sym (ap (λ s. inline_stmt fs n (tstmt_of s)) c.in-Set.is)
+
+pub stmt-returns-in_ok-value-in-Set-clause-next : goal.stmt-returns-in_ok-value-in-Set-clause-next
+stmt-returns-in_ok-value-in-Set-clause-next t c =
+    let fs = functions c.args.by_default c.args.known.now in
+    let n = c.args.next.now in
+    behind_one n _ _ _ c.place-at-in-Set.ensures.next c.in_ok-value-in-Set.ensures.next ∙ sym (ap (λ s. n + count_stmt fs (tstmt_of s)) c.in-Set.is)
+
+pub stmt-returns-in_ok-then-in-If-clause-tree : goal.stmt-returns-in_ok-then-in-If-clause-tree
+stmt-returns-in_ok-then-in-If-clause-tree t c =
+    let fs = functions c.args.by_default c.args.known.now in
+    let n = c.args.next.now in
+    test_tree fs n _ _ c.in-If.line _ _ _ _ _ c.place-at-in-If.ensures.place c.place-at-in-If.ensures.next c.in_ok-test-in-If.ensures.tree c.in_ok-test-in-If.ensures.next
+    c.in_ok-then-in-If.ensures.tree
+    ∙ ap (λ s. inline_stmt fs n (T.test (typed_of c.in-If.test) (tstmt_of s) c.in-If.line)) c.deref.ensures ∙ sym (ap (λ s. inline_stmt fs n (tstmt_of s)) c.in-If.is)
+
+pub stmt-returns-in_ok-then-in-If-clause-next : goal.stmt-returns-in_ok-then-in-If-clause-next
+stmt-returns-in_ok-then-in-If-clause-next t c =
+    let fs = functions c.args.by_default c.args.known.now in
+    let n = c.args.next.now in
+    behind_two n _ _ _ _ _ c.place-at-in-If.ensures.next c.in_ok-test-in-If.ensures.next c.in_ok-then-in-If.ensures.next
+    ∙ ap (λ s. n + count_stmt fs (T.test (typed_of c.in-If.test) (tstmt_of s) c.in-If.line)) c.deref.ensures ∙ sym (ap (λ s. n + count_stmt fs (tstmt_of s)) c.in-If.is)
+
+pub stmt-returns-in_ok-body-in-While-clause-tree : goal.stmt-returns-in_ok-body-in-While-clause-tree
+stmt-returns-in_ok-body-in-While-clause-tree t c =
+    let fs = functions c.args.by_default c.args.known.now in
+    let n = c.args.next.now in
+    repeat_tree fs n _ _ c.in-While.line _ _ _ _ _ c.place-at-in-While.ensures.place c.place-at-in-While.ensures.next c.in_ok-test-in-While.ensures.tree c.in_ok-test-in-While.ensures.next
+    c.in_ok-body-in-While.ensures.tree
+    ∙ ap (λ s. inline_stmt fs n (T.repeat (typed_of c.in-While.test) (tstmt_of s) c.in-While.line)) c.deref-in-While.ensures ∙ sym (ap (λ s. inline_stmt fs n (tstmt_of s)) c.in-While.is)
+
+pub stmt-returns-in_ok-body-in-While-clause-next : goal.stmt-returns-in_ok-body-in-While-clause-next
+stmt-returns-in_ok-body-in-While-clause-next t c =
+    let fs = functions c.args.by_default c.args.known.now in
+    let n = c.args.next.now in
+    behind_two n _ _ _ _ _ c.place-at-in-While.ensures.next c.in_ok-test-in-While.ensures.next c.in_ok-body-in-While.ensures.next
+    ∙ ap (λ s. n + count_stmt fs (T.repeat (typed_of c.in-While.test) (tstmt_of s) c.in-While.line)) c.deref-in-While.ensures ∙ sym (ap (λ s. n + count_stmt fs (tstmt_of s)) c.in-While.is)
+
+pub stmt-returns-in_ok-otherwise-in-IfElse-clause-tree : goal.stmt-returns-in_ok-otherwise-in-IfElse-clause-tree
+stmt-returns-in_ok-otherwise-in-IfElse-clause-tree t c =
+    let fs = functions c.args.by_default c.args.known.now in
+    let n = c.args.next.now in
+    else_tree fs n _ _ _ c.in-IfElse.line _ _ _ _ _ _ _ c.place-at-in-IfElse.ensures.place c.place-at-in-IfElse.ensures.next c.in_ok-test-in-IfElse.ensures.tree c.in_ok-test-in-IfElse.ensures.next
+    c.in_ok-then-in-IfElse.ensures.tree c.in_ok-then-in-IfElse.ensures.next c.in_ok-otherwise-in-IfElse.ensures.tree
+    ∙ ap₂ (λ s r. inline_stmt fs n (T.test_else (typed_of c.in-IfElse.test) (tstmt_of s) (tstmt_of r) c.in-IfElse.line)) c.deref-in-IfElse.ensures c.deref-in-IfElse-2.ensures ∙ sym (ap (λ s. inline_stmt fs n (tstmt_of s)) c.in-IfElse.is)
+
+pub stmt-returns-in_ok-otherwise-in-IfElse-clause-next : goal.stmt-returns-in_ok-otherwise-in-IfElse-clause-next
+stmt-returns-in_ok-otherwise-in-IfElse-clause-next t c =
+    let fs = functions c.args.by_default c.args.known.now in
+    let n = c.args.next.now in
+    behind_three n _ _ _ _ _ _ _ c.place-at-in-IfElse.ensures.next c.in_ok-test-in-IfElse.ensures.next c.in_ok-then-in-IfElse.ensures.next c.in_ok-otherwise-in-IfElse.ensures.next
+    ∙ ap₂ (λ s r. n + count_stmt fs (T.test_else (typed_of c.in-IfElse.test) (tstmt_of s) (tstmt_of r) c.in-IfElse.line)) c.deref-in-IfElse.ensures c.deref-in-IfElse-2.ensures ∙ sym (ap (λ s. n + count_stmt fs (tstmt_of s)) c.in-IfElse.is)
+
+pub stmt-returns-in_ok-body-in-Lights-clause-tree : goal.stmt-returns-in_ok-body-in-Lights-clause-tree
+stmt-returns-in_ok-body-in-Lights-clause-tree t c =
+    let fs = functions c.args.by_default c.args.known.now in
+    let n = c.args.next.now in
+    c.lights_node.ensures
+    ∙ lights_tree fs n _ _ c.in-Lights.line c.in-Lights.word _ _ _ _ _ c.place-at-in-Lights.ensures.place c.place-at-in-Lights.ensures.next c.in_ok-args-in-Lights.ensures.tree c.in_ok-args-in-Lights.ensures.next
+    c.in_ok-body-in-Lights.ensures.tree
+    ∙ ap₂ (λ xs s. inline_stmt fs n (T.lights c.in-Lights.word (T.exprs (map typed_of xs)) (tstmt_of s) c.in-Lights.line)) c.as_slice-in-Lights.ensures c.deref-in-Lights.ensures ∙ sym (ap (λ s. inline_stmt fs n (tstmt_of s)) c.in-Lights.is)
+
+pub stmt-returns-in_ok-body-in-Lights-clause-next : goal.stmt-returns-in_ok-body-in-Lights-clause-next
+stmt-returns-in_ok-body-in-Lights-clause-next t c =
+    let fs = functions c.args.by_default c.args.known.now in
+    let n = c.args.next.now in
+    behind_two n _ _ _ _ _ c.place-at-in-Lights.ensures.next c.in_ok-args-in-Lights.ensures.next c.in_ok-body-in-Lights.ensures.next
+    ∙ ap₂ (λ xs s. n + count_stmt fs (T.lights c.in-Lights.word (T.exprs (map typed_of xs)) (tstmt_of s) c.in-Lights.line)) c.as_slice-in-Lights.ensures c.deref-in-Lights.ensures ∙ sym (ap (λ s. n + count_stmt fs (tstmt_of s)) c.in-Lights.is)
+
+pub stmt-returns-in_ok-body-in-For-clause-next : goal.stmt-returns-in_ok-body-in-For-clause-next
+stmt-returns-in_ok-body-in-For-clause-next t c =
+    let fs = functions c.args.by_default c.args.known.now in
+    let n = c.args.next.now in
+    let steps : List TypedStmt → List TypedStmt → TypedStmt → T.Stmt = λ xs ys s. T.steps (T.stmts (map tstmt_of xs)) (typed_of c.in-For.test) (T.stmts (map tstmt_of ys)) (tstmt_of s) c.in-For.line in
+    behind_four n _ _ _ _ _ _ _ _ _ c.place-at-in-For.ensures.next c.in_ok-first-in-For.ensures.next c.in_ok-test-in-For.ensures.next c.in_ok-step-in-For.ensures.next c.in_ok-body-in-For.ensures.next
+    ∙ ap (λ xs. n + count_stmt fs (steps xs c.as_slice-in-For-2.result.now c.deref-in-For.result.now)) c.as_slice-in-For.ensures
+    ∙ ap₂ (λ ys s. n + count_stmt fs (steps c.in-For.first ys s)) c.as_slice-in-For-2.ensures c.deref-in-For.ensures
+    ∙ ap (λ s. n + count_stmt fs s) (sym (for_shown c.args.s.now c.in-For.first c.in-For.test c.in-For.step c.in-For.body c.in-For.line c.in-For.is))
