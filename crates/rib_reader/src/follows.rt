@@ -1,5 +1,5 @@
 /// What follows the arguments that a request has.
-#[derive(Debug, Clone, Copy, PartialEq, Eq)]
+#[derive(Clone, Copy)]
 pub enum Follows {
     /// Nothing.
     Nothing,

@@ -1,8 +1,9 @@
-ghost use Rattle.std.specs.Prelude.{◌≡◌, ◌≤◌, IfOk, OnOk, length, take, drop, option_map};
+ghost use Rattle.std.specs.Prelude.{◌≡◌, ◌≤◌, [], ◌∷◌, IfOk, OnOk, length, take, drop, option_map};
 ghost use Rattle.std.specs.List.{prefix_len};
 ghost use Rattle.rib_reader.specs.Values.{scan_of};
 ghost use Rattle.rib_reader.specs.Rules.{joined, three_as_one, word_at, dict_after};
 ghost use Rattle.rib_reader.specs.declared.req.Req.TheVariants.{Declare};
+ghost use Rattle.rib_reader.specs.declared.args.Arg.TheVariants.{Numbers};
 ghost use Rattle.rib_reader.specs.Laws.{JoinLaw, SpellLaw, ReadLaw};
 ghost use Rattle.rib_reader.specs.Reading.{is_value, first_word, list_in, checked, of_values, of_scan, of_group, requests_of, GivesOne, GivesAll};
 
@@ -23,21 +24,26 @@ use crate::rows::row;
 use crate::rules::following;
 use crate::scans::scan;
 use fixed_math::{List, NoMemory, Text};
-use rib_lex::{Token, TokenKind};
+use rib_lex::{Decimal, Token, TokenKind};
 use std::alloc::Global;
+
+// The one value that is an array of these numbers.
+fn as_array(alloc: Global, numbers: &[Decimal]) -> Result<List<Arg>, NoMemory>
+    ensures { IfOk result (λ r. r ≡ Numbers numbers.now ∷ []) }
+{
+    let mut array = Vec::new(alloc);
+    array.extend_from_slice(numbers)?;
+    let mut values = Vec::new(alloc);
+    values.push(Arg::Numbers(List(array)))?;
+    Ok(List(values))
+}
 
 // Three numbers are one array.
 fn join_three(alloc: Global, values: List<Arg>) -> Result<List<Arg>, NoMemory>
     ensures { IfOk result (λ r. r ≡ three_as_one values) }
 {
     if let [Arg::Number(a), Arg::Number(b), Arg::Number(c)] = values.0.as_slice() {
-        let mut numbers = Vec::new(alloc);
-        numbers.push(*a)?;
-        numbers.push(*b)?;
-        numbers.push(*c)?;
-        let mut joined = Vec::new(alloc);
-        joined.push(Arg::Numbers(List(numbers)))?;
-        return Ok(List(joined));
+        return as_array(alloc, &[*a, *b, *c]);
     }
     Ok(values)
 }
@@ -190,6 +196,21 @@ fn note_declared<'a>(
     Ok(())
 }
 
+// The request of a token with those behind it; what it declares holds from here on.
+fn read_next<'a>(
+    alloc: Global,
+    declarations: &mut Declarations<'a>,
+    head: &Token,
+    body: &'a [Token],
+) -> Result<Request, RibFault>
+    ensures request { GivesOne result (of_group declarations.old head.now.kind head.now.line body.now) }
+    ensures declared { IfOk result (λ request. declarations.new ≡ dict_after declarations.old request.name request.args) }
+{
+    let request = read_group(alloc, declarations, &head.kind, head.line, body)?;
+    note_declared(alloc, declarations, &request, body)?;
+    Ok(request)
+}
+
 fn inner(token: &Token) -> bool
     ensures { result ≡ is_value token.now }
 {
@@ -213,8 +234,7 @@ fn read_all(alloc: Global, tokens: &[Token]) -> Result<Vec<Request>, RibFault>
     let mut rest = tokens;
     while let Some((head, behind)) = rest.split_first() {
         let (body, after) = behind.split_at(body_len(behind));
-        let request = read_group(alloc, &declarations, &head.kind, head.line, body)?;
-        note_declared(alloc, &mut declarations, &request, body)?;
+        let request = read_next(alloc, &mut declarations, head, body)?;
         done.push(request)?;
         rest = after;
     }

@@ -7,7 +7,7 @@ use crate::params::{Class, Kind};
 use crate::req::Req;
 
 /// What a request's name stands for.
-#[derive(Debug, Clone, Copy, PartialEq, Eq)]
+#[derive(Clone, Copy)]
 pub enum Named {
     Known(Req),
     LeftOut,

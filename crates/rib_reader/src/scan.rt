@@ -1,4 +1,4 @@
-ghost use Rattle.std.specs.Prelude.{◌≡◌, IfOk, OnOk};
+ghost use Rattle.std.specs.Prelude.{◌≡◌, ◌||◌, false, [], IfOk, OnOk};
 
 use crate::args::Arg;
 use fixed_math::{List, NoMemory, Text};
@@ -19,7 +19,7 @@ pub struct Scan {
 }
 
 impl Scan {
-    ghost use Rattle.rib_reader.specs.Values.{start, with_array, scanned, ended};
+    ghost use Rattle.rib_reader.specs.Values.{start, array_in, is_mixed, with_array, scanned, ended};
 
     pub fn new(alloc: Global) -> Self
         ensures { result ≡ start }
@@ -33,19 +33,27 @@ impl Scan {
         }
     }
 
-    // The array that was begun is a value.
-    fn close(&mut self, alloc: Global) -> Result<(), NoMemory>
-        ensures { OnOk result (self.new ≡ with_array self.old) }
+    // Takes the array that was begun.
+    fn take_array(&mut self, alloc: Global) -> Arg
+        ensures array { result ≡ array_in self.old }
+        ensures taken { self.new ≡ record self.old { numbers = []; strings = []; inside = false; broken = self.old.broken || is_mixed self.old } }
     {
         let numbers = mem::replace(&mut self.numbers, List(Vec::new(alloc)));
         let strings = mem::replace(&mut self.strings, List(Vec::new(alloc)));
         self.inside = false;
         if strings.0.is_empty() {
-            self.values.0.push(Arg::Numbers(numbers))?;
-        } else {
-            self.broken = self.broken || !numbers.0.is_empty();
-            self.values.0.push(Arg::Strings(strings))?;
+            return Arg::Numbers(numbers);
         }
+        self.broken = self.broken || !numbers.0.is_empty();
+        Arg::Strings(strings)
+    }
+
+    // The array that was begun is a value.
+    fn close(&mut self, alloc: Global) -> Result<(), NoMemory>
+        ensures { OnOk result (self.new ≡ with_array self.old) }
+    {
+        let array = self.take_array(alloc);
+        self.values.0.push(array)?;
         Ok(())
     }
 

@@ -1,7 +1,7 @@
 use crate::faults::RibCode;
 
 /// The kind of an argument.
-#[derive(Debug, Clone, Copy, PartialEq, Eq)]
+#[derive(Clone, Copy)]
 pub enum Shape {
     /// A whole number.
     Whole,
@@ -15,7 +15,7 @@ pub enum Shape {
 }
 
 /// A set of words that an argument may be.
-#[derive(Debug, Clone, Copy, PartialEq, Eq)]
+#[derive(Clone, Copy)]
 pub enum Words {
     Projections,
     Filters,
@@ -32,7 +32,7 @@ pub enum Words {
 }
 
 /// What a row of the table says of the values of the arguments. Arguments are named by their places.
-#[derive(Debug, Clone, Copy, PartialEq, Eq)]
+#[derive(Clone, Copy)]
 pub enum Rule {
     /// The whole number there lies from the first number to the second, or S3.
     Within(usize, i64, i64),
@@ -55,7 +55,7 @@ pub enum Rule {
 }
 
 /// What may follow the arguments of a request.
-#[derive(Debug, Clone, Copy, PartialEq, Eq)]
+#[derive(Clone, Copy)]
 pub enum Tail {
     /// Nothing.
     Empty,
