@@ -7,6 +7,7 @@ mod expressions;
 mod fault;
 mod files;
 mod finding;
+mod for_steps;
 mod found;
 mod heads;
 mod lexer;

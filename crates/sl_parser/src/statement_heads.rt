@@ -7,6 +7,7 @@ ghost use Rattle.sl_parser.specs.Parsing.{Gives};
 
 use crate::declarations::maybe_assignment;
 use crate::expressions::expr;
+use crate::for_steps::for_step;
 use crate::reading::{Stop, behind, closed, past};
 use crate::token::{Mark, Token};
 use sl_ast::{Assignment, Cone, Expr};
@@ -48,10 +49,7 @@ pub fn for_head<'a>(
     let (first, rest) = closed(first, Mark::Semicolon, rest)?;
     let (test, rest) = expr(alloc, levels, rest)?;
     let (test, rest) = closed(test, Mark::Semicolon, rest)?;
-    let (step, rest) = maybe_assignment(alloc, levels, rest)?;
-    let head = ForHead { first, test, step };
-    let (head, rest) = closed(head, Mark::RightParen, rest)?;
-    Ok((Box::new(alloc, head)?, rest))
+    for_step(alloc, levels, first, test, rest)
 }
 
 // Two expressions with a comma between them, and a parenthesis.
