@@ -45,18 +45,18 @@ pub fn scene(alloc: Global, requests: &[Request]) -> Result<Scene, StateFault>
     ensures gives { GivesScene result requests.now }
     ensures uses { IfOk result InFirstUse }
 {
-    let state = state_of(alloc, requests)?;
-    if state.blocks.len() != 0 {
+    let State {
+        blocks,
+        frames,
+        shaders,
+        ..
+    } = state_of(alloc, requests)?;
+    let Shaders { uses, .. } = shaders;
+    if blocks.len() != 0 {
         return Err(StateFault::At {
             code: StateCode::N4,
             line: last_line(requests),
         });
     }
-    let State {
-        frames,
-        shaders,
-        ..
-    } = state;
-    let Shaders { uses, .. } = shaders;
     Ok(Scene { frames, uses })
 }

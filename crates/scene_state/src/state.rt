@@ -63,16 +63,19 @@ impl State {
     pub(crate) fn first(alloc: Global) -> Result<State, NoMemory>
         ensures { IfOk result (λ s. s ≡ first_state) }
     {
+        let shaders = Shaders::first(alloc)?;
+        let attributes = Attributes::first(alloc)?;
+        let name = SharedName::new(alloc, Text::from_bytes(alloc, b"out.ppm")?)?;
         Ok(State {
             choices: Choices::first(),
-            name: SharedName::new(alloc, Text::from_bytes(alloc, b"out.ppm")?)?,
-            attributes: Attributes::first(alloc)?,
+            name,
+            attributes,
             current: Affine::identity(),
             blocks: List(Vec::new(alloc)),
             world: None,
             prims: Prims::new(alloc),
             handles: List(Vec::new(alloc)),
-            shaders: Shaders::first(alloc)?,
+            shaders,
             frames: List(Vec::new(alloc)),
         })
     }
