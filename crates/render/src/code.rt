@@ -6,7 +6,7 @@ use rib_lex::LexCode;
 use rib_reader::RibCode;
 use scene_state::StateCode;
 use sl_parser::SlCode;
-use sl_types::TypeCode;
+use sl_typing::TypeCode;
 
 /// The code of a refused scene or shader, as notes have it.
 #[derive(Debug, Clone, Copy, PartialEq, Eq)]

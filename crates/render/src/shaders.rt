@@ -25,7 +25,8 @@ use outside::{Fetch, Library};
 use scene_state::ShaderUse;
 use sl_ast::Tree;
 use sl_parser::{SlFault, parse};
-use sl_types::{TypeFault, check};
+use sl_types::check;
+use sl_typing::TypeFault;
 use std::alloc::Global;
 
 /// The most bytes of a shader's file.
