@@ -147,15 +147,9 @@ fn square(depth: i128) -> Quad {
 
 #[test]
 fn a_square_covers_its_places(rt: HostRuntime) -> Result<(), Fail> {
-    for (x, y, covered) in [
-        (0, 0, true),
-        (511, 1, true),
-        (512, 1, false),
-        (1, 512, false),
-    ] {
-        let fragment = covers(&square(7), Spot::new(x, y));
-        assert_eq!(rt; fragment.is_some(), covered);
-    }
+    assert!(rt; covers(&square(7), Spot::new(0, 0)).is_some());
+    assert!(rt; covers(&square(7), Spot::new(512, 1)).is_none());
+    assert!(rt; covers(&square(7), Spot::new(1, 512)).is_none());
     let fragment = covers(&square(7), Spot::new(511, 1)).ok_or("a fragment")?;
     assert_eq!(rt; (fragment.depth.raw(), fragment.colour.y.raw()), (7, 32768));
     Ok(())

@@ -1,6 +1,7 @@
+ghost use Rattle.std.specs.Prelude.{◌≡◌, true};
 ghost use Rattle.sl_ast.specs.TreeView.{tree_of};
-ghost use Rattle.sl_types.specs.Distinct.{AreDistinct};
 ghost use Rattle.render.specs.Bindings.{declared_names};
+ghost use Rattle.render.specs.Distinct.{are_distinct};
 ghost use Rattle.render.specs.Shaders.{IsCompilable};
 
 use fixed_math::Text;
@@ -12,5 +13,5 @@ pub(crate) struct ReadShader {
     pub name: Text,
     pub tree: Tree,
     pub ghost compilable: { IsCompilable (tree_of tree) },
-    pub ghost distinct: { AreDistinct (declared_names (tree_of tree)) },
+    pub ghost distinct: { are_distinct (declared_names (tree_of tree)) ≡ true },
 }

@@ -149,6 +149,7 @@ fn fetch_text<L: Library>(alloc: Global, library: &mut L, name: &Text) -> Result
 }
 
 // Reads the shader of a name.
+#[tactic(auto, using(crate::proofs::Declared::each_once))]
 fn read_shader<L: Library>(
     alloc: Global,
     library: &mut L,
