@@ -1,5 +1,5 @@
 -- Where no two parameters have one name, a variable fits all of them where it fits the one of its name.
-use Rattle.std.proofs.Common.{◌≡◌, ℕ, suc, Bool, true, false, not, ◌&&◌, ◌||◌, List, [], ◌∷◌, map, Option, Some, None, option_map, cond, refl, sym, ap, ap₂, ◌∙◌}
+use Rattle.std.proofs.Common.{◌≡◌, ℕ, suc, Bool, true, false, not, ◌&&◌, ◌||◌, List, [], ◌∷◌, map, Option, Some, None, option_map, cond, refl, sym, ap, ◌∙◌}
 use Rattle.std.specs.Prelude.{slice_get, is_none}
 use Rattle.std.specs.List.{list_any}
 use Rattle.std.specs.Option.{option_or}
@@ -55,3 +55,8 @@ at_its_place x [] distinct = refl
 at_its_place x (l ∷ ls) distinct =
     let apart = none_there (last_place l.name (map local_name ls)) (are_distinct (map local_name ls)) distinct in
     behind_head x l ls (place_in x.name ls) (bytes_eq l.name x.name) apart.0 refl refl (at_its_place x ls apart.1)
+
+-- the same for a place that a table of these names has found
+pub found_in : (x : VariableValue) (ls : List Local) (names : List (List ℕ)) (o : Option ℕ) → names ≡ map local_name ls → are_distinct (map local_name ls) ≡ true
+    → o ≡ last_place x.name names → unfit_at_place x ls o ≡ list_any (is_unfit x) ls
+found_in x ls names o table distinct found = ap (unfit_at_place x ls) (found ∙ ap (last_place x.name) table) ∙ at_its_place x ls distinct

@@ -1,7 +1,8 @@
 // How the variables of primitives fit the parameters of their shaders.
-ghost use Rattle.std.specs.Prelude.{◌≡◌, IsErrOf, map, slice_get};
+ghost use Rattle.std.specs.Prelude.{◌≡◌, IsErrOf, map, option_map, slice_get};
 ghost use Rattle.std.specs.List.{list_any};
 ghost use Rattle.sl_ast.specs.TypedView.{local_of};
+ghost use Rattle.sl_ast.specs.TreeView.{tree_of};
 ghost use Rattle.render.specs.PrimBindings as spec;
 ghost use Rattle.render.specs.Reading.{tree_read, declared_by};
 ghost use Rattle.render.specs.Answers.{Clears};
@@ -15,7 +16,7 @@ use crate::shaders::UsedShaders;
 use displace_shade::sets_predefined;
 use fixed_math::Names;
 use scene_state::{Frame, Prim, Scene, Variable};
-use sl_ast::ParamDecl;
+use sl_ast::{ParamDecl, Tree};
 use std::alloc::Global;
 
 // Whether a variable has the name of a parameter and can't give it its value.
@@ -28,8 +29,14 @@ fn is_unfit(variable: &Variable, param: &ParamDecl) -> bool
     named && (other_kind || varies)
 }
 
+// The parameter at that place, where there is one.
+fn declared_at(tree: &Tree, place: usize) -> Option<&ParamDecl>
+    ensures { option_map (λ p. local_of p.now) result ≡ slice_get (tree_of tree.now).params place }
+{
+    tree.params().get(place)
+}
+
 // Whether a variable doesn't fit the parameter of its name, where the shader declares one.
-#[tactic(auto, using(crate::proofs::Declared::at_its_place))]
 fn is_unfit_named(shader: &ReadShader, names: &Names<'_>, variable: &Variable) -> bool
     requires { names.now ≡ declared_by shader.now }
     ensures { result ≡ list_any (spec.is_unfit variable.now) (tree_read shader.now).params }
@@ -37,7 +44,7 @@ fn is_unfit_named(shader: &ReadShader, names: &Names<'_>, variable: &Variable) -
     let Some(place) = names.place_of(&variable.name) else {
         return false;
     };
-    match shader.tree.params().get(place) {
+    match declared_at(&shader.tree, place) {
         Some(param) => is_unfit(variable, param),
         None => false,
     }

@@ -29,6 +29,6 @@ returns-in_err-tree-clause-reads g c =
 pub returns-clause-reads : goal.returns-clause-reads
 returns-clause-reads g c =
     let held = g.L.Library.held c.args.library.now in
-    let s : ReadShader = record { name = c.in_ok-copied.field-0; tree = c.in_ok-tree.tree; compilable = c.result-2-1.given.0 } in
+    let s : ReadShader = record { name = c.in_ok-copied.field-0; tree = c.in_ok-tree.tree; compilable = c.result-2-1.given.0; distinct = c.result-2-1.given.1.0 } in
     text_read held c.args.name.now c.in_ok-text.text.items s c.in_ok-text.ensures.gives c.in_ok-copied.ensures
     (subst (λ b. tree_of_bytes c.args.name.now b ≡ Ok (tree_of c.in_ok-tree.tree)) c.deref.ensures.value c.in_ok-tree.ensures.gives)
