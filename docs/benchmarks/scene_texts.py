@@ -77,6 +77,7 @@ KINDS = {
     # blocks and depth
     "blocks_lit": (full(LIT_FRAMES, "AttributeBegin AttributeEnd\n"), "-"),
     "switched_lit": (full(LIT_FRAMES + 'LightSource "a" 1\n', "Illuminate 1 0 Illuminate 1 1\n"), "-"),
+    "blocks_switched_lit": (full(LIT_FRAMES + 'LightSource "a" 1\n', "AttributeBegin Illuminate 1 0 AttributeEnd\n"), "-"),
     "blocks_64": (full("", "AttributeBegin\n" * 64 + "AttributeEnd\n" * 64), "-"),
     "frames_named": (full('Display "' + "a" * (MOST // 2) + '" "file" "rgb"\n', "FrameBegin 1 FrameEnd\n"), "-"),
     "blocks_open": (full("", "AttributeBegin\n"), "kind.rib:65: M1"),

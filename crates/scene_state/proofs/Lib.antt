@@ -1,5 +1,6 @@
 mod Words
 pub mod Runs
+pub mod BoundedLights
 pub mod Laying
 pub mod Keeping
 pub mod Places

@@ -3,8 +3,8 @@ ghost use Rattle.std.specs.Prelude.{◌≡◌, IfOk};
 ghost use Rattle.scene_state.specs.Shaders.{first_attributes};
 
 use crate::bases::Bases;
+use crate::lights_in_force::LightsInForce;
 use crate::look::Look;
-use crate::shared_lights::SharedLights;
 use fixed_math::NoMemory;
 use std::alloc::Global;
 
@@ -16,7 +16,7 @@ pub(crate) struct Attributes {
     pub(crate) surface: usize,
     pub(crate) displacement: Option<usize>,
     pub(crate) atmosphere: Option<usize>,
-    pub(crate) lights: SharedLights,
+    pub(crate) lights: LightsInForce,
 }
 
 impl Attributes {
@@ -30,7 +30,7 @@ impl Attributes {
             surface: 0,
             displacement: None,
             atmosphere: None,
-            lights: SharedLights::none(alloc)?,
+            lights: LightsInForce::none(alloc)?,
         })
     }
 

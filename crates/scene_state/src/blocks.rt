@@ -7,7 +7,7 @@ ghost use Rattle.scene_state.specs.declared.state.Block.TheVariants.{InAttribute
 use crate::attributes::Attributes;
 use crate::fault::{StateCode, Stop, code_of};
 use crate::frame::Frame;
-use crate::shared_lights::SharedLights;
+use crate::lights_in_force::LightsInForce;
 use crate::state::{Block, State, World};
 use fixed_math::{List, NoMemory};
 use std::alloc::Global;
@@ -36,12 +36,22 @@ impl State {
         self.blocks.0.pop()
     }
 
-    // Brings back what a block saved.
-    fn restore(&mut self, attributes: Attributes, current: Affine)
-        ensures { self.new ≡ record self.old { attributes = attributes; current = current } }
+    // Brings back what a block saved. Where a world has ended in the block, no light that was in force at its start has a number.
+    fn restore(
+        &mut self,
+        alloc: Global,
+        attributes: Attributes,
+        current: Affine,
+    ) -> Result<(), NoMemory>
+        ensures { IfOk result (λ _. self.new ≡ record self.old { attributes = attributes; current = current }) }
     {
         self.attributes = attributes;
         self.current = current;
+        let first = match self.handles.as_slice().first() {
+            Some(handle) => handle.light,
+            None => self.shaders.slots.len(),
+        };
+        self.attributes.lights.settle(alloc, first)
     }
 
     pub(crate) fn begin_frame(&mut self) -> Result<(), Stop>
@@ -59,7 +69,7 @@ impl State {
         self.open(block)
     }
 
-    pub(crate) fn end_frame(&mut self) -> Result<(), Stop>
+    pub(crate) fn end_frame(&mut self, alloc: Global) -> Result<(), Stop>
         ensures { Steps result (frame_ended (innermost self.old.blocks) self.old) self.new }
     {
         match self.close() {
@@ -73,7 +83,7 @@ impl State {
             ) => {
                 self.choices = choices;
                 self.name = name;
-                self.restore(attributes, current);
+                self.restore(alloc, attributes, current)?;
                 Ok(())
             }
             _ => Err(Stop::Fault(StateCode::N1)),
@@ -90,7 +100,7 @@ impl State {
         self.open(block)
     }
 
-    pub(crate) fn end_attributes(&mut self) -> Result<(), Stop>
+    pub(crate) fn end_attributes(&mut self, alloc: Global) -> Result<(), Stop>
         ensures { Steps result (attributes_ended (innermost self.old.blocks) self.old) self.new }
     {
         match self.close() {
@@ -100,7 +110,7 @@ impl State {
                     current,
                 },
             ) => {
-                self.restore(attributes, current);
+                self.restore(alloc, attributes, current)?;
                 Ok(())
             }
             _ => Err(Stop::Fault(StateCode::N1)),
@@ -182,7 +192,7 @@ impl State {
             return Err(Stop::Fault(StateCode::M2));
         }
         self.add_frame(alloc, world)?;
-        self.attributes.lights = SharedLights::none(alloc)?;
+        self.attributes.lights = LightsInForce::none(alloc)?;
         self.world = None;
         self.handles = List(Vec::new(alloc));
         Ok(())
@@ -198,7 +208,7 @@ impl State {
                     current,
                 },
             ) => {
-                self.restore(attributes, current);
+                self.restore(alloc, attributes, current)?;
                 match self.world {
                     Some(world) => self.make_frame(alloc, &world),
                     None => Err(Stop::Fault(StateCode::N1)),

@@ -10,6 +10,7 @@ mod fault;
 mod filter;
 mod frame;
 mod lights;
+mod lights_in_force;
 mod look;
 mod options;
 mod patching;

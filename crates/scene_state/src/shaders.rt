@@ -125,7 +125,8 @@ impl Shaders {
         let displacement = self.place_some(attributes.displacement)?;
         let surface = self.place(attributes.surface)?;
         let atmosphere = self.place_some(attributes.atmosphere)?;
-        let lights = self.place_all(alloc, attributes.lights.as_slice())?;
+        let in_force = attributes.lights.in_order(alloc)?;
+        let lights = self.place_all(alloc, in_force.as_slice())?;
         Ok(Worn {
             surface,
             displacement,

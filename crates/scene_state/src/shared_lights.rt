@@ -1,14 +1,13 @@
-// Lists of lights that saved attributes share.
+// Lists of lights that many hold.
 ghost use Rattle.std.specs.Prelude.{◌≡◌, [], ◌∷◌, ◌++◌, IfOk};
-ghost use Rattle.scene_state.specs.Shaders.{is_among, with_light, without_light};
+ghost use Rattle.scene_state.specs.Shaders.{is_among, without_light};
 
 use fixed_math::{List, NoMemory};
 use std::alloc::Global;
 use std::marker::Model;
 use std::rc::Rc;
 
-/// The lights in force, which many may hold in one place of memory: a scene can put tens of thousands of lights into force, and
-/// then open blocks by the hundred thousand, each of which brings them back at its end. Contracts see the list.
+/// Lights in order, which many may hold in one place of memory. Contracts see the list.
 #[derive(Drop)]
 pub(crate) struct SharedLights {
     lights: Rc<List<usize>, Global>,
@@ -55,13 +54,20 @@ impl SharedLights {
         self.lights.as_ref().as_slice()
     }
 
-    // These and one more.
-    fn and(&self, alloc: Global, light: usize) -> Result<SharedLights, NoMemory>
-        ensures { IfOk result (λ l. l ≡ self.now ++ light ∷ []) }
+    /// Whether the light is one of them.
+    pub(crate) fn has(&self, light: usize) -> bool
+        ensures { result ≡ is_among light self.now }
+    {
+        self.as_slice().iter().any(|other| *other == light)
+    }
+
+    /// These and others behind them.
+    pub(crate) fn and(&self, alloc: Global, others: &[usize]) -> Result<SharedLights, NoMemory>
+        ensures { IfOk result (λ l. l ≡ self.now ++ others.now) }
     {
         let mut lights = Vec::new(alloc);
         lights.extend_from_slice(self.as_slice())?;
-        lights.push(light)?;
+        lights.extend_from_slice(others)?;
         SharedLights::of(alloc, List(lights))
     }
 
@@ -71,22 +77,12 @@ impl SharedLights {
     {
         match Rc::get_mut(&mut self.lights) {
             Some(lights) => lights.0.push(light)?,
-            None => *self = self.and(alloc, light)?,
+            None => *self = self.and(alloc, &[light])?,
         }
         Ok(())
     }
 
-    /// Puts a light into force, last, where it isn't in force.
-    pub(crate) fn put(&mut self, alloc: Global, light: usize) -> Result<(), NoMemory>
-        ensures { IfOk result (λ _. self.new ≡ with_light light self.old) }
-    {
-        if !is_among(light, self.as_slice()) {
-            self.push(alloc, light)?;
-        }
-        Ok(())
-    }
-
-    /// The lights in force without this one.
+    /// The lights without this one.
     pub(crate) fn without(&self, alloc: Global, light: usize) -> Result<SharedLights, NoMemory>
         ensures { IfOk result (λ l. l ≡ without_light light self.now) }
     {
@@ -97,10 +93,4 @@ impl SharedLights {
             .filter(|other| *other != light);
         SharedLights::of(alloc, List(kept.collect(alloc)?))
     }
-}
-
-fn is_among(light: usize, lights: &[usize]) -> bool
-    ensures { result ≡ is_among light lights.now }
-{
-    lights.iter().any(|other| *other == light)
 }

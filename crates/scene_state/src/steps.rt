@@ -62,11 +62,11 @@ impl State {
     {
         match request.name {
             Req::FrameBegin => self.begin_frame(),
-            Req::FrameEnd => self.end_frame(),
+            Req::FrameEnd => self.end_frame(alloc),
             Req::WorldBegin => self.begin_world(),
             Req::WorldEnd => self.end_world(alloc),
             Req::AttributeBegin => self.begin_attributes(),
-            Req::AttributeEnd => self.end_attributes(),
+            Req::AttributeEnd => self.end_attributes(alloc),
             Req::TransformBegin => self.begin_transform(),
             Req::TransformEnd => self.end_transform(),
             Req::Format

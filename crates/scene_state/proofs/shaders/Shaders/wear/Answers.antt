@@ -7,4 +7,4 @@ pub returns : goal.returns
 returns c =
     worn_is c.args.self.now c.args.attributes.now (c.place_some.new.self, c.in_ok-displacement.displacement) (c.place.new.self, c.in_ok-surface.surface)
     (c.place_some-2.new.self, c.in_ok-atmosphere.atmosphere) (c.place_all.new.self, c.in_ok-lights.lights)
-    c.in_ok-displacement.ensures c.in_ok-surface.ensures c.in_ok-atmosphere.ensures (c.in_ok-lights.ensures ∙ ap (all_placed c.place_some-2.new.self) c.as_slice.ensures)
+    c.in_ok-displacement.ensures c.in_ok-surface.ensures c.in_ok-atmosphere.ensures (c.in_ok-lights.ensures ∙ ap (all_placed c.place_some-2.new.self) (c.as_slice.ensures.value ∙ c.in_ok-in_force.ensures))
