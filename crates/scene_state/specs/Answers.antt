@@ -25,11 +25,11 @@ abbrev pub stopped_at : ℕ → Stop → StateFault
 stopped_at line (Fault code) = faults.At code line
 stopped_at line NoMemory = faults.NoMemory
 
--- the state behind these requests, or its first fault with its line
-abbrev pub GivesState : Result State StateFault → Result State Placed → Type 0
-GivesState (Ok s) found = found ≡ Ok s
-GivesState (Err (faults.At code line)) found = found ≡ Err (code, line)
-GivesState (Err faults.NoMemory) found = Unit {0}
+-- the new state is the one behind these requests, or the fault is their first with its line
+abbrev pub GivesState : {A : Type 0} → Result A StateFault → Result State Placed → State → Type 0
+GivesState (Ok done) found new = found ≡ Ok new
+GivesState (Err (faults.At code line)) found new = found ≡ Err (code, line)
+GivesState (Err faults.NoMemory) found new = Unit {0}
 
 -- the map and the points, or the code of their fault
 abbrev pub GivesPoints : Result (Map × List Vec3) Stop → Located → Type 0

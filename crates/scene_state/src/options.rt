@@ -7,7 +7,7 @@ use std::marker::Model;
 /// The options of a picture. `xs` and `ys`, 1 to 16, are the samples across and down a pixel; `wx` and `wy`, 1 to 4,096,
 /// the widths of the filter in 1/256 pixel; `gain` and `gamma` the exposure, with `gamma` above 0; `one`, 1 to 255, the
 /// value of a full channel, which is put into `min` to `max`, with `min <= max <= one`.
-#[derive(Debug, Clone, Copy, PartialEq, Eq)]
+#[derive(Clone, Copy)]
 pub struct Options {
     pub xs: u8,
     pub ys: u8,

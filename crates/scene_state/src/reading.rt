@@ -7,23 +7,11 @@ ghost use Rattle.scene_state.specs.Answers.{GivesState, GivesScene};
 
 use crate::fault::{StateCode, StateFault};
 use crate::frame::Scene;
-use crate::shaders::Shaders;
 use crate::state::State;
+use fixed_math::List;
 use rib_reader::Request;
 use std::alloc::Global;
-
-// The state behind the requests.
-fn state_of(alloc: Global, requests: &[Request]) -> Result<State, StateFault>
-    ensures { GivesState result (state_from first_state (map plain requests.now)) }
-{
-    let mut state = State::first(alloc)?;
-    for request in requests {
-        if let Err(stop) = state.step(alloc, request) {
-            return Err(stop.at(request.line));
-        }
-    }
-    Ok(state)
-}
+use std::mem;
 
 // The line of the last request, 1 where there is none.
 fn last_line(requests: &[Request]) -> u32
@@ -32,6 +20,39 @@ fn last_line(requests: &[Request]) -> u32
     match requests.last() {
         Some(request) => request.line,
         None => 1,
+    }
+}
+
+impl State {
+    // Goes through the requests, one after another.
+    fn go_through(&mut self, alloc: Global, requests: &[Request]) -> Result<(), StateFault>
+        ensures { GivesState result (state_from self.old (map plain requests.now)) self.new }
+    {
+        for request in requests {
+            if let Err(stop) = self.step(alloc, request) {
+                return Err(stop.at(request.line));
+            }
+        }
+        Ok(())
+    }
+
+    // The scene of these requests, which it takes out of the state.
+    fn scene_of(&mut self, alloc: Global, requests: &[Request]) -> Result<Scene, StateFault>
+        requires { self.old ≡ first_state }
+        ensures gives { GivesScene result requests.now }
+        ensures uses { IfOk result InFirstUse }
+    {
+        self.go_through(alloc, requests)?;
+        if self.blocks.len() != 0 {
+            return Err(StateFault::At {
+                code: StateCode::N4,
+                line: last_line(requests),
+            });
+        }
+        Ok(Scene {
+            frames: mem::replace(&mut self.frames, List(Vec::new(alloc))),
+            uses: mem::replace(&mut self.shaders.uses, List(Vec::new(alloc))),
+        })
     }
 }
 
@@ -45,18 +66,6 @@ pub fn scene(alloc: Global, requests: &[Request]) -> Result<Scene, StateFault>
     ensures gives { GivesScene result requests.now }
     ensures uses { IfOk result InFirstUse }
 {
-    let State {
-        blocks,
-        frames,
-        shaders,
-        ..
-    } = state_of(alloc, requests)?;
-    let Shaders { uses, .. } = shaders;
-    if blocks.len() != 0 {
-        return Err(StateFault::At {
-            code: StateCode::N4,
-            line: last_line(requests),
-        });
-    }
-    Ok(Scene { frames, uses })
+    let mut state = State::first(alloc)?;
+    state.scene_of(alloc, requests)
 }

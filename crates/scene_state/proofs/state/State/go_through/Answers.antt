@@ -2,14 +2,13 @@ use Rattle.std.proofs.Common.{◌≡◌, ◌∙◌, ap, sym, refl, subst, arith,
 use Rattle.std.proofs.Math.Seq.{drop-cons}
 use Rattle.rib_reader.specs.declared.request.Request.{Request}
 use Rattle.rib_reader.specs.Reading.{plain}
-use Rattle.scene_state.specs.State.{first_state}
 use Rattle.scene_state.specs.Steps.{Placed, after, and_then, state_from}
 use Rattle.scene_state.specs.Answers.{Steps, GivesState, stopped_at}
 use Rattle.scene_state.specs.declared.state.State.{State}
 use Rattle.scene_state.specs.declared.fault.StateCode.{StateCode}
 use Rattle.scene_state.specs.declared.fault.Stop.{Stop}
 use Rattle.scene_state.specs.declared.fault.Stop.TheVariants.{Fault, NoMemory}
-use Rattle.scene_state.proofs.reading.state_of.Goals as goal
+use Rattle.scene_state.proofs.state.State.go_through.Goals as goal
 
 -- the requests from one on
 cut : (rs : List Request) (k : ℕ) (x : Request) → k < length rs → x ≡ slice_index_or rs k x → map plain (drop k rs) ≡ plain x ∷ map plain (drop (k + 1) rs)
@@ -28,7 +27,7 @@ one_done rs k x s t all result done h is steps e inv =
     sym (ap (λ st. and_then st (plain x).line (λ u. state_from u rest)) to) ∙ sym (ap (state_from s) (cut rs k x h is)) ∙ inv
 
 one_stopped : (rs : List Request) (k : ℕ) (x : Request) (s t : State) (all : Result State Placed) (stop : Stop) → k < length rs → x ≡ slice_index_or rs k x →
-    ((code : StateCode) → stop ≡ Fault code → after (plain x) s ≡ Err code) → state_from s (map plain (drop k rs)) ≡ all → GivesState (Err (stopped_at (plain x).line stop)) all
+    ((code : StateCode) → stop ≡ Fault code → after (plain x) s ≡ Err code) → state_from s (map plain (drop k rs)) ≡ all → GivesState {A = Unit {0}} (Err (stopped_at (plain x).line stop)) all t
 one_stopped rs k x s t all (Fault code) h is to inv =
     let rest = map plain (drop (k + 1) rs) in
     sym inv ∙ ap (state_from s) (cut rs k x h is) ∙ ap (λ st. and_then st (plain x).line (λ u. state_from u rest)) (to code refl)
@@ -42,16 +41,16 @@ returns-in-Err c =
     let rs = c.args.requests.now in
     let k = c.loop-request.request-index in
     let x = c.request-item.result in
-    let s = c.loop-request.state in
-    let all = state_from first_state (map plain rs) in
-    subst (λ f. GivesState (Err f) all) (sym c.at.ensures)
+    let s = c.loop-request.self in
+    let all = state_from c.args.self.now (map plain rs) in
+    subst (λ f. GivesState {A = Unit {0}} (Err f) all c.step.new.self) (sym c.at.ensures)
     (one_stopped rs k x s c.step.new.self all c.in-Err.stop c.loop-request-test.true c.request-item.is
     (λ code e. subst (λ r. Steps r (after (plain x) s) c.step.new.self) (c.in-Err.is ∙ ap (λ p. Err p) e) c.step.ensures) c.loop-request.invariant)
 
 pub loop-request-preserved : goal.loop-request-preserved
 loop-request-preserved c =
-    one_done c.args.requests.now c.loop-request.request-index c.request-item.result c.loop-request.state c.step.new.self _ c.step.result c.in_default.field-0 c.loop-request-test.true c.request-item.is
+    one_done c.args.requests.now c.loop-request.request-index c.request-item.result c.loop-request.self c.step.new.self _ c.step.result c.in_default.field-0 c.loop-request-test.true c.request-item.is
     c.step.ensures c.in_default.is c.loop-request.invariant
 
 pub returns : goal.returns
-returns c = all_done c.args.requests.now c.loop-request.request-index c.loop-request.state _ c.loop-request-test.false c.loop-request.invariant
+returns c = all_done c.args.requests.now c.loop-request.request-index c.loop-request.self _ c.loop-request-test.false c.loop-request.invariant
