@@ -1,13 +1,14 @@
-use Rattle.std.proofs.Common.{◌≡◌, ◌+◌, List, IfOk, OnOk, length, map, get_or, arith, ap, ap₂, sym, subst, ◌∙◌}
+use Rattle.std.proofs.Common.{◌≡◌, ◌+◌, List, [], IfOk, OnOk, length, map, get_or, arith, ap, ap₂, sym, subst, ◌∙◌}
 use Rattle.std.proofs.lemmas.List.{length-map}
 use Rattle.sl_ast.specs.Typed as A
 use Rattle.sl_ast.specs.TypedView.{tree_expr, tree_stmt}
+use Rattle.sl_types.specs.Folds.{fold, fold_stmt, fold_stmts}
 use Rattle.sl_types.specs.Extents.{absent}
 use Rattle.sl_types.specs.Inline.{nothing, extents_of, count, count_args, count_stmt, count_stmts, inline, inline_args, inline_stmt, inline_stmts}
 use Rattle.sl_types.specs.InlineView.{functions}
 use Rattle.sl_typing.specs.Typed as T
 use Rattle.sl_typing.specs.TypedView.{typed_of, tlink_of, tstmt_of}
-use Rattle.sl_types.specs.Weights.{weight, weight_stmt, weight_stmts}
+use Rattle.sl_types.specs.Weights.{weighing}
 use Rattle.sl_types.proofs.Chains.{chain_shown, count_links, tree_links, links_counted, links_weighed, links_inlined, links_split, links_end, light_link, pair_tree, call_tree, on_ok}
 use Rattle.sl_types.proofs.Numbered.{extent_at}
 use Rattle.sl_types.proofs.Placed.{light_arg, light_stmt, args_before, stmts_before, args_alone, stmts_alone, args_split, stmts_split, args_end, stmts_end, args_step, stmts_step, for_tree}
@@ -22,7 +23,7 @@ expr-call-requires t c =
     let q = ap (count fs) (call_shown c.args.e.now c.in-Call.function c.in-Call.args c.in-Call.kind c.in-Call.line c.in-Call.is) in
     let x : (get_or (extents_of fs) c.in-Call.function absent).nodes ≡ (get_or fs c.in-Call.function nothing).extent.nodes = ap (λ y. y.nodes) (extent_at fs c.in-Call.function) in
     let d = ap (λ xs. count_args fs (T.exprs (map typed_of xs))) c.as_slice-in-Call.ensures in
-    let w = ap weight (call_shown c.args.e.now c.in-Call.function c.in-Call.args c.in-Call.kind c.in-Call.line c.in-Call.is) in
+    let w = ap (fold weighing []) (call_shown c.args.e.now c.in-Call.function c.in-Call.args c.in-Call.kind c.in-Call.line c.in-Call.is) in
     (omega (arith, c.decreases, w), omega (arith, c.requires, q, x, d, c.place-at-in-Call.ensures.next, c.in_ok-args-in-Call.ensures.next))
 
 pub expr-returns-in_ok-args-in-Call-clause-next : goal.expr-returns-in_ok-args-in-Call-clause-next
@@ -39,19 +40,19 @@ pub expr-chain-requires : goal.expr-chain-requires
 expr-chain-requires t c =
     let fs = functions c.args.by_default c.args.known.now in
     let q = ap (count fs) (chain_shown c.args.e.now c.in-Chain.first c.in-Chain.links c.in-Chain.operation c.in-Chain.operand c.in-Chain.kind c.in-Chain.line c.in-Chain.is) in
-    let w = ap weight (chain_shown c.args.e.now c.in-Chain.first c.in-Chain.links c.in-Chain.operation c.in-Chain.operand c.in-Chain.kind c.in-Chain.line c.in-Chain.is) in
+    let w = ap (fold weighing []) (chain_shown c.args.e.now c.in-Chain.first c.in-Chain.links c.in-Chain.operation c.in-Chain.operand c.in-Chain.kind c.in-Chain.line c.in-Chain.is) in
     let d = ap₂ (λ x xs. count fs (T.chained (typed_of x) (map tlink_of xs))) c.deref.ensures c.as_slice-in-Chain.ensures in
-    let v = ap₂ (λ x xs. weight (T.chained (typed_of x) (map tlink_of xs))) c.deref.ensures c.as_slice-in-Chain.ensures in
+    let v = ap₂ (λ x xs. fold weighing [] (T.chained (typed_of x) (map tlink_of xs))) c.deref.ensures c.as_slice-in-Chain.ensures in
     (omega (arith, c.decreases, w, v), omega (arith, c.requires, q, d, c.place-at-in-Chain.ensures.next))
 
 pub expr-expr-requires : goal.expr-expr-requires
 expr-expr-requires t c =
     let fs = functions c.args.by_default c.args.known.now in
     let q = ap (count fs) (chain_shown c.args.e.now c.in-Chain.first c.in-Chain.links c.in-Chain.operation c.in-Chain.operand c.in-Chain.kind c.in-Chain.line c.in-Chain.is) in
-    let w = ap weight (chain_shown c.args.e.now c.in-Chain.first c.in-Chain.links c.in-Chain.operation c.in-Chain.operand c.in-Chain.kind c.in-Chain.line c.in-Chain.is) in
+    let w = ap (fold weighing []) (chain_shown c.args.e.now c.in-Chain.first c.in-Chain.links c.in-Chain.operation c.in-Chain.operand c.in-Chain.kind c.in-Chain.line c.in-Chain.is) in
     let d = ap₂ (λ x xs. count fs (T.chained (typed_of x) (map tlink_of xs))) c.deref.ensures c.as_slice-in-Chain.ensures in
     let b = ap (λ x. count fs (typed_of x)) c.deref-in-Chain.ensures in
-    let v = ap (λ x. weight (typed_of x)) c.deref-in-Chain.ensures in
+    let v = ap (λ x. fold weighing [] (typed_of x)) c.deref-in-Chain.ensures in
     (omega (arith, c.decreases, w, v), omega (arith, c.requires, q, d, b, c.place-at-in-Chain.ensures.next, c.in_ok-before-in-Chain.ensures.next))
 
 pub expr-returns-in_ok-operand-in-Chain-clause-tree : goal.expr-returns-in_ok-operand-in-Chain-clause-tree
@@ -157,8 +158,8 @@ stmt-stmts-requires-in-For t c =
     let fs = functions c.args.by_default c.args.known.now in
     let q = ap (count_stmt fs) (for_shown c.args.s.now c.in-For.first c.in-For.test c.in-For.step c.in-For.body c.in-For.line c.in-For.is) in
     let d = ap (λ xs. count_stmts fs (T.stmts (map tstmt_of xs))) c.as_slice-in-For.ensures in
-    let w = ap weight_stmt (for_shown c.args.s.now c.in-For.first c.in-For.test c.in-For.step c.in-For.body c.in-For.line c.in-For.is) in
-    let v = ap (λ xs. weight_stmts (T.stmts (map tstmt_of xs))) c.as_slice-in-For.ensures in
+    let w = ap (fold_stmt weighing []) (for_shown c.args.s.now c.in-For.first c.in-For.test c.in-For.step c.in-For.body c.in-For.line c.in-For.is) in
+    let v = ap (λ xs. fold_stmts weighing [] (T.stmts (map tstmt_of xs))) c.as_slice-in-For.ensures in
     (omega (arith, c.decreases, w, v), omega (arith, c.requires, q, d, c.place-at-in-For.ensures.next))
 
 pub stmt-expr-requires-in-For : goal.stmt-expr-requires-in-For
@@ -166,7 +167,7 @@ stmt-expr-requires-in-For t c =
     let fs = functions c.args.by_default c.args.known.now in
     let q = ap (count_stmt fs) (for_shown c.args.s.now c.in-For.first c.in-For.test c.in-For.step c.in-For.body c.in-For.line c.in-For.is) in
     let d = ap (λ xs. count_stmts fs (T.stmts (map tstmt_of xs))) c.as_slice-in-For.ensures in
-    let w = ap weight_stmt (for_shown c.args.s.now c.in-For.first c.in-For.test c.in-For.step c.in-For.body c.in-For.line c.in-For.is) in
+    let w = ap (fold_stmt weighing []) (for_shown c.args.s.now c.in-For.first c.in-For.test c.in-For.step c.in-For.body c.in-For.line c.in-For.is) in
     (omega (arith, c.decreases, w), omega (arith, c.requires, q, d, c.place-at-in-For.ensures.next, c.in_ok-first-in-For.ensures.next))
 
 pub stmt-branch-deref-requires-in-For : goal.stmt-branch-deref-requires-in-For
@@ -176,8 +177,8 @@ stmt-branch-deref-requires-in-For t c =
     let d = ap (λ xs. count_stmts fs (T.stmts (map tstmt_of xs))) c.as_slice-in-For.ensures in
     let f = ap (λ xs. count_stmts fs (T.stmts (map tstmt_of xs))) c.as_slice-in-For-2.ensures in
     let b = ap (λ s. count_stmt fs (tstmt_of s)) c.deref-in-For.ensures in
-    let w = ap weight_stmt (for_shown c.args.s.now c.in-For.first c.in-For.test c.in-For.step c.in-For.body c.in-For.line c.in-For.is) in
-    let v = ap (λ s. weight_stmt (tstmt_of s)) c.deref-in-For.ensures in
+    let w = ap (fold_stmt weighing []) (for_shown c.args.s.now c.in-For.first c.in-For.test c.in-For.step c.in-For.body c.in-For.line c.in-For.is) in
+    let v = ap (λ s. fold_stmt weighing [] (tstmt_of s)) c.deref-in-For.ensures in
     (omega (arith, c.decreases, w, v), omega (arith, c.requires, q, d, f, b, c.place-at-in-For.ensures.next, c.in_ok-first-in-For.ensures.next, c.in_ok-test-in-For.ensures.next, c.in_ok-step-in-For.ensures.next))
 
 pub stmt-returns-in_ok-body-in-For-clause-tree : goal.stmt-returns-in_ok-body-in-For-clause-tree
