@@ -297,7 +297,8 @@ pub stmt-returns-in_ok-value-in-Declare-clause-tree : goal.stmt-returns-in_ok-va
 stmt-returns-in_ok-value-in-Declare-clause-tree t c =
     let fs = functions c.args.by_default c.args.known.now in
     let n = c.args.next.now in
-    declare_tree fs n _ c.in-Declare.line c.in-Declare.uniform c.in-Declare.kind _ _ _ c.place-at-in-Declare.ensures.place c.place-at-in-Declare.ensures.next c.in_ok-value-in-Declare.ensures.tree
+    c.declare_node.ensures
+    ∙ declare_tree fs n _ c.in-Declare.line c.in-Declare.uniform c.in-Declare.kind _ _ _ c.place-at-in-Declare.ensures.place c.place-at-in-Declare.ensures.next c.in_ok-value-in-Declare.ensures.tree
     ∙ sym (ap (λ s. inline_stmt fs n (tstmt_of s)) c.in-Declare.is)
 
 pub stmt-returns-in_ok-value-in-Declare-clause-next : goal.stmt-returns-in_ok-value-in-Declare-clause-next
@@ -310,7 +311,8 @@ pub stmt-returns-in_ok-value-in-Set-clause-tree : goal.stmt-returns-in_ok-value-
 stmt-returns-in_ok-value-in-Set-clause-tree t c =
     let fs = functions c.args.by_default c.args.known.now in
     let n = c.args.next.now in
-    set_tree fs n _ c.in-Set.line c.in-Set.variable c.in-Set.operator c.in-Set.kind _ _ _ c.place-at-in-Set.ensures.place c.place-at-in-Set.ensures.next c.in_ok-value-in-Set.ensures.tree
+    c.set_node.ensures
+    ∙ set_tree fs n _ c.in-Set.line c.in-Set.variable c.in-Set.operator c.in-Set.kind _ _ _ c.place-at-in-Set.ensures.place c.place-at-in-Set.ensures.next c.in_ok-value-in-Set.ensures.tree
     ∙ sym (ap (λ s. inline_stmt fs n (tstmt_of s)) c.in-Set.is)
 
 pub stmt-returns-in_ok-value-in-Set-clause-next : goal.stmt-returns-in_ok-value-in-Set-clause-next
@@ -323,7 +325,8 @@ pub stmt-returns-in_ok-then-in-If-clause-tree : goal.stmt-returns-in_ok-then-in-
 stmt-returns-in_ok-then-in-If-clause-tree t c =
     let fs = functions c.args.by_default c.args.known.now in
     let n = c.args.next.now in
-    test_tree fs n _ _ c.in-If.line _ _ _ _ _ c.place-at-in-If.ensures.place c.place-at-in-If.ensures.next c.in_ok-test-in-If.ensures.tree c.in_ok-test-in-If.ensures.next
+    c.if_node.ensures
+    ∙ test_tree fs n _ _ c.in-If.line _ _ _ _ _ c.place-at-in-If.ensures.place c.place-at-in-If.ensures.next c.in_ok-test-in-If.ensures.tree c.in_ok-test-in-If.ensures.next
     c.in_ok-then-in-If.ensures.tree
     ∙ ap (λ s. inline_stmt fs n (T.test (typed_of c.in-If.test) (tstmt_of s) c.in-If.line)) c.deref.ensures ∙ sym (ap (λ s. inline_stmt fs n (tstmt_of s)) c.in-If.is)
 
@@ -338,7 +341,8 @@ pub stmt-returns-in_ok-body-in-While-clause-tree : goal.stmt-returns-in_ok-body-
 stmt-returns-in_ok-body-in-While-clause-tree t c =
     let fs = functions c.args.by_default c.args.known.now in
     let n = c.args.next.now in
-    repeat_tree fs n _ _ c.in-While.line _ _ _ _ _ c.place-at-in-While.ensures.place c.place-at-in-While.ensures.next c.in_ok-test-in-While.ensures.tree c.in_ok-test-in-While.ensures.next
+    c.while_node.ensures
+    ∙ repeat_tree fs n _ _ c.in-While.line _ _ _ _ _ c.place-at-in-While.ensures.place c.place-at-in-While.ensures.next c.in_ok-test-in-While.ensures.tree c.in_ok-test-in-While.ensures.next
     c.in_ok-body-in-While.ensures.tree
     ∙ ap (λ s. inline_stmt fs n (T.repeat (typed_of c.in-While.test) (tstmt_of s) c.in-While.line)) c.deref-in-While.ensures ∙ sym (ap (λ s. inline_stmt fs n (tstmt_of s)) c.in-While.is)
 
@@ -353,7 +357,8 @@ pub stmt-returns-in_ok-otherwise-in-IfElse-clause-tree : goal.stmt-returns-in_ok
 stmt-returns-in_ok-otherwise-in-IfElse-clause-tree t c =
     let fs = functions c.args.by_default c.args.known.now in
     let n = c.args.next.now in
-    else_tree fs n _ _ _ c.in-IfElse.line _ _ _ _ _ _ _ c.place-at-in-IfElse.ensures.place c.place-at-in-IfElse.ensures.next c.in_ok-test-in-IfElse.ensures.tree c.in_ok-test-in-IfElse.ensures.next
+    c.if_else_node.ensures
+    ∙ else_tree fs n _ _ _ c.in-IfElse.line _ _ _ _ _ _ _ c.place-at-in-IfElse.ensures.place c.place-at-in-IfElse.ensures.next c.in_ok-test-in-IfElse.ensures.tree c.in_ok-test-in-IfElse.ensures.next
     c.in_ok-then-in-IfElse.ensures.tree c.in_ok-then-in-IfElse.ensures.next c.in_ok-otherwise-in-IfElse.ensures.tree
     ∙ ap₂ (λ s r. inline_stmt fs n (T.test_else (typed_of c.in-IfElse.test) (tstmt_of s) (tstmt_of r) c.in-IfElse.line)) c.deref-in-IfElse.ensures c.deref-in-IfElse-2.ensures ∙ sym (ap (λ s. inline_stmt fs n (tstmt_of s)) c.in-IfElse.is)
 
