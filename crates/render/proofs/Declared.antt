@@ -1,26 +1,17 @@
 -- Where no two parameters have one name, a variable fits all of them where it fits the one of its name.
 use Rattle.std.proofs.Common.{◌≡◌, ℕ, suc, Bool, true, false, not, ◌&&◌, ◌||◌, List, [], ◌∷◌, map, Option, Some, None, option_map, cond, refl, sym, ap, ◌∙◌}
-use Rattle.std.specs.Prelude.{slice_get, is_none}
+use Rattle.std.specs.Prelude.{slice_get}
 use Rattle.std.specs.List.{list_any}
 use Rattle.std.specs.Option.{option_or}
 use Rattle.std.specs.Str.{bytes_eq}
 use Rattle.fixed_math.specs.Names.{last_place}
 use Rattle.scene_state.specs.Scene.{VariableValue}
 use Rattle.sl_ast.specs.Typed.{Local}
-use Rattle.sl_types.specs.Distinct.{AreDistinct}
+use Rattle.sl_types.specs.Distinct.{are_distinct}
+use Rattle.sl_types.proofs.Distinct.{distinct_parts}
 use Rattle.render.specs.Bindings.{is_of_type, local_name}
-use Rattle.render.specs.Distinct.{are_distinct}
 use Rattle.render.specs.PrimBindings.{is_unfit}
 use Rattle.render.proofs.Names.{same_name}
-
--- each name stands once, as a fact and as a truth
-pub each_once : (names : List (List ℕ)) → AreDistinct names → are_distinct names ≡ true
-each_once [] distinct = refl
-each_once (name ∷ names) distinct = ap (λ o. is_none o && are_distinct names) distinct.0 ∙ each_once names distinct.1
-
-none_there : (o : Option ℕ) (rest : Bool) → (is_none o && rest) ≡ true → (o ≡ None) × (rest ≡ true)
-none_there None rest h = (refl, h)
-none_there (Some k) rest h = absurd (cc h)
 
 abbrev place_in : List ℕ → List Local → Option ℕ
 place_in name ls = last_place name (map local_name ls)
@@ -53,7 +44,7 @@ behind_head x l ls None false apart at named rest = rest ∙ sym (passed x l ls 
 pub at_its_place : (x : VariableValue) (ls : List Local) → are_distinct (map local_name ls) ≡ true → unfit_at_place x ls (place_in x.name ls) ≡ list_any (is_unfit x) ls
 at_its_place x [] distinct = refl
 at_its_place x (l ∷ ls) distinct =
-    let apart = none_there (last_place l.name (map local_name ls)) (are_distinct (map local_name ls)) distinct in
+    let apart = distinct_parts l.name (map local_name ls) distinct in
     behind_head x l ls (place_in x.name ls) (bytes_eq l.name x.name) apart.0 refl refl (at_its_place x ls apart.1)
 
 -- the same for a place that a table of these names has found

@@ -6,7 +6,6 @@ pub mod Notes
 pub mod Pictures
 pub mod Shaders
 pub mod Bindings
-pub mod Distinct
 pub mod PrimBindings
 pub mod Bound
 pub mod Set

@@ -1,5 +1,5 @@
 // The shaders of a scene, from a library or the stock.
-ghost use Rattle.std.specs.Prelude.{◌≡◌, ◌≤◌, ◌∷◌, ◌++◌, [], IsErrOf, OnOk, OnErr, IfOk, Some, None, map, length, option_map, false, slice_get};
+ghost use Rattle.std.specs.Prelude.{◌≡◌, ◌≤◌, ◌∷◌, ◌++◌, [], IsErrOf, OnOk, OnErr, IfOk, Some, None, map, length, option_map, true, false, slice_get};
 ghost use Rattle.std.specs.Str.{IsAscii};
 ghost use Rattle.outside.specs.Causes.{Rose, Told};
 ghost use Rattle.outside.specs.Library.{held_as};
@@ -9,7 +9,7 @@ ghost use Rattle.sl_ast.specs.Settled.{IsSettled};
 ghost use Rattle.sl_ast.specs.TreeView.{tree_of};
 ghost use Rattle.sl_parser.specs.Files.{parsed};
 ghost use Rattle.sl_types.specs.Checked.{checked};
-ghost use Rattle.sl_types.specs.Distinct.{AreDistinct};
+ghost use Rattle.sl_types.specs.Distinct.{are_distinct};
 ghost use Rattle.render.specs.Bindings.{declared_names};
 ghost use Rattle.render.specs.Shaders.{IsCompilable, file_of, stock_text, tree_in_rows, tree_of_checked, tree_of_parsed, tree_of_bytes, shader_names, shaders_asked};
 ghost use Rattle.render.specs.Answers.{Gives};
@@ -45,10 +45,10 @@ pub(crate) struct UsedShaders {
 // A typed tree whose code takes no more rows than there may be.
 fn in_rows(alloc: Global, name: &Text, tree: Tree) -> Result<Tree, Refusal>
     requires settled { IsSettled (tree_of tree) }
-    requires distinct { AreDistinct (declared_names (tree_of tree)) }
+    requires distinct { are_distinct (declared_names (tree_of tree)) ≡ true }
     ensures gives { Gives tree_of result (tree_in_rows name.now (tree_of tree)) }
     ensures compilable { IfOk result (λ t. IsCompilable (tree_of t)) }
-    ensures distinct { IfOk result (λ t. AreDistinct (declared_names (tree_of t))) }
+    ensures distinct { IfOk result (λ t. are_distinct (declared_names (tree_of t)) ≡ true) }
     ensures read { IsErrOf result ReadFault → ⊥ }
 {
     if MOST_ROWS < rows(alloc, &tree)? {
@@ -61,7 +61,7 @@ fn in_rows(alloc: Global, name: &Text, tree: Tree) -> Result<Tree, Refusal>
 fn typed(alloc: Global, name: &Text, shader: &sl_ast::Shader) -> Result<Tree, Refusal>
     ensures gives { Gives tree_of result (tree_of_checked name.now (checked (shader_of shader.now))) }
     ensures compilable { IfOk result (λ t. IsCompilable (tree_of t)) }
-    ensures distinct { IfOk result (λ t. AreDistinct (declared_names (tree_of t))) }
+    ensures distinct { IfOk result (λ t. are_distinct (declared_names (tree_of t)) ≡ true) }
     ensures read { IsErrOf result ReadFault → ⊥ }
 {
     match check(alloc, shader) {
@@ -76,7 +76,7 @@ fn of_text(alloc: Global, name: &Text, text: &[u8]) -> Result<Tree, Refusal>
     requires { length text.now ≤ 1048576 }
     ensures gives { Gives tree_of result (tree_of_parsed name.now (parsed text.now)) }
     ensures compilable { IfOk result (λ t. IsCompilable (tree_of t)) }
-    ensures distinct { IfOk result (λ t. AreDistinct (declared_names (tree_of t))) }
+    ensures distinct { IfOk result (λ t. are_distinct (declared_names (tree_of t)) ≡ true) }
     ensures read { IsErrOf result ReadFault → ⊥ }
 {
     match parse(alloc, text) {
@@ -90,7 +90,7 @@ fn of_text(alloc: Global, name: &Text, text: &[u8]) -> Result<Tree, Refusal>
 fn of_bytes(alloc: Global, name: &Text, bytes: &[u8]) -> Result<Tree, Refusal>
     ensures gives { Gives tree_of result (tree_of_bytes name.now bytes.now) }
     ensures compilable { IfOk result (λ t. IsCompilable (tree_of t)) }
-    ensures distinct { IfOk result (λ t. AreDistinct (declared_names (tree_of t))) }
+    ensures distinct { IfOk result (λ t. are_distinct (declared_names (tree_of t)) ≡ true) }
     ensures read { IsErrOf result ReadFault → ⊥ }
 {
     if MOST_BYTES < bytes.len() as u64 {
@@ -149,7 +149,6 @@ fn fetch_text<L: Library>(alloc: Global, library: &mut L, name: &Text) -> Result
 }
 
 // Reads the shader of a name.
-#[tactic(auto, using(crate::proofs::Declared::each_once))]
 fn read_shader<L: Library>(
     alloc: Global,
     library: &mut L,

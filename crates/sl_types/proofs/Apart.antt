@@ -1,39 +1,19 @@
 -- No two parameters of a file have one name: the second is refused.
 use Rattle.std.proofs.Common.{◌≡◌, ℕ, suc, Bool, true, false, cond, List, [], ◌∷◌, ◌++◌, map, length, is_some, Option, Some, None, Result, Ok, Err, IfOk, true≢false, refl, sym, ap, ◌∙◌, subst}
 use Rattle.std.proofs.lemmas.Bool.{cond_both}
-use Rattle.std.specs.Cmp.Lexicographic.{bytes_decides}
 use Rattle.std.specs.Option.{option_map, option_or}
 use Rattle.std.specs.Str.{bytes_eq}
 use Rattle.fixed_math.specs.Names.{last_place}
-use Rattle.fixed_math.proofs.LastPlaces.{last_place-push}
 use Rattle.sl_ast.specs.Syntax as U
 use Rattle.sl_ast.specs.declared.kinds.SlType.{SlType}
 use Rattle.sl_typing.specs.Found.{Found}
 use Rattle.sl_typing.specs.Scope.{Local, one_further, level_of, Around}
-use Rattle.sl_typing.specs.Stmts.{is_varying, typed_rows}
+use Rattle.sl_typing.specs.Stmts.{typed_rows}
 use Rattle.sl_typing.specs.Functions.{known_from, Param, locals_of, by_default, default_in, typed_param, typed_params, typed_groups, Program, in_body, program}
-use Rattle.sl_types.specs.Distinct.{AreDistinct}
+use Rattle.sl_types.specs.Distinct.{are_distinct}
 use Rattle.sl_types.specs.Inline.{declared_of, tree_of}
+use Rattle.sl_types.proofs.Distinct.{distinct_push}
 use Rattle.sl_types.proofs.WellScope.{Good, good_bind, good_any}
-
-differ : (a b : List ℕ) → bytes_eq a b ≡ false → bytes_eq b a ≡ false
-differ a b e = by (bytes_eq b a) refl
-  where
-    by : (t : Bool) → bytes_eq b a ≡ t → t ≡ false
-    by true f = absurd (true≢false (sym ((bytes_decides a b).1 (sym ((bytes_decides b a).0 f))) ∙ e))
-    by false f = refl
-
-nowhere : (o : Option ℕ) (b : Bool) → option_or (option_map suc o) (cond b (Some 0) None) ≡ None → (o ≡ None) × (b ≡ false)
-nowhere None true h = absurd (cc h)
-nowhere None false h = (refl, refl)
-nowhere (Some k) b h = absurd (cc h)
-
--- a name that isn't among them comes behind them
-distinct_push : (ns : List (List ℕ)) (n : List ℕ) → AreDistinct ns → last_place n ns ≡ None → AreDistinct (ns ++ n ∷ [])
-distinct_push [] n d h = (refl, tt)
-distinct_push (m ∷ ms) n d h =
-    let parts = nowhere (last_place n ms) (bytes_eq m n) h in
-    (last_place-push ms n m ∙ ap (λ b. cond b (Some (length ms)) (last_place m ms)) (differ m n parts.1) ∙ d.0, distinct_push ms n d.1 parts.0)
 
 -- the place of a name among variables is its level
 abbrev place_of : Option (ℕ × Local) → Option ℕ
@@ -58,7 +38,7 @@ none_placed None e = refl
 none_placed (Some x) e = absurd (true≢false e)
 
 abbrev Apart : List Param → Type 0
-Apart ps = AreDistinct (names_in (locals_of ps))
+Apart ps = are_distinct (names_in (locals_of ps)) ≡ true
 
 names_push : (ps : List Param) (p : Param) → names_in (locals_of (ps ++ p ∷ [])) ≡ names_in (locals_of ps) ++ p.local.name ∷ []
 names_push [] p = refl
@@ -67,8 +47,8 @@ names_push (x ∷ ps) p = ap (λ ns. x.local.name ∷ ns) (names_push ps p)
 push_apart : (ps : List Param) (p : Param) → Apart ps → is_some (level_of p.local.name (locals_of ps)) ≡ false → Apart (ps ++ p ∷ [])
 push_apart ps p h e =
     let name = p.local.name in
-    subst AreDistinct (sym (names_push ps p))
-    (distinct_push (names_in (locals_of ps)) name h (level_place name (locals_of ps) ∙ none_placed (level_of name (locals_of ps)) e))
+    ap are_distinct (names_push ps p)
+    ∙ distinct_push (names_in (locals_of ps)) name h (level_place name (locals_of ps) ∙ none_placed (level_of name (locals_of ps)) e)
 
 param_apart : (g : Around) (uniform : Bool) (type : SlType) (ps : List Param) (d : U.Declared) → Apart ps → Good (typed_param g uniform type ps d) Apart
 param_apart g uniform type ps d h =
@@ -88,7 +68,7 @@ groups_apart g ps (x ∷ xs) h =
 program_apart : (s : U.Shader) → Good (program s) (λ p. Apart p.params)
 program_apart s =
     good_bind (known_from s.kind [] s.functions) _ (λ known. Unit {0}) (λ p. Apart p.params) (good_any (known_from s.kind [] s.functions))
-    (λ known u. good_bind (typed_groups (by_default s.kind known) [] s.params) _ Apart (λ p. Apart p.params) (groups_apart (by_default s.kind known) [] s.params tt)
+    (λ known u. good_bind (typed_groups (by_default s.kind known) [] s.params) _ Apart (λ p. Apart p.params) (groups_apart (by_default s.kind known) [] s.params refl)
     (λ params h. good_bind (typed_rows (in_body s.kind known) (length params) (locals_of params) s.body) _ (λ rows. Unit {0}) (λ p. Apart p.params)
     (good_any (typed_rows (in_body s.kind known) (length params) (locals_of params) s.body)) (λ rows q. h)))
 
@@ -99,8 +79,8 @@ names_kept (p ∷ ps) = ap (λ ns. p.local.name ∷ ns) (names_kept ps)
 good_ok : {A : Type 0} (r : Found A) (a : A) (P : A → Type 0) → r ≡ Ok a → Good r P → P a
 good_ok r a P is h = subst (λ x. Good x P) is h
 
-pub distinct_params : (s : U.Shader) (p : Program) → program s ≡ Ok p → AreDistinct (map (λ l. l.name) (tree_of s p).params)
-distinct_params s p is = subst AreDistinct (sym (names_kept p.params)) (good_ok (program s) p (λ q. Apart q.params) is (program_apart s))
+pub distinct_params : (s : U.Shader) (p : Program) → program s ≡ Ok p → are_distinct (map (λ l. l.name) (tree_of s p).params) ≡ true
+distinct_params s p is = ap are_distinct (names_kept p.params) ∙ good_ok (program s) p (λ q. Apart q.params) is (program_apart s)
 
 -- what holds of a value holds of it where it is given
 pub all_kept : {A E : Type 0} (P : A → Type 0) (a : A) (r : Result A E) → IfOk r (λ x. x ≡ a) → P a → IfOk r P

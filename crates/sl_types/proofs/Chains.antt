@@ -9,7 +9,8 @@ use Rattle.sl_ast.specs.declared.typed.Place.{Place}
 use Rattle.sl_typing.specs.Typed as T
 use Rattle.sl_typing.specs.TypedView.{typed_of, tlink_of}
 use Rattle.sl_types.specs.Inline.{Built, nothing, at, called_at, count, count_args, inline, inline_args}
-use Rattle.sl_types.specs.Weights.{weight}
+use Rattle.sl_types.specs.Folds.{fold}
+use Rattle.sl_types.specs.Weights.{weighing}
 use Rattle.sl_typing.specs.declared.typed.TypedExpr.{TypedExpr, Chain}
 use Rattle.sl_typing.specs.declared.typed.TypedLink.{TypedLink}
 use Rattle.sl_typing.proofs.Rows.{held_chain}
@@ -28,13 +29,13 @@ count_links fs (l ∷ ls) = count fs l.operand + count_links fs ls
 
 abbrev pub weight_links : List T.Link → ℕ
 weight_links [] = 0
-weight_links (l ∷ ls) = weight l.operand + 4 + weight_links ls
+weight_links (l ∷ ls) = fold weighing [] l.operand + 4 + weight_links ls
 
 pub links_counted : (fs : List Built) (e : T.Expr) (ls : List T.Link) → count fs (T.chained e ls) ≡ count fs e + length ls + count_links fs ls
 links_counted fs e [] = omega arith
 links_counted fs e (l ∷ ls) = omega (arith, links_counted fs (T.linked e l) ls)
 
-pub links_weighed : (e : T.Expr) (ls : List T.Link) → weight (T.chained e ls) ≡ weight e + weight_links ls
+pub links_weighed : (e : T.Expr) (ls : List T.Link) → fold weighing [] (T.chained e ls) ≡ fold weighing [] e + weight_links ls
 links_weighed e [] = omega arith
 links_weighed e (l ∷ ls) = omega (arith, links_weighed (T.linked e l) ls)
 
@@ -70,9 +71,9 @@ links_end [] (suc i) high = refl
 links_end (y ∷ ys) zero high = absurd (omega (arith, high))
 links_end (y ∷ ys) (suc i) high = links_end ys i (omega (arith, high))
 
-pub light_link : (xs : List TypedLink) (i : ℕ) (x : TypedLink) → i < length xs → x ≡ get_or xs i x → weight (typed_of x.operand) < weight_links (map tlink_of xs)
+pub light_link : (xs : List TypedLink) (i : ℕ) (x : TypedLink) → i < length xs → x ≡ get_or xs i x → fold weighing [] (typed_of x.operand) < weight_links (map tlink_of xs)
 light_link [] i x low is = absurd (omega (arith, low))
-light_link (y ∷ ys) zero x low is = let q = ap (λ l. weight (typed_of l.operand)) is in omega arith
+light_link (y ∷ ys) zero x low is = let q = ap (λ l. fold weighing [] (typed_of l.operand)) is in omega arith
 light_link (y ∷ ys) (suc i) x low is = omega (arith, light_link ys i x (omega (arith, low)) is)
 
 -- an operator over two operands, and a call, from trees of their parts

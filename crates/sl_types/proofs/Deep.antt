@@ -4,21 +4,22 @@ use Rattle.sl_ast.specs.Typed as A
 use Rattle.sl_typing.specs.Found.{Found}
 use Rattle.sl_typing.specs.Scope.{Local, Callee, body_in}
 use Rattle.sl_typing.specs.Typed.{Expr, number, word, variable, apply, call, Exprs, none, more, Stmt, empty, leave, again, block, group, declare, start, assign, test, test_else, repeat, steps, lights, Stmts, done, first, Body}
-use Rattle.sl_types.specs.Extents.{Extent, absent, extent, extent_args, extent_stmt, extent_stmts, extent_body, extents_from}
+use Rattle.sl_types.specs.Folds.{fold, fold_args, fold_stmt, fold_stmts, fold_body}
+use Rattle.sl_types.specs.Extents.{Extent, absent, extents_from, counting}
 use Rattle.sl_types.specs.Inline.{Built, nothing, extents_of, count, count_args, count_stmt, count_stmts, inline, inline_args, inline_stmt, inline_stmts, built_in, built_from}
 use Rattle.sl_types.proofs.Numbered.{Sound, AllSound, nothing_sound, sound_at, extent_at, numbered, numbered_stmts}
 
 abbrev depth_in : List Built → Expr → ℕ
-depth_in fs e = (extent (extents_of fs) e).depth
+depth_in fs e = (fold counting (extents_of fs) e).depth
 
 abbrev depth_all : List Built → Exprs → ℕ
-depth_all fs es = (extent_args (extents_of fs) es).depth
+depth_all fs es = (fold_args counting (extents_of fs) es).depth
 
 abbrev depth_at : List Built → Stmt → ℕ
-depth_at fs s = (extent_stmt (extents_of fs) s).depth
+depth_at fs s = (fold_stmt counting (extents_of fs) s).depth
 
 abbrev depth_rows : List Built → Stmts → ℕ
-depth_rows fs ss = (extent_stmts (extents_of fs) ss).depth
+depth_rows fs ss = (fold_stmts counting (extents_of fs) ss).depth
 
 mutual
   pub deep : (fs : List Built) → AllSound fs → (n : ℕ) (e : Expr) → A.depth (inline fs n e) ≡ depth_in fs e
@@ -83,7 +84,7 @@ all_sound default fs (c ∷ cs) all =
     all_sound default (fs ++ built_in fs c.formals (body_in default c) ∷ []) cs
     (one_more fs (built_in fs c.formals (body_in default c)) all (built_sound fs all c.formals (body_in default c)))
 
-extent_of_one : (fs : List Built) (formals : List Local) (body : Found Body) → (built_in fs formals body).extent ≡ extent_body (extents_of fs) body
+extent_of_one : (fs : List Built) (formals : List Local) (body : Found Body) → (built_in fs formals body).extent ≡ fold_body counting (extents_of fs) body
 extent_of_one fs formals (Ok b) = refl
 extent_of_one fs formals (Err e) = refl
 
@@ -95,4 +96,4 @@ pub extents_are : (default : Bool) (fs : List Built) (cs : List Callee) → exte
 extents_are default fs [] = refl
 extents_are default fs (c ∷ cs) =
     extents_are default (fs ++ built_in fs c.formals (body_in default c) ∷ []) cs
-    ∙ ap (λ xs. extents_from default xs cs) (behind fs (built_in fs c.formals (body_in default c)) (extent_body (extents_of fs) (body_in default c)) (extent_of_one fs c.formals (body_in default c)))
+    ∙ ap (λ xs. extents_from default xs cs) (behind fs (built_in fs c.formals (body_in default c)) (fold_body counting (extents_of fs) (body_in default c)) (extent_of_one fs c.formals (body_in default c)))

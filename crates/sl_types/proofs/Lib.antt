@@ -13,5 +13,6 @@ pub mod WellCalls
 pub mod WellStmts
 pub mod WellFile
 pub mod Parted
+pub mod Distinct
 pub mod Apart
 pub mod StmtTrees

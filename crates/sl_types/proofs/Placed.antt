@@ -14,7 +14,8 @@ use Rattle.sl_typing.specs.declared.typed.TypedExpr.{TypedExpr}
 use Rattle.sl_typing.specs.declared.typed.TypedStmt.{TypedStmt}
 use Rattle.sl_types.specs.InlineView.{functions}
 use Rattle.sl_typing.specs.Views.{callee_of, local_of}
-use Rattle.sl_types.specs.Weights.{weight, weight_args, weight_stmt, weight_stmts, weight_body, weight_found, weight_known}
+use Rattle.sl_types.specs.Folds.{fold, fold_args, fold_stmt, fold_stmts, fold_body}
+use Rattle.sl_types.specs.Weights.{weight_known, weighing}
 use Rattle.sl_typing.specs.declared.places.Known.{Known}
 
 abbrev one : Bool → List Built → Callee → Built
@@ -52,19 +53,24 @@ function_behind d known k high = absent_from d [] (map callee_of known) k (omega
 
 -- what it does weighs no more than all functions without those before it
 pub lighter_at : (d : Bool) (known : List Known) (k : ℕ) (x : Known) (b : T.Body) → k < length known → body_in d (callee_of (get_or known k x)) ≡ Ok b
-    → weight_body b + weight_known d (map callee_of (take k known)) ≤ weight_known d (map callee_of known)
+    → fold_body weighing [] (Ok b) + weight_known d (map callee_of (take k known)) ≤ weight_known d (map callee_of known)
 lighter_at d [] k x b low is = absurd (omega (arith, low))
-lighter_at d (y ∷ ys) zero x b low is = let q = ap weight_found is in omega (arith, q)
+lighter_at d (y ∷ ys) zero x b low is = let q = ap (fold_body weighing []) is in omega (arith, q)
 lighter_at d (y ∷ ys) (suc k) x b low is = omega (arith, lighter_at d ys k x b (omega (arith, low)) is)
 
-pub light_arg : (xs : List TypedExpr) (i : ℕ) (x : TypedExpr) → i < length xs → x ≡ get_or xs i x → weight (typed_of x) < weight_args (T.exprs (map typed_of xs))
+pub light_arg : (xs : List TypedExpr) (i : ℕ) (x : TypedExpr) → i < length xs → x ≡ get_or xs i x → fold weighing [] (typed_of x) < fold_args weighing [] (T.exprs (map typed_of xs))
 light_arg [] i x low is = absurd (omega (arith, low))
-light_arg (y ∷ ys) zero x low is = let q = ap (λ e. weight (typed_of e)) is in omega arith
+light_arg (y ∷ ys) zero x low is = let q = ap (λ e. fold weighing [] (typed_of e)) is in omega arith
 light_arg (y ∷ ys) (suc i) x low is = omega (arith, light_arg ys i x (omega (arith, low)) is)
 
-pub light_stmt : (xs : List TypedStmt) (i : ℕ) (x : TypedStmt) → i < length xs → x ≡ get_or xs i x → weight_stmt (tstmt_of x) < weight_stmts (T.stmts (map tstmt_of xs))
+-- a group weighs what its statements do, so each statement's own step is counted beside it
+some_weight : (ss : T.Stmts) → 1 ≤ fold_stmts weighing [] ss
+some_weight T.done = omega arith
+some_weight (T.first s rest) = omega arith
+
+pub light_stmt : (xs : List TypedStmt) (i : ℕ) (x : TypedStmt) → i < length xs → x ≡ get_or xs i x → 1 + fold_stmt weighing [] (tstmt_of x) < fold_stmts weighing [] (T.stmts (map tstmt_of xs))
 light_stmt [] i x low is = absurd (omega (arith, low))
-light_stmt (y ∷ ys) zero x low is = let q = ap (λ s. weight_stmt (tstmt_of s)) is in omega arith
+light_stmt (y ∷ ys) zero x low is = let q = ap (λ s. fold_stmt weighing [] (tstmt_of s)) is in omega (arith, some_weight (T.stmts (map tstmt_of ys)))
 light_stmt (y ∷ ys) (suc i) x low is = omega (arith, light_stmt ys i x (omega (arith, low)) is)
 
 -- some arguments before others, and statements before others

@@ -5,7 +5,8 @@ use Rattle.sl_ast.specs.Syntax as U
 use Rattle.sl_ast.specs.Typed as A
 use Rattle.sl_typing.specs.Functions.{Param, Program}
 use Rattle.sl_typing.specs.Typed.{stmts}
-use Rattle.sl_types.specs.Extents.{extent_params, extent_stmts, extent_program, fits}
+use Rattle.sl_types.specs.Folds.{fold_stmts}
+use Rattle.sl_types.specs.Extents.{counting, extent_params, extent_program, fits}
 use Rattle.sl_types.specs.Inline.{Built, extents_of, count, count_params, count_stmts, inline, inline_stmts, built_from, defaults_at, tree_of}
 use Rattle.sl_types.specs.Checked.{is_within}
 use Rattle.sl_types.proofs.Numbered.{AllSound, upto, node, join, numbered, numbered_stmts}
@@ -46,13 +47,13 @@ length_upto n (suc m) = ap suc (length_upto (n + 1) m)
 counted : (s : U.Shader) (p : Program) → length (A.numbers_tree (tree_of s p)) ≡ (extent_program p).nodes
 counted s p =
     ap length (tree_numbered s p) ∙ length_upto 0 (1 + (count_params (by_default p) p.params + count_stmts (in_body p) (stmts p.body)))
-    ∙ ap₂ (λ xs ys. 1 + ((extent_params xs p.params).nodes + (extent_stmts ys (stmts p.body)).nodes)) (extents_are true [] p.known) (extents_are false [] p.known)
+    ∙ ap₂ (λ xs ys. 1 + ((extent_params xs p.params).nodes + (fold_stmts counting ys (stmts p.body)).nodes)) (extents_are true [] p.known) (extents_are false [] p.known)
 
 depth_is : (s : U.Shader) (p : Program) → A.depth_tree (tree_of s p) ≡ (extent_program p).depth
 depth_is s p =
     ap₂ (λ x y. 1 + max x y) (deep_defaults (by_default p) (all_sound true [] p.known tt) 1 p.params)
     (deep_stmts (in_body p) (all_sound false [] p.known tt) (1 + count_params (by_default p) p.params) (stmts p.body))
-    ∙ ap₂ (λ xs ys. 1 + max (extent_params xs p.params).depth (extent_stmts ys (stmts p.body)).depth) (extents_are true [] p.known) (extents_are false [] p.known)
+    ∙ ap₂ (λ xs ys. 1 + max (extent_params xs p.params).depth (fold_stmts counting ys (stmts p.body)).depth) (extents_are true [] p.known) (extents_are false [] p.known)
 
 pub within_is : (s : U.Shader) (p : Program) → fits (extent_program p) ≡ is_within (tree_of s p)
 within_is s p = sym (ap₂ (λ a b. nat_lt a 65537 && nat_lt b 257) (counted s p) (depth_is s p))

@@ -10,7 +10,8 @@ use Rattle.sl_typing.specs.Found.{Found}
 use Rattle.sl_typing.specs.Typed.{Expr, number, word, variable, apply, call, Exprs, none, more, Stmt, empty, leave, again, block, group, declare, start, assign, test, test_else, repeat, steps, lights, Stmts, done, first, Body, stmts}
 use Rattle.sl_typing.specs.Scope.{Local, Callee, body_in}
 use Rattle.sl_typing.specs.Functions.{Param, Program}
-use Rattle.sl_types.specs.Extents.{Extent, absent, extent, extent_args, extent_stmt, extent_stmts, extent_body, extent_params}
+use Rattle.sl_types.specs.Folds.{fold, fold_args, fold_stmt, fold_stmts, fold_body}
+use Rattle.sl_types.specs.Extents.{Extent, absent, extent_params, counting}
 
 -- what a call of a function puts in place, by the number of its first node
 pub record Built : Type 0 where
@@ -32,16 +33,16 @@ abbrev pub extents_of : List Built → List Extent
 extents_of fs = map (λ b. b.extent) fs
 
 abbrev pub count : List Built → Expr → ℕ
-count fs e = (extent (extents_of fs) e).nodes
+count fs e = (fold counting (extents_of fs) e).nodes
 
 abbrev pub count_args : List Built → Exprs → ℕ
-count_args fs es = (extent_args (extents_of fs) es).nodes
+count_args fs es = (fold_args counting (extents_of fs) es).nodes
 
 abbrev pub count_stmt : List Built → Stmt → ℕ
-count_stmt fs s = (extent_stmt (extents_of fs) s).nodes
+count_stmt fs s = (fold_stmt counting (extents_of fs) s).nodes
 
 abbrev pub count_stmts : List Built → Stmts → ℕ
-count_stmts fs ss = (extent_stmts (extents_of fs) ss).nodes
+count_stmts fs ss = (fold_stmts counting (extents_of fs) ss).nodes
 
 -- a call of that function, which does something from number m on
 abbrev pub called_at : Built → ℕ → A.Exprs → NodeType → Place → A.Expr
@@ -95,7 +96,7 @@ built_in fs formals (Ok b) = record {
   returned = b.returned;
   value = λ n. inline fs n b.value;
   before = count_stmts fs b.stmts;
-  extent = extent_body (extents_of fs) (Ok b);
+  extent = fold_body counting (extents_of fs) (Ok b);
 }
 built_in fs formals (Err e) = nothing
 

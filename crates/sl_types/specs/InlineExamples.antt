@@ -9,7 +9,9 @@ use Rattle.sl_ast.specs.declared.typed.Variable.TheVariants.{Level}
 use Rattle.sl_typing.specs.Typed as T
 use Rattle.sl_typing.specs.Scope.{Local, Callee}
 use Rattle.sl_typing.specs.Stmts.{one_of}
-use Rattle.sl_types.specs.Extents.{extent, extent_stmt, extents_from}
+use Rattle.sl_types.specs.Folds.{fold, fold_stmt}
+use Rattle.sl_types.specs.Extents.{extents_from, counting}
+use Rattle.sl_types.specs.Weights.{weighing}
 use Rattle.sl_types.specs.Inline.{Built, at, tree_formal, built_from, inline, inline_stmt}
 
 abbrev formal : Local
@@ -33,8 +35,12 @@ abbrev in_place : inline built 4 called ≡
 in_place = refl
 
 -- four nodes, three of them one in another
-abbrev extent_in_place : extent (extents_from false [] (function ∷ [])) called ≡ record { nodes = 4; depth = 3 }
+abbrev extent_in_place : fold counting (extents_from false [] (function ∷ [])) called ≡ record { nodes = 4; depth = 3 }
 extent_in_place = refl
+
+-- how great the call is by itself
+abbrev weight_of_call : fold weighing [] called ≡ 6
+weight_of_call = refl
 
 -- `if (x < 1) float a = 1, b = 2;`, the names and their values on line 2
 abbrev set_to : ℕ → T.Stmt
@@ -53,5 +59,5 @@ abbrev branch_together : inline_stmt [] 4 (one_of (set_to 1 ∷ set_to 2 ∷ [])
     (A.first (A.declare false types.Float (A.number (pos 2) (at 2 7)) (at 2 6)) A.done))
 branch_together = refl
 
-abbrev extent_together : extent_stmt [] together ≡ record { nodes = 8; depth = 3 }
+abbrev extent_together : fold_stmt counting [] together ≡ record { nodes = 8; depth = 3 }
 extent_together = refl

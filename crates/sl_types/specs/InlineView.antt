@@ -2,7 +2,8 @@
 use Rattle.std.specs.Prelude.{◌≡◌, ◌≤◌, ◌+◌, ℕ, Bool, List, [], map, get_or, Option, Some, None, Ok}
 use Rattle.sl_types.specs.Inline.{Built, nothing, built_in, built_from}
 use Rattle.sl_typing.specs.Views.{callee_of, local_of, stmts_of}
-use Rattle.sl_types.specs.Weights.{weight_body, weight_known}
+use Rattle.sl_types.specs.Folds.{fold_body}
+use Rattle.sl_types.specs.Weights.{weight_known, weighing}
 use Rattle.sl_typing.specs.declared.places.Known.{Known}
 use Rattle.sl_types.specs.declared.inline.Inside.{Inside}
 
@@ -18,5 +19,5 @@ Puts by_default known k None = get_or (functions by_default known) k nothing ≡
 -- what a function does, with the functions before it, weighs no more than all functions
 abbrev pub Lighter : Bool → List Known → Option Inside → Type 0
 Lighter by_default known (Some i) =
-    weight_body (stmts_of i.body.now) + weight_known by_default (map callee_of i.before.now) ≤ weight_known by_default (map callee_of known)
+    fold_body weighing [] (Ok (stmts_of i.body.now)) + weight_known by_default (map callee_of i.before.now) ≤ weight_known by_default (map callee_of known)
 Lighter by_default known None = Unit {0}

@@ -1,3 +1,4 @@
+pub mod Folds
 pub mod Extents
 pub mod ExtentView
 pub mod Distinct

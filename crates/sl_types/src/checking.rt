@@ -6,7 +6,7 @@ ghost use Rattle.sl_ast.specs.ShaderView.{shader_of};
 ghost use Rattle.sl_ast.specs.TreeView.{tree_of};
 ghost use Rattle.sl_ast.specs.WellTyped.{well_typed};
 ghost use Rattle.sl_types.specs.Checked as spec;
-ghost use Rattle.sl_types.specs.Distinct.{AreDistinct};
+ghost use Rattle.sl_types.specs.Distinct.{are_distinct};
 ghost use Rattle.sl_types.specs.Inline.{tree_of as inlined};
 ghost use Rattle.sl_typing.specs.Views.{Gives, program_of};
 ghost use Rattle.uniform_varying.specs.Gives.{fault_of};
@@ -100,7 +100,7 @@ fn settled(tree: Tree, found: Option<ControlFault>) -> Result<Tree, TypeFault>
 pub fn check(alloc: Global, shader: &Shader) -> Result<Tree, TypeFault>
     ensures gives { Gives tree_of result (spec.checked (shader_of shader.now)) }
     ensures settled { IfOk result (λ t. IsSettled (tree_of t)) }
-    ensures distinct { IfOk result (λ t. AreDistinct (map (λ l. l.name) (tree_of t).params)) }
+    ensures distinct { IfOk result (λ t. are_distinct (map (λ l. l.name) (tree_of t).params) ≡ true) }
 {
     let program = sized(alloc, shader)?;
     let tree = tree(alloc, shader, &program)?;

@@ -11,7 +11,8 @@ ghost use Rattle.sl_typing.specs.Views.{body_of, callee_of, local_of, param_of};
 
 use fixed_math::{List, NoMemory, Num};
 use sl_ast::{
-    LightStmt, NodeType, Operation, ParamDecl, ParamDefault, Place, TreeExpr, TreeFormal, TreeStmt,
+    LightStmt, NodeType, Operation, ParamDecl, ParamDefault, Place, SetOperator, SlType, TreeExpr,
+    TreeFormal, TreeStmt, Variable,
 };
 use sl_typing::{Body, Faulty, Known, Local, Param, TypedExpr, TypedLink, TypedStmt};
 use std::alloc::Global;
@@ -154,6 +155,63 @@ fn group_node(body: Vec<TreeStmt>) -> TreeStmt
     ensures { tree_stmt result ≡ A.group (A.stmts (map tree_stmt body.items)) }
 {
     TreeStmt::Group { body: List(body) }
+}
+
+fn declare_node(uniform: bool, kind: SlType, value: TreeExpr, place: Place) -> TreeStmt
+    ensures { tree_stmt result ≡ A.declare uniform kind (tree_expr value) place }
+{
+    TreeStmt::Declare {
+        uniform,
+        kind,
+        value,
+        place,
+    }
+}
+
+fn set_node(
+    variable: Variable,
+    operator: SetOperator,
+    kind: SlType,
+    value: TreeExpr,
+    place: Place,
+) -> TreeStmt
+    ensures { tree_stmt result ≡ A.assign variable operator kind (tree_expr value) place }
+{
+    TreeStmt::Set {
+        variable,
+        operator,
+        kind,
+        value,
+        place,
+    }
+}
+
+fn if_node(test: TreeExpr, then: Box<TreeStmt>, place: Place) -> TreeStmt
+    ensures { tree_stmt result ≡ A.test (tree_expr test) (tree_stmt then.value) place }
+{
+    TreeStmt::If { test, then, place }
+}
+
+fn if_else_node(
+    test: TreeExpr,
+    then: Box<TreeStmt>,
+    otherwise: Box<TreeStmt>,
+    place: Place,
+) -> TreeStmt
+    ensures { tree_stmt result ≡ A.test_else (tree_expr test) (tree_stmt then.value) (tree_stmt otherwise.value) place }
+{
+    TreeStmt::IfElse {
+        test,
+        then,
+        otherwise,
+        place,
+    }
+}
+
+fn while_node(test: TreeExpr, body: Box<TreeStmt>, place: Place) -> TreeStmt
+    ensures { tree_stmt result ≡ A.repeat (tree_expr test) (tree_stmt body.value) place }
+{
+    TreeStmt::While { test, body, place }
 }
 
 // A `for` from its parts.
@@ -424,12 +482,7 @@ fn stmt(
         } => {
             let at = place(*line, next);
             let value = expr(value, alloc, by_default, known, next)?;
-            Ok(TreeStmt::Declare {
-                uniform: *uniform,
-                kind: *kind,
-                value,
-                place: at,
-            })
+            Ok(declare_node(*uniform, *kind, value, at))
         }
         TypedStmt::Set {
             variable,
@@ -440,23 +493,13 @@ fn stmt(
         } => {
             let at = place(*line, next);
             let value = expr(value, alloc, by_default, known, next)?;
-            Ok(TreeStmt::Set {
-                variable: *variable,
-                operator: *operator,
-                kind: *kind,
-                value,
-                place: at,
-            })
+            Ok(set_node(*variable, *operator, *kind, value, at))
         }
         TypedStmt::If { test, then, line } => {
             let at = place(*line, next);
             let test = expr(test, alloc, by_default, known, next)?;
             let then = branch(then, alloc, by_default, known, next)?;
-            Ok(TreeStmt::If {
-                test,
-                then,
-                place: at,
-            })
+            Ok(if_node(test, then, at))
         }
         TypedStmt::IfElse {
             test,
@@ -468,22 +511,13 @@ fn stmt(
             let test = expr(test, alloc, by_default, known, next)?;
             let then = branch(then, alloc, by_default, known, next)?;
             let otherwise = branch(otherwise, alloc, by_default, known, next)?;
-            Ok(TreeStmt::IfElse {
-                test,
-                then,
-                otherwise,
-                place: at,
-            })
+            Ok(if_else_node(test, then, otherwise, at))
         }
         TypedStmt::While { test, body, line } => {
             let at = place(*line, next);
             let test = expr(test, alloc, by_default, known, next)?;
             let body = branch(body, alloc, by_default, known, next)?;
-            Ok(TreeStmt::While {
-                test,
-                body,
-                place: at,
-            })
+            Ok(while_node(test, body, at))
         }
         TypedStmt::For {
             first,

@@ -4,6 +4,7 @@ ghost use Rattle.sl_ast.specs.Syntax as U;
 ghost use Rattle.sl_types.specs.Checked.{is_within};
 ghost use Rattle.sl_types.specs.Inline.{tree_of};
 ghost use Rattle.sl_types.specs.Extents as E;
+ghost use Rattle.sl_types.specs.Folds.{fold, fold_args, fold_stmt, fold_stmts, fold_body};
 ghost use Rattle.sl_typing.specs.Functions as F;
 ghost use Rattle.sl_typing.specs.Scope.{body_in};
 ghost use Rattle.sl_typing.specs.Typed as T;
@@ -69,7 +70,7 @@ fn size_of(sizes: &[Extent], k: usize) -> Extent
 #[cycle(size)]
 #[tactic(auto, using(crate::proofs::TypedNodes::apply_shown, crate::proofs::TypedNodes::call_shown, crate::proofs::Chains::chain_shown))]
 fn size(e: &TypedExpr, sizes: &[Extent]) -> Extent
-    ensures { (fs : List E.Extent) → map extent_of sizes.now ≡ map E.cut fs → extent_of result ≡ E.cut (E.extent fs (typed_of e.now)) }
+    ensures { (fs : List E.Extent) → map extent_of sizes.now ≡ map E.cut fs → extent_of result ≡ E.cut (fold E.counting fs (typed_of e.now)) }
 {
     match e {
         TypedExpr::Number { .. } => over(NOWHERE),
@@ -94,7 +95,7 @@ fn size(e: &TypedExpr, sizes: &[Extent]) -> Extent
 
 #[cycle(size)]
 fn size_args(args: &[TypedExpr], sizes: &[Extent]) -> Extent
-    ensures { (fs : List E.Extent) → map extent_of sizes.now ≡ map E.cut fs → extent_of result ≡ E.cut (E.extent_args fs (T.exprs (map typed_of args.now))) }
+    ensures { (fs : List E.Extent) → map extent_of sizes.now ≡ map E.cut fs → extent_of result ≡ E.cut (fold_args E.counting fs (T.exprs (map typed_of args.now))) }
 {
     let mut before = NOWHERE;
     for e in args {
@@ -106,7 +107,7 @@ fn size_args(args: &[TypedExpr], sizes: &[Extent]) -> Extent
 // Operators behind what is so great.
 #[cycle(size)]
 fn size_links(links: &[TypedLink], sizes: &[Extent], first: Extent) -> Extent
-    ensures { (fs : List E.Extent) (e : T.Expr) → map extent_of sizes.now ≡ map E.cut fs → extent_of first ≡ E.cut (E.extent fs e) → extent_of result ≡ E.cut (E.extent fs (T.chained e (map tlink_of links.now))) }
+    ensures { (fs : List E.Extent) (e : T.Expr) → map extent_of sizes.now ≡ map E.cut fs → extent_of first ≡ E.cut (fold E.counting fs e) → extent_of result ≡ E.cut (fold E.counting fs (T.chained e (map tlink_of links.now))) }
 {
     let mut before = first;
     for link in links {
@@ -118,7 +119,7 @@ fn size_links(links: &[TypedLink], sizes: &[Extent], first: Extent) -> Extent
 #[cycle(size_stmt)]
 #[tactic(auto, using(crate::proofs::TypedNodes::block_shown, crate::proofs::TypedNodes::group_shown, crate::proofs::TypedNodes::for_shown))]
 fn size_stmt(s: &TypedStmt, sizes: &[Extent]) -> Extent
-    ensures { (fs : List E.Extent) → map extent_of sizes.now ≡ map E.cut fs → extent_of result ≡ E.cut (E.extent_stmt fs (tstmt_of s.now)) }
+    ensures { (fs : List E.Extent) → map extent_of sizes.now ≡ map E.cut fs → extent_of result ≡ E.cut (fold_stmt E.counting fs (tstmt_of s.now)) }
 {
     match s {
         TypedStmt::Empty { .. } => over(NOWHERE),
@@ -162,7 +163,7 @@ fn size_stmt(s: &TypedStmt, sizes: &[Extent]) -> Extent
 
 #[cycle(size_stmt)]
 fn size_stmts(body: &[TypedStmt], sizes: &[Extent]) -> Extent
-    ensures { (fs : List E.Extent) → map extent_of sizes.now ≡ map E.cut fs → extent_of result ≡ E.cut (E.extent_stmts fs (T.stmts (map tstmt_of body.now))) }
+    ensures { (fs : List E.Extent) → map extent_of sizes.now ≡ map E.cut fs → extent_of result ≡ E.cut (fold_stmts E.counting fs (T.stmts (map tstmt_of body.now))) }
 {
     let mut before = NOWHERE;
     for s in body {
@@ -172,7 +173,7 @@ fn size_stmts(body: &[TypedStmt], sizes: &[Extent]) -> Extent
 }
 
 fn size_body(body: &Result<Body, Faulty>, sizes: &[Extent]) -> Extent
-    ensures { (fs : List E.Extent) → map extent_of sizes.now ≡ map E.cut fs → extent_of result ≡ E.cut (E.extent_body fs (body_of body.now)) }
+    ensures { (fs : List E.Extent) → map extent_of sizes.now ≡ map E.cut fs → extent_of result ≡ E.cut (fold_body E.counting fs (body_of body.now)) }
 {
     match body {
         Ok(body) => with(
@@ -184,7 +185,7 @@ fn size_body(body: &Result<Body, Faulty>, sizes: &[Extent]) -> Extent
 }
 
 fn size_known(by_default: bool, known: &Known<'_>, sizes: &[Extent]) -> Extent
-    ensures { (fs : List E.Extent) → map extent_of sizes.now ≡ map E.cut fs → extent_of result ≡ E.cut (E.extent_body fs (body_in by_default (callee_of known.now))) }
+    ensures { (fs : List E.Extent) → map extent_of sizes.now ≡ map E.cut fs → extent_of result ≡ E.cut (fold_body E.counting fs (body_in by_default (callee_of known.now))) }
 {
     if by_default {
         size_body(&known.by_default, sizes)

@@ -1,20 +1,27 @@
-use Rattle.std.proofs.Common.{◌≡◌, ◌+◌, List, IfOk, OnOk, length, map, get_or, arith, ap, ap₂, sym, subst, ◌∙◌}
+use Rattle.std.proofs.Common.{◌≡◌, ◌+◌, ℕ, List, [], IfOk, OnOk, length, map, get_or, arith, ap, ap₂, sym, subst, ◌∙◌}
 use Rattle.std.proofs.lemmas.List.{length-map}
 use Rattle.sl_ast.specs.Typed as A
 use Rattle.sl_ast.specs.TypedView.{tree_expr, tree_stmt}
+use Rattle.sl_types.specs.Folds.{fold, fold_args, fold_stmt, fold_stmts}
 use Rattle.sl_types.specs.Extents.{absent}
-use Rattle.sl_types.specs.Inline.{nothing, extents_of, count, count_args, count_stmt, count_stmts, inline, inline_args, inline_stmt, inline_stmts}
+use Rattle.sl_types.specs.Inline.{Built, nothing, extents_of, count, count_args, count_stmt, count_stmts, inline, inline_args, inline_stmt, inline_stmts}
 use Rattle.sl_types.specs.InlineView.{functions}
 use Rattle.sl_typing.specs.Typed as T
 use Rattle.sl_typing.specs.TypedView.{typed_of, tlink_of, tstmt_of}
-use Rattle.sl_types.specs.Weights.{weight, weight_stmt, weight_stmts}
+use Rattle.sl_types.specs.Weights.{weighing}
 use Rattle.sl_types.proofs.Chains.{chain_shown, count_links, tree_links, links_counted, links_weighed, links_inlined, links_split, links_end, light_link, pair_tree, call_tree, on_ok}
 use Rattle.sl_types.proofs.Numbered.{extent_at}
 use Rattle.sl_types.proofs.Placed.{light_arg, light_stmt, args_before, stmts_before, args_alone, stmts_alone, args_split, stmts_split, args_end, stmts_end, args_step, stmts_step, for_tree}
 use Rattle.sl_types.proofs.StmtTrees.{block_tree, declare_tree, set_tree, test_tree, else_tree, repeat_tree, lights_tree, behind_one, behind_two, behind_three, behind_four}
-use Rattle.sl_types.proofs.TypedNodes.{call_shown, block_shown, group_shown, for_shown}
+use Rattle.sl_types.proofs.TypedNodes.{apply_shown, call_shown, block_shown, group_shown, for_shown}
 use Rattle.sl_typing.specs.declared.typed.TypedStmt.{TypedStmt}
 use Rattle.sl_types.proofs.inline.+inline.Goals as goal
+
+abbrev weighed : TypedStmt → ℕ
+weighed s = fold_stmt weighing [] (tstmt_of s)
+
+abbrev counted : List Built → TypedStmt → ℕ
+counted fs s = count_stmt fs (tstmt_of s)
 
 pub expr-call-requires : goal.expr-call-requires
 expr-call-requires t c =
@@ -22,7 +29,7 @@ expr-call-requires t c =
     let q = ap (count fs) (call_shown c.args.e.now c.in-Call.function c.in-Call.args c.in-Call.kind c.in-Call.line c.in-Call.is) in
     let x : (get_or (extents_of fs) c.in-Call.function absent).nodes ≡ (get_or fs c.in-Call.function nothing).extent.nodes = ap (λ y. y.nodes) (extent_at fs c.in-Call.function) in
     let d = ap (λ xs. count_args fs (T.exprs (map typed_of xs))) c.as_slice-in-Call.ensures in
-    let w = ap weight (call_shown c.args.e.now c.in-Call.function c.in-Call.args c.in-Call.kind c.in-Call.line c.in-Call.is) in
+    let w = ap (fold weighing []) (call_shown c.args.e.now c.in-Call.function c.in-Call.args c.in-Call.kind c.in-Call.line c.in-Call.is) in
     (omega (arith, c.decreases, w), omega (arith, c.requires, q, x, d, c.place-at-in-Call.ensures.next, c.in_ok-args-in-Call.ensures.next))
 
 pub expr-returns-in_ok-args-in-Call-clause-next : goal.expr-returns-in_ok-args-in-Call-clause-next
@@ -39,19 +46,19 @@ pub expr-chain-requires : goal.expr-chain-requires
 expr-chain-requires t c =
     let fs = functions c.args.by_default c.args.known.now in
     let q = ap (count fs) (chain_shown c.args.e.now c.in-Chain.first c.in-Chain.links c.in-Chain.operation c.in-Chain.operand c.in-Chain.kind c.in-Chain.line c.in-Chain.is) in
-    let w = ap weight (chain_shown c.args.e.now c.in-Chain.first c.in-Chain.links c.in-Chain.operation c.in-Chain.operand c.in-Chain.kind c.in-Chain.line c.in-Chain.is) in
+    let w = ap (fold weighing []) (chain_shown c.args.e.now c.in-Chain.first c.in-Chain.links c.in-Chain.operation c.in-Chain.operand c.in-Chain.kind c.in-Chain.line c.in-Chain.is) in
     let d = ap₂ (λ x xs. count fs (T.chained (typed_of x) (map tlink_of xs))) c.deref.ensures c.as_slice-in-Chain.ensures in
-    let v = ap₂ (λ x xs. weight (T.chained (typed_of x) (map tlink_of xs))) c.deref.ensures c.as_slice-in-Chain.ensures in
+    let v = ap₂ (λ x xs. fold weighing [] (T.chained (typed_of x) (map tlink_of xs))) c.deref.ensures c.as_slice-in-Chain.ensures in
     (omega (arith, c.decreases, w, v), omega (arith, c.requires, q, d, c.place-at-in-Chain.ensures.next))
 
 pub expr-expr-requires : goal.expr-expr-requires
 expr-expr-requires t c =
     let fs = functions c.args.by_default c.args.known.now in
     let q = ap (count fs) (chain_shown c.args.e.now c.in-Chain.first c.in-Chain.links c.in-Chain.operation c.in-Chain.operand c.in-Chain.kind c.in-Chain.line c.in-Chain.is) in
-    let w = ap weight (chain_shown c.args.e.now c.in-Chain.first c.in-Chain.links c.in-Chain.operation c.in-Chain.operand c.in-Chain.kind c.in-Chain.line c.in-Chain.is) in
+    let w = ap (fold weighing []) (chain_shown c.args.e.now c.in-Chain.first c.in-Chain.links c.in-Chain.operation c.in-Chain.operand c.in-Chain.kind c.in-Chain.line c.in-Chain.is) in
     let d = ap₂ (λ x xs. count fs (T.chained (typed_of x) (map tlink_of xs))) c.deref.ensures c.as_slice-in-Chain.ensures in
     let b = ap (λ x. count fs (typed_of x)) c.deref-in-Chain.ensures in
-    let v = ap (λ x. weight (typed_of x)) c.deref-in-Chain.ensures in
+    let v = ap (λ x. fold weighing [] (typed_of x)) c.deref-in-Chain.ensures in
     (omega (arith, c.decreases, w, v), omega (arith, c.requires, q, d, b, c.place-at-in-Chain.ensures.next, c.in_ok-before-in-Chain.ensures.next))
 
 pub expr-returns-in_ok-operand-in-Chain-clause-tree : goal.expr-returns-in_ok-operand-in-Chain-clause-tree
@@ -157,8 +164,8 @@ stmt-stmts-requires-in-For t c =
     let fs = functions c.args.by_default c.args.known.now in
     let q = ap (count_stmt fs) (for_shown c.args.s.now c.in-For.first c.in-For.test c.in-For.step c.in-For.body c.in-For.line c.in-For.is) in
     let d = ap (λ xs. count_stmts fs (T.stmts (map tstmt_of xs))) c.as_slice-in-For.ensures in
-    let w = ap weight_stmt (for_shown c.args.s.now c.in-For.first c.in-For.test c.in-For.step c.in-For.body c.in-For.line c.in-For.is) in
-    let v = ap (λ xs. weight_stmts (T.stmts (map tstmt_of xs))) c.as_slice-in-For.ensures in
+    let w = ap (fold_stmt weighing []) (for_shown c.args.s.now c.in-For.first c.in-For.test c.in-For.step c.in-For.body c.in-For.line c.in-For.is) in
+    let v = ap (λ xs. fold_stmts weighing [] (T.stmts (map tstmt_of xs))) c.as_slice-in-For.ensures in
     (omega (arith, c.decreases, w, v), omega (arith, c.requires, q, d, c.place-at-in-For.ensures.next))
 
 pub stmt-expr-requires-in-For : goal.stmt-expr-requires-in-For
@@ -166,7 +173,7 @@ stmt-expr-requires-in-For t c =
     let fs = functions c.args.by_default c.args.known.now in
     let q = ap (count_stmt fs) (for_shown c.args.s.now c.in-For.first c.in-For.test c.in-For.step c.in-For.body c.in-For.line c.in-For.is) in
     let d = ap (λ xs. count_stmts fs (T.stmts (map tstmt_of xs))) c.as_slice-in-For.ensures in
-    let w = ap weight_stmt (for_shown c.args.s.now c.in-For.first c.in-For.test c.in-For.step c.in-For.body c.in-For.line c.in-For.is) in
+    let w = ap (fold_stmt weighing []) (for_shown c.args.s.now c.in-For.first c.in-For.test c.in-For.step c.in-For.body c.in-For.line c.in-For.is) in
     (omega (arith, c.decreases, w), omega (arith, c.requires, q, d, c.place-at-in-For.ensures.next, c.in_ok-first-in-For.ensures.next))
 
 pub stmt-branch-deref-requires-in-For : goal.stmt-branch-deref-requires-in-For
@@ -176,8 +183,8 @@ stmt-branch-deref-requires-in-For t c =
     let d = ap (λ xs. count_stmts fs (T.stmts (map tstmt_of xs))) c.as_slice-in-For.ensures in
     let f = ap (λ xs. count_stmts fs (T.stmts (map tstmt_of xs))) c.as_slice-in-For-2.ensures in
     let b = ap (λ s. count_stmt fs (tstmt_of s)) c.deref-in-For.ensures in
-    let w = ap weight_stmt (for_shown c.args.s.now c.in-For.first c.in-For.test c.in-For.step c.in-For.body c.in-For.line c.in-For.is) in
-    let v = ap (λ s. weight_stmt (tstmt_of s)) c.deref-in-For.ensures in
+    let w = ap (fold_stmt weighing []) (for_shown c.args.s.now c.in-For.first c.in-For.test c.in-For.step c.in-For.body c.in-For.line c.in-For.is) in
+    let v = ap (λ s. fold_stmt weighing [] (tstmt_of s)) c.deref-in-For.ensures in
     (omega (arith, c.decreases, w, v), omega (arith, c.requires, q, d, f, b, c.place-at-in-For.ensures.next, c.in_ok-first-in-For.ensures.next, c.in_ok-test-in-For.ensures.next, c.in_ok-step-in-For.ensures.next))
 
 pub stmt-returns-in_ok-body-in-For-clause-tree : goal.stmt-returns-in_ok-body-in-For-clause-tree
@@ -296,7 +303,8 @@ pub stmt-returns-in_ok-value-in-Declare-clause-tree : goal.stmt-returns-in_ok-va
 stmt-returns-in_ok-value-in-Declare-clause-tree t c =
     let fs = functions c.args.by_default c.args.known.now in
     let n = c.args.next.now in
-    declare_tree fs n _ c.in-Declare.line c.in-Declare.uniform c.in-Declare.kind _ _ _ c.place-at-in-Declare.ensures.place c.place-at-in-Declare.ensures.next c.in_ok-value-in-Declare.ensures.tree
+    c.declare_node.ensures
+    ∙ declare_tree fs n _ c.in-Declare.line c.in-Declare.uniform c.in-Declare.kind _ _ _ c.place-at-in-Declare.ensures.place c.place-at-in-Declare.ensures.next c.in_ok-value-in-Declare.ensures.tree
     ∙ sym (ap (λ s. inline_stmt fs n (tstmt_of s)) c.in-Declare.is)
 
 pub stmt-returns-in_ok-value-in-Declare-clause-next : goal.stmt-returns-in_ok-value-in-Declare-clause-next
@@ -309,7 +317,8 @@ pub stmt-returns-in_ok-value-in-Set-clause-tree : goal.stmt-returns-in_ok-value-
 stmt-returns-in_ok-value-in-Set-clause-tree t c =
     let fs = functions c.args.by_default c.args.known.now in
     let n = c.args.next.now in
-    set_tree fs n _ c.in-Set.line c.in-Set.variable c.in-Set.operator c.in-Set.kind _ _ _ c.place-at-in-Set.ensures.place c.place-at-in-Set.ensures.next c.in_ok-value-in-Set.ensures.tree
+    c.set_node.ensures
+    ∙ set_tree fs n _ c.in-Set.line c.in-Set.variable c.in-Set.operator c.in-Set.kind _ _ _ c.place-at-in-Set.ensures.place c.place-at-in-Set.ensures.next c.in_ok-value-in-Set.ensures.tree
     ∙ sym (ap (λ s. inline_stmt fs n (tstmt_of s)) c.in-Set.is)
 
 pub stmt-returns-in_ok-value-in-Set-clause-next : goal.stmt-returns-in_ok-value-in-Set-clause-next
@@ -322,7 +331,8 @@ pub stmt-returns-in_ok-then-in-If-clause-tree : goal.stmt-returns-in_ok-then-in-
 stmt-returns-in_ok-then-in-If-clause-tree t c =
     let fs = functions c.args.by_default c.args.known.now in
     let n = c.args.next.now in
-    test_tree fs n _ _ c.in-If.line _ _ _ _ _ c.place-at-in-If.ensures.place c.place-at-in-If.ensures.next c.in_ok-test-in-If.ensures.tree c.in_ok-test-in-If.ensures.next
+    c.if_node.ensures
+    ∙ test_tree fs n _ _ c.in-If.line _ _ _ _ _ c.place-at-in-If.ensures.place c.place-at-in-If.ensures.next c.in_ok-test-in-If.ensures.tree c.in_ok-test-in-If.ensures.next
     c.in_ok-then-in-If.ensures.tree
     ∙ ap (λ s. inline_stmt fs n (T.test (typed_of c.in-If.test) (tstmt_of s) c.in-If.line)) c.deref.ensures ∙ sym (ap (λ s. inline_stmt fs n (tstmt_of s)) c.in-If.is)
 
@@ -337,7 +347,8 @@ pub stmt-returns-in_ok-body-in-While-clause-tree : goal.stmt-returns-in_ok-body-
 stmt-returns-in_ok-body-in-While-clause-tree t c =
     let fs = functions c.args.by_default c.args.known.now in
     let n = c.args.next.now in
-    repeat_tree fs n _ _ c.in-While.line _ _ _ _ _ c.place-at-in-While.ensures.place c.place-at-in-While.ensures.next c.in_ok-test-in-While.ensures.tree c.in_ok-test-in-While.ensures.next
+    c.while_node.ensures
+    ∙ repeat_tree fs n _ _ c.in-While.line _ _ _ _ _ c.place-at-in-While.ensures.place c.place-at-in-While.ensures.next c.in_ok-test-in-While.ensures.tree c.in_ok-test-in-While.ensures.next
     c.in_ok-body-in-While.ensures.tree
     ∙ ap (λ s. inline_stmt fs n (T.repeat (typed_of c.in-While.test) (tstmt_of s) c.in-While.line)) c.deref-in-While.ensures ∙ sym (ap (λ s. inline_stmt fs n (tstmt_of s)) c.in-While.is)
 
@@ -352,7 +363,8 @@ pub stmt-returns-in_ok-otherwise-in-IfElse-clause-tree : goal.stmt-returns-in_ok
 stmt-returns-in_ok-otherwise-in-IfElse-clause-tree t c =
     let fs = functions c.args.by_default c.args.known.now in
     let n = c.args.next.now in
-    else_tree fs n _ _ _ c.in-IfElse.line _ _ _ _ _ _ _ c.place-at-in-IfElse.ensures.place c.place-at-in-IfElse.ensures.next c.in_ok-test-in-IfElse.ensures.tree c.in_ok-test-in-IfElse.ensures.next
+    c.if_else_node.ensures
+    ∙ else_tree fs n _ _ _ c.in-IfElse.line _ _ _ _ _ _ _ c.place-at-in-IfElse.ensures.place c.place-at-in-IfElse.ensures.next c.in_ok-test-in-IfElse.ensures.tree c.in_ok-test-in-IfElse.ensures.next
     c.in_ok-then-in-IfElse.ensures.tree c.in_ok-then-in-IfElse.ensures.next c.in_ok-otherwise-in-IfElse.ensures.tree
     ∙ ap₂ (λ s r. inline_stmt fs n (T.test_else (typed_of c.in-IfElse.test) (tstmt_of s) (tstmt_of r) c.in-IfElse.line)) c.deref-in-IfElse.ensures c.deref-in-IfElse-2.ensures ∙ sym (ap (λ s. inline_stmt fs n (tstmt_of s)) c.in-IfElse.is)
 
@@ -388,3 +400,100 @@ stmt-returns-in_ok-body-in-For-clause-next t c =
     ∙ ap (λ xs. n + count_stmt fs (steps xs c.as_slice-in-For-2.result.now c.deref-in-For.result.now)) c.as_slice-in-For.ensures
     ∙ ap₂ (λ ys s. n + count_stmt fs (steps c.in-For.first ys s)) c.as_slice-in-For-2.ensures c.deref-in-For.ensures
     ∙ ap (λ s. n + count_stmt fs s) (sym (for_shown c.args.s.now c.in-For.first c.in-For.test c.in-For.step c.in-For.body c.in-For.line c.in-For.is))
+
+pub branch-stmt-requires : goal.branch-stmt-requires
+branch-stmt-requires t c =
+    (omega (arith, c.decreases), c.requires)
+
+pub expr-exprs-requires : goal.expr-exprs-requires
+expr-exprs-requires t c =
+    let fs = functions c.args.by_default c.args.known.now in
+    let shown = apply_shown c.args.e.now c.in-Apply.operation c.in-Apply.args c.in-Apply.kind c.in-Apply.line c.in-Apply.is
+    ∙ sym (ap (λ xs. T.apply c.in-Apply.operation (T.exprs (map typed_of xs)) c.in-Apply.kind c.in-Apply.line) c.as_slice.ensures) in
+    (omega (arith, c.decreases, ap (fold weighing []) shown), omega (arith, c.requires, ap (count fs) shown, c.place-at.ensures.next))
+
+pub expr-exprs-requires-in-Call : goal.expr-exprs-requires-in-Call
+expr-exprs-requires-in-Call t c =
+    let fs = functions c.args.by_default c.args.known.now in
+    let shown = call_shown c.args.e.now c.in-Call.function c.in-Call.args c.in-Call.kind c.in-Call.line c.in-Call.is
+    ∙ sym (ap (λ xs. T.call c.in-Call.function (T.exprs (map typed_of xs)) c.in-Call.kind c.in-Call.line) c.as_slice-in-Call.ensures) in
+    (omega (arith, c.decreases, ap (fold weighing []) shown), omega (arith, c.requires, ap (count fs) shown, c.place-at-in-Call.ensures.next))
+
+pub stmt-stmts-requires : goal.stmt-stmts-requires
+stmt-stmts-requires t c =
+    let fs = functions c.args.by_default c.args.known.now in
+    let shown = block_shown c.args.s.now c.in-Block.body c.in-Block.line c.in-Block.is ∙ sym (ap (λ xs. T.block (T.stmts (map tstmt_of xs)) c.in-Block.line) c.as_slice.ensures) in
+    (omega (arith, c.decreases, ap (fold_stmt weighing []) shown), omega (arith, c.requires, ap (count_stmt fs) shown, c.place-at.ensures.next))
+
+pub stmt-stmts-requires-in-Group : goal.stmt-stmts-requires-in-Group
+stmt-stmts-requires-in-Group t c =
+    let fs = functions c.args.by_default c.args.known.now in
+    let shown = group_shown c.args.s.now c.in-Group.body c.in-Group.is ∙ sym (ap (λ xs. T.group (T.stmts (map tstmt_of xs))) c.as_slice-in-Group.ensures) in
+    (omega (arith, c.decreases, ap (fold_stmt weighing []) shown), omega (arith, c.requires, ap (count_stmt fs) shown))
+
+pub stmt-expr-requires : goal.stmt-expr-requires
+stmt-expr-requires t c =
+    let fs = functions c.args.by_default c.args.known.now in
+    (omega (arith, c.decreases, ap weighed c.in-Declare.is), omega (arith, c.requires, ap (counted fs) c.in-Declare.is, c.place-at-in-Declare.ensures.next))
+
+pub stmt-expr-requires-in-Set : goal.stmt-expr-requires-in-Set
+stmt-expr-requires-in-Set t c =
+    let fs = functions c.args.by_default c.args.known.now in
+    (omega (arith, c.decreases, ap weighed c.in-Set.is), omega (arith, c.requires, ap (counted fs) c.in-Set.is, c.place-at-in-Set.ensures.next))
+
+pub stmt-expr-requires-in-If : goal.stmt-expr-requires-in-If
+stmt-expr-requires-in-If t c =
+    let fs = functions c.args.by_default c.args.known.now in
+    (omega (arith, c.decreases, ap weighed c.in-If.is), omega (arith, c.requires, ap (counted fs) c.in-If.is, c.place-at-in-If.ensures.next))
+
+pub stmt-branch-deref-requires : goal.stmt-branch-deref-requires
+stmt-branch-deref-requires t c =
+    let fs = functions c.args.by_default c.args.known.now in
+    (omega (arith, c.decreases, ap weighed c.in-If.is, ap weighed c.deref.ensures), omega (arith, c.requires, ap (counted fs) c.in-If.is, ap (counted fs) c.deref.ensures, c.place-at-in-If.ensures.next, c.in_ok-test-in-If.ensures.next))
+
+pub stmt-expr-requires-in-IfElse : goal.stmt-expr-requires-in-IfElse
+stmt-expr-requires-in-IfElse t c =
+    let fs = functions c.args.by_default c.args.known.now in
+    (omega (arith, c.decreases, ap weighed c.in-IfElse.is), omega (arith, c.requires, ap (counted fs) c.in-IfElse.is, c.place-at-in-IfElse.ensures.next))
+
+pub stmt-branch-deref-requires-in-IfElse : goal.stmt-branch-deref-requires-in-IfElse
+stmt-branch-deref-requires-in-IfElse t c =
+    let fs = functions c.args.by_default c.args.known.now in
+    (omega (arith, c.decreases, ap weighed c.in-IfElse.is, ap weighed c.deref-in-IfElse.ensures), omega (arith, c.requires, ap (counted fs) c.in-IfElse.is, ap (counted fs) c.deref-in-IfElse.ensures, c.place-at-in-IfElse.ensures.next, c.in_ok-test-in-IfElse.ensures.next))
+
+pub stmt-branch-deref-requires-in-IfElse-2 : goal.stmt-branch-deref-requires-in-IfElse-2
+stmt-branch-deref-requires-in-IfElse-2 t c =
+    let fs = functions c.args.by_default c.args.known.now in
+    (omega (arith, c.decreases, ap weighed c.in-IfElse.is, ap weighed c.deref-in-IfElse-2.ensures), omega (arith, c.requires, ap (counted fs) c.in-IfElse.is, ap (counted fs) c.deref-in-IfElse.ensures, ap (counted fs) c.deref-in-IfElse-2.ensures, c.place-at-in-IfElse.ensures.next, c.in_ok-test-in-IfElse.ensures.next, c.in_ok-then-in-IfElse.ensures.next))
+
+pub stmt-expr-requires-in-While : goal.stmt-expr-requires-in-While
+stmt-expr-requires-in-While t c =
+    let fs = functions c.args.by_default c.args.known.now in
+    (omega (arith, c.decreases, ap weighed c.in-While.is), omega (arith, c.requires, ap (counted fs) c.in-While.is, c.place-at-in-While.ensures.next))
+
+pub stmt-branch-deref-requires-in-While : goal.stmt-branch-deref-requires-in-While
+stmt-branch-deref-requires-in-While t c =
+    let fs = functions c.args.by_default c.args.known.now in
+    (omega (arith, c.decreases, ap weighed c.in-While.is, ap weighed c.deref-in-While.ensures), omega (arith, c.requires, ap (counted fs) c.in-While.is, ap (counted fs) c.deref-in-While.ensures, c.place-at-in-While.ensures.next, c.in_ok-test-in-While.ensures.next))
+
+pub stmt-exprs-requires : goal.stmt-exprs-requires
+stmt-exprs-requires t c =
+    let fs = functions c.args.by_default c.args.known.now in
+    let d = ap (λ xs. count_args fs (T.exprs (map typed_of xs))) c.as_slice-in-Lights.ensures in
+    let v = ap (λ xs. fold_args weighing [] (T.exprs (map typed_of xs))) c.as_slice-in-Lights.ensures in
+    (omega (arith, c.decreases, ap weighed c.in-Lights.is, v), omega (arith, c.requires, ap (counted fs) c.in-Lights.is, d, c.place-at-in-Lights.ensures.next))
+
+pub stmt-branch-deref-requires-in-Lights : goal.stmt-branch-deref-requires-in-Lights
+stmt-branch-deref-requires-in-Lights t c =
+    let fs = functions c.args.by_default c.args.known.now in
+    let d = ap (λ xs. count_args fs (T.exprs (map typed_of xs))) c.as_slice-in-Lights.ensures in
+    (omega (arith, c.decreases, ap weighed c.in-Lights.is, ap weighed c.deref-in-Lights.ensures), omega (arith, c.requires, ap (counted fs) c.in-Lights.is, d, ap (counted fs) c.deref-in-Lights.ensures, c.place-at-in-Lights.ensures.next, c.in_ok-args-in-Lights.ensures.next))
+
+pub stmt-stmts-requires-in-For-2 : goal.stmt-stmts-requires-in-For-2
+stmt-stmts-requires-in-For-2 t c =
+    let fs = functions c.args.by_default c.args.known.now in
+    let shown = for_shown c.args.s.now c.in-For.first c.in-For.test c.in-For.step c.in-For.body c.in-For.line c.in-For.is in
+    let d = ap (λ xs. count_stmts fs (T.stmts (map tstmt_of xs))) c.as_slice-in-For.ensures in
+    let f = ap (λ xs. count_stmts fs (T.stmts (map tstmt_of xs))) c.as_slice-in-For-2.ensures in
+    let v = ap (λ xs. fold_stmts weighing [] (T.stmts (map tstmt_of xs))) c.as_slice-in-For-2.ensures in
+    (omega (arith, c.decreases, ap (fold_stmt weighing []) shown, v), omega (arith, c.requires, ap (count_stmt fs) shown, d, f, c.place-at-in-For.ensures.next, c.in_ok-first-in-For.ensures.next, c.in_ok-test-in-For.ensures.next))

@@ -1,11 +1,12 @@
-use Rattle.std.proofs.Common.{◌≡◌, ◌+◌, drop, length, map}
+use Rattle.std.proofs.Common.{◌≡◌, ◌+◌, [], drop, length, map}
 use Rattle.sl_ast.specs.TypedView.{tree_expr, tree_stmt}
 use Rattle.sl_types.specs.Inline.{count, count_args, count_stmts, inline, inline_args, inline_stmts}
 use Rattle.sl_types.specs.InlineView.{functions}
 use Rattle.sl_typing.specs.Typed as T
 use Rattle.sl_typing.specs.TypedView.{typed_of, tlink_of, tstmt_of}
 use Rattle.sl_typing.specs.Views.{callee_of}
-use Rattle.sl_types.specs.Weights.{weight, weight_args, weight_stmt, weight_stmts, weight_known}
+use Rattle.sl_types.specs.Folds.{fold, fold_args, fold_stmt, fold_stmts}
+use Rattle.sl_types.specs.Weights.{weight_known, weighing}
 use Rattle.sl_types.proofs.Chains.{count_links, tree_links}
 use Rattle.sl_types.proofs.Placed.{args_before, stmts_before}
 use Rattle.sl_types.proofs.inline.+inline.Given as goal
@@ -14,22 +15,22 @@ abbrev pub decreases-call : goal.decreases-call
 decreases-call l = weight_known l.by_default (map callee_of l.known.now)
 
 abbrev pub decreases-expr : goal.decreases-expr
-decreases-expr l = weight (typed_of l.e.now) + weight_known l.by_default (map callee_of l.known.now)
+decreases-expr l = fold weighing [] (typed_of l.e.now) + weight_known l.by_default (map callee_of l.known.now)
 
 abbrev pub decreases-exprs : goal.decreases-exprs
-decreases-exprs l = weight_args (T.exprs (map typed_of l.es.now)) + weight_known l.by_default (map callee_of l.known.now)
+decreases-exprs l = fold_args weighing [] (T.exprs (map typed_of l.es.now)) + weight_known l.by_default (map callee_of l.known.now)
 
 abbrev pub decreases-chain : goal.decreases-chain
-decreases-chain l = 1 + weight (T.chained (typed_of l.first.now) (map tlink_of l.links.now)) + weight_known l.by_default (map callee_of l.known.now)
+decreases-chain l = 1 + fold weighing [] (T.chained (typed_of l.first.now) (map tlink_of l.links.now)) + weight_known l.by_default (map callee_of l.known.now)
 
 abbrev pub decreases-stmt : goal.decreases-stmt
-decreases-stmt l = weight_stmt (tstmt_of l.s.now) + weight_known l.by_default (map callee_of l.known.now)
+decreases-stmt l = 1 + fold_stmt weighing [] (tstmt_of l.s.now) + weight_known l.by_default (map callee_of l.known.now)
 
 abbrev pub decreases-branch : goal.decreases-branch
-decreases-branch l = 1 + weight_stmt (tstmt_of l.s.now) + weight_known l.by_default (map callee_of l.known.now)
+decreases-branch l = 2 + fold_stmt weighing [] (tstmt_of l.s.now) + weight_known l.by_default (map callee_of l.known.now)
 
 abbrev pub decreases-stmts : goal.decreases-stmts
-decreases-stmts l = weight_stmts (T.stmts (map tstmt_of l.body.now)) + weight_known l.by_default (map callee_of l.known.now)
+decreases-stmts l = fold_stmts weighing [] (T.stmts (map tstmt_of l.body.now)) + weight_known l.by_default (map callee_of l.known.now)
 
 abbrev pub invariant-exprs-loop-e : goal.invariant-exprs-loop-e
 invariant-exprs-loop-e l = record {

@@ -1,5 +1,6 @@
 use Rattle.std.proofs.Common.{◌≡◌, List, drop, map}
-use Rattle.sl_types.specs.Extents.{Extent, cut, beside, extent_stmts}
+use Rattle.sl_types.specs.Folds.{fold_stmts}
+use Rattle.sl_types.specs.Extents.{Extent, cut, beside, counting}
 use Rattle.sl_typing.specs.Typed as T
 use Rattle.sl_typing.specs.TypedView.{tstmt_of}
 use Rattle.sl_types.specs.ExtentView.{extent_of}
@@ -8,4 +9,4 @@ use Rattle.sl_types.proofs.sizes.+size_stmt.Given as goal
 abbrev pub invariant-size_stmts-loop-s : goal.invariant-size_stmts-loop-s
 invariant-size_stmts-loop-s l = (fs : List Extent) → map extent_of l.sizes ≡ map cut fs
     → (extent_of l.before ≡ cut (extent_of l.before))
-    × (cut (beside (extent_of l.before) (extent_stmts fs (T.stmts (map tstmt_of (drop l.s-index l.body))))) ≡ cut (extent_stmts fs (T.stmts (map tstmt_of l.body))))
+    × (cut (beside (extent_of l.before) (fold_stmts counting fs (T.stmts (map tstmt_of (drop l.s-index l.body))))) ≡ cut (fold_stmts counting fs (T.stmts (map tstmt_of l.body))))

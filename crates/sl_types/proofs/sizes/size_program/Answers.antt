@@ -1,5 +1,6 @@
 use Rattle.std.proofs.Common.{[], true, false, map, ap, ◌∙◌}
-use Rattle.sl_types.specs.Extents.{beside, cut, extent_params, extent_stmts, extents_from}
+use Rattle.sl_types.specs.Folds.{fold_stmts}
+use Rattle.sl_types.specs.Extents.{beside, cut, counting, extent_params, extents_from}
 use Rattle.sl_typing.specs.Typed as T
 use Rattle.sl_typing.specs.TypedView.{tstmt_of}
 use Rattle.sl_types.specs.ExtentView.{extent_of}
@@ -14,7 +15,7 @@ returns c =
     let by_default = ap (λ xs. map extent_of xs) c.as_slice-4.ensures.value ∙ c.in_ok-by_default.ensures ∙ ap (λ k. map cut (extents_from true [] (map callee_of k))) c.as_slice.ensures.value in
     let sizes = ap (λ xs. map extent_of xs) c.as_slice-6.ensures.value ∙ c.in_ok-sizes.ensures ∙ ap (λ k. map cut (extents_from false [] (map callee_of k))) c.as_slice-2.ensures.value in
     let params = c.size_params-params.ensures defaults by_default ∙ ap (λ ps. cut (extent_params defaults (map param_of ps))) c.as_slice-3.ensures.value in
-    let body = c.size_stmts-body.ensures bodies sizes ∙ ap (λ ss. cut (extent_stmts bodies (T.stmts (map tstmt_of ss)))) c.as_slice-5.ensures.value in
+    let body = c.size_stmts-body.ensures bodies sizes ∙ ap (λ ss. cut (fold_stmts counting bodies (T.stmts (map tstmt_of ss)))) c.as_slice-5.ensures.value in
     let a = extent_params defaults p.params in
-    let b = extent_stmts bodies (T.stmts p.body) in
+    let b = fold_stmts counting bodies (T.stmts p.body) in
     c.over.ensures (beside a b) (c.with.ensures a b params body)
