@@ -1,24 +1,18 @@
 -- What a statement adds to those before it, from what its node gives.
-use Rattle.std.proofs.Common.{◌≡◌, ℕ, Bool, true, false, cond, List, [], ◌∷◌, ◌++◌, map, take, length, Option, Result, Ok, Err, refl, sym, ap, ap₂, ◌∙◌, subst}
-use Rattle.std.proofs.lemmas.List.{length-map}
+use Rattle.std.proofs.Common.{◌≡◌, ℕ, Bool, true, false, cond, List, [], ◌∷◌, length, Result, Ok, Err, refl, sym, ap, ap₂, subst}
 use Rattle.sl_ast.specs.SyntaxView.{stmt_of}
 use Rattle.sl_ast.specs.declared.syntax.Stmt.{Stmt}
-use Rattle.sl_typing.specs.Found.{Found, ◌>>=◌, refuses}
+use Rattle.sl_typing.specs.Found.{Found, ◌>>=◌}
 use Rattle.sl_typing.specs.Scope as S
-use Rattle.sl_typing.specs.Stmts.{Rows, behind, branch, inner, no_test, stepped, for_head, for_of, typed_stmt, one_of}
+use Rattle.sl_typing.specs.Stmts.{Rows, behind, branch, no_test, stepped, for_head, for_of, typed_stmt}
 use Rattle.sl_typing.specs.Typed as T
-use Rattle.sl_typing.specs.Views.{Extends, Gives, GivesAll, GivesOne, GivesRows, boxed_of, local_of}
+use Rattle.sl_typing.specs.Views.{Gives, GivesOne, GivesRows}
 use Rattle.sl_typing.specs.declared.fault.TypeCode.TheVariants.{T2}
 use Rattle.sl_typing.specs.declared.fault.TypeFault.{TypeFault}
 use Rattle.sl_typing.specs.declared.fault.TypeFault.TheVariants.{At, NoMemory}
 use Rattle.sl_typing.specs.declared.places.Local.{Local}
 use Rattle.sl_typing.specs.declared.typed.TypedStmt.{TypedStmt}
 use Rattle.sl_typing.specs.TypedView.{tstmt_of}
-use Rattle.sl_typing.proofs.Behind.{behind_none}
-use Rattle.sl_typing.proofs.Scopes.{extends_same}
-
-pub left_same : (old new : List Local) → new ≡ old → Extends old new
-left_same old new is = subst (Extends old) (sym is) (extends_same old)
 
 -- what is added leaves the scope as it was
 pub added : {A : Type 0} (r : Result A TypeFault) (ts : List TypedStmt) (old new : List Local) (before : List T.Stmt) (x y : Rows) → new ≡ old → y ≡ x
@@ -50,22 +44,3 @@ pub steps_in_two : (ls : List S.Local) (line : ℕ) (first : Found (List T.Stmt)
 steps_in_two ls line first (Ok t) step body = two_parts (no_test t) ls line first t step body
 steps_in_two ls line (Ok x) (Err e) step body = refl
 steps_in_two ls line (Err f) (Err e) step body = refl
-
--- the statements of a branch or a block, behind none, and the scope that is left behind them
-pub scope_left : (scope after new : List Local) (start : ℕ) → new ≡ take start after → start ≡ length scope → Extends scope after → new ≡ scope
-scope_left scope after new start cut is extends = cut ∙ ap (λ n. take n after) is ∙ extends
-
-pub started : (f : ℕ → Rows) (scope : List Local) (start : ℕ) → start ≡ length scope → f (length (map local_of scope)) ≡ f start
-started f scope start is = ap f (length-map scope local_of ∙ sym is)
-
-rows_are : {A : Type 0} (r : Result A TypeFault) (u : A) (ts : List TypedStmt) (ls : List Local) (rows : Rows) → r ≡ Ok u → GivesRows r ts ls (behind [] rows)
-    → rows ≡ Ok (map tstmt_of ts, map local_of ls)
-rows_are r u ts ls rows is h = sym (behind_none rows) ∙ subst (λ r. GivesRows r ts ls (behind [] rows)) is h
-
-pub block_done : {A : Type 0} (r : Result A TypeFault) (u : A) (ts : List TypedStmt) (ls : List Local) (rows : Rows) → r ≡ Ok u → GivesRows r ts ls (behind [] rows)
-    → inner rows ≡ Ok (map tstmt_of ts)
-block_done r u ts ls rows is h = ap inner (rows_are r u ts ls rows is h)
-
-pub branch_done : {A : Type 0} (r : Result A TypeFault) (u : A) (ts : List TypedStmt) (ls : List Local) (rows : Rows) → r ≡ Ok u → GivesRows r ts ls (behind [] rows)
-    → branch rows ≡ Ok (one_of (map tstmt_of ts))
-branch_done r u ts ls rows is h = ap branch (rows_are r u ts ls rows is h)

@@ -91,7 +91,6 @@ fn declared(
 }
 
 // One name of a declaration.
-#[tactic(auto, using(crate::proofs::Scopes::extends_push))]
 fn name<'a>(
     alloc: Global,
     g: &Around<'_, 'a>,
@@ -301,17 +300,12 @@ pub fn light_args(
     let mut args = Vec::new(alloc);
     args.reserve(3)?;
     args.push_reserved(expr(place, alloc, g, false, scope)?);
-    if let Some(cone) = cone {
-        args.push_reserved(expr(&cone.axis, alloc, g, false, scope)?);
-        args.push_reserved(expr(&cone.angle, alloc, g, false, scope)?);
-    }
+    let Some(cone) = cone else {
+        return Ok(args);
+    };
+    args.push_reserved(expr(&cone.axis, alloc, g, false, scope)?);
+    args.push_reserved(expr(&cone.angle, alloc, g, false, scope)?);
     Ok(args)
-}
-
-fn takes(word: LightStmt, args: &[TypedExpr]) -> bool
-    ensures { spec.light_misfit word (map typed_of args.now) ≡ not result }
-{
-    lights_take(word, operands_of(args))
 }
 
 // A statement over lights, from what its arguments are.
@@ -327,7 +321,7 @@ pub fn lights_of(
         return Err(TypeFault::NoMemory);
     }
     if let Ok(args) = &args {
-        if !takes(word, args.as_slice()) {
+        if !lights_take(word, operands_of(args.as_slice())) {
             return fault(TypeCode::T2, line);
         }
     }

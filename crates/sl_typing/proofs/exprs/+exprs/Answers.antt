@@ -1,7 +1,7 @@
-use Rattle.std.proofs.Common.{◌≡◌, ◌+◌, [], ◌∷◌, false, Ok, rules, drop, map, arith, ap, sym, subst, ◌∙◌}
+use Rattle.std.proofs.Common.{◌≡◌, ◌+◌, [], ◌∷◌, true, false, Ok, rules, drop, map, arith, ap, sym, subst, ◌∙◌}
 use Rattle.sl_ast.specs.Syntax as U
 use Rattle.sl_ast.specs.SyntaxView.{expr_of, link_of}
-use Rattle.sl_typing.specs.Exprs.{applied, typed_expr, typed_args, typed_links, call_of}
+use Rattle.sl_typing.specs.Exprs.{applied, named, prefixed, tripled, converted, typed_expr, typed_args, typed_links, call_of}
 use Rattle.sl_typing.specs.Found.{◌>>=◌}
 use Rattle.sl_typing.specs.Measures.{size, size_args, size_links}
 use Rattle.sl_typing.specs.Rules.{operation_of}
@@ -9,7 +9,7 @@ use Rattle.sl_typing.specs.Typed as T
 use Rattle.sl_typing.specs.TypedView.{typed_of, tlink_of}
 use Rattle.sl_typing.specs.Views.{Gives, around_of, local_of}
 use Rattle.sl_typing.proofs.Chains.{grown_chain}
-use Rattle.sl_typing.proofs.Choices.{choice_is}
+use Rattle.sl_typing.proofs.Choices.{choice_is, three_is}
 use Rattle.sl_typing.proofs.Nodes.{call_is, chain_is, chain_split, chain_end, listed_all, small_arg, small_link}
 use Rattle.sl_typing.proofs.exprs.+exprs.Goals as goal
 
@@ -34,6 +34,61 @@ expr-exprs-parts-requires t c =
     let q = ap size (call_is c.args.e.now c.in-Call.name c.in-Call.args c.in-Call.line c.in-Call.is) in
     let d = ap (λ xs. size_args (U.exprs (map expr_of xs))) c.as_slice-in-Call.ensures in
     (omega (arith, c.decreases, q, d), tt)
+
+pub expr-returns-in-Number : goal.expr-returns-in-Number
+expr-returns-in-Number t c =
+    let g = around_of c.args.g.now in
+    let ls = map local_of c.args.scope.now in
+    subst (λ r. Gives typed_of c.number.result r) (sym (ap (λ e. typed_expr g c.args.behind ls (expr_of e)) c.in-Number.is)) c.number.ensures
+
+pub expr-returns-in-Str : goal.expr-returns-in-Str
+expr-returns-in-Str t c =
+    let g = around_of c.args.g.now in
+    let ls = map local_of c.args.scope.now in
+    subst (λ r. Gives typed_of c.word.result r) (sym (ap (λ e. typed_expr g c.args.behind ls (expr_of e)) c.in-Str.is)) c.word.ensures
+
+pub expr-returns-in-Name : goal.expr-returns-in-Name
+expr-returns-in-Name t c =
+    let g = around_of c.args.g.now in
+    let ls = map local_of c.args.scope.now in
+    subst (λ r. Gives typed_of c.named.result r)
+    (sym (ap (λ e. typed_expr g c.args.behind ls (expr_of e)) c.in-Name.is ∙ ap (named g.at c.in-Name.name c.in-Name.line) (sym c.level.ensures)))
+    c.named.ensures
+
+pub expr-returns-in-Paren : goal.expr-returns-in-Paren
+expr-returns-in-Paren t c =
+    let g = around_of c.args.g.now in
+    let ls = map local_of c.args.scope.now in
+    subst (λ r. Gives typed_of c.expr.result r)
+    (sym (ap (λ e. typed_expr g c.args.behind ls (expr_of e)) c.in-Paren.is ∙ ap (λ e. typed_expr g false ls (expr_of e)) (sym c.deref.ensures)))
+    c.expr.ensures
+
+pub expr-returns-in-Prefixed : goal.expr-returns-in-Prefixed
+expr-returns-in-Prefixed t c =
+    let g = around_of c.args.g.now in
+    let ls = map local_of c.args.scope.now in
+    subst (λ r. Gives typed_of c.prefixed.result r)
+    (sym (ap (λ e. typed_expr g c.args.behind ls (expr_of e)) c.in-Prefixed.is
+    ∙ ap (λ e. prefixed c.in-Prefixed.operator c.in-Prefixed.line (typed_expr g false ls (expr_of e))) (sym c.deref-in-Prefixed.ensures)))
+    (c.prefixed.ensures _ c.expr-operand.ensures)
+
+pub expr-returns-in-Triple : goal.expr-returns-in-Triple
+expr-returns-in-Triple t c =
+    let g = around_of c.args.g.now in
+    let ls = map local_of c.args.scope.now in
+    let parts = three_is (typed_expr g false ls) _ _ _ _ _ _ c.deref-in-Triple.ensures c.deref-in-Triple-2.ensures c.deref-in-Triple-3.ensures in
+    subst (λ r. Gives typed_of c.tripled.result r)
+    (sym (ap (λ e. typed_expr g c.args.behind ls (expr_of e)) c.in-Triple.is ∙ ap (tripled g.at c.in-Triple.kind c.in-Triple.space c.in-Triple.line) parts))
+    (c.tripled.ensures _ c.components-parts-in-Triple.ensures)
+
+pub expr-returns-in-Typed : goal.expr-returns-in-Typed
+expr-returns-in-Typed t c =
+    let g = around_of c.args.g.now in
+    let ls = map local_of c.args.scope.now in
+    subst (λ r. Gives typed_of c.converted.result r)
+    (sym (ap (λ e. typed_expr g c.args.behind ls (expr_of e)) c.in-Typed.is
+    ∙ ap (λ e. converted g.at c.in-Typed.kind c.in-Typed.space c.in-Typed.line (typed_expr g true ls (expr_of e))) (sym c.deref-in-Typed.ensures)))
+    (c.converted.ensures _ c.expr-part.ensures)
 
 pub expr-returns-in_ok-first-in-Chain : goal.expr-returns-in_ok-first-in-Chain
 expr-returns-in_ok-first-in-Chain t c =

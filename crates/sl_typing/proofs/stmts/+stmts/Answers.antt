@@ -1,4 +1,4 @@
-use Rattle.std.proofs.Common.{◌+◌, [], ◌∷◌, false, Ok, Err, drop, length, map, option_map, refl, arith, ap, ap₂, sym, subst, ◌∙◌}
+use Rattle.std.proofs.Common.{◌+◌, [], ◌∷◌, false, Ok, drop, length, map, option_map, refl, arith, ap, ap₂, sym, subst, ◌∙◌}
 use Rattle.sl_ast.specs.Syntax as U
 use Rattle.sl_ast.specs.SyntaxView.{expr_of, stmt_of, declared_of, assignment_of, cone_of}
 use Rattle.sl_ast.specs.declared.kinds.LightStmt.TheVariants.{Solar}
@@ -8,12 +8,12 @@ use Rattle.sl_typing.specs.Stmts as spec
 use Rattle.sl_typing.specs.Stmts.{behind, typed_stmt, typed_rows}
 use Rattle.sl_typing.specs.Measures.{size_stmt, size_rows}
 use Rattle.sl_typing.specs.Typed as T
-use Rattle.sl_typing.specs.TypedView.{typed_of, tstmt_of}
-use Rattle.sl_typing.specs.Views.{Gives, GivesAll, boxed_of, around_of, local_of}
+use Rattle.sl_typing.specs.TypedView.{tstmt_of}
+use Rattle.sl_typing.specs.Views.{Gives, boxed_of, around_of, local_of}
 use Rattle.sl_typing.proofs.Behind.{rows_step}
 use Rattle.sl_typing.proofs.Nodes.{block_is, small_stmt}
-use Rattle.sl_typing.proofs.Scopes.{extends_same, extends_trans}
-use Rattle.sl_typing.proofs.StmtRows.{left_same, added, given_one, in_branch, steps_in_two, scope_left, started, block_done, branch_done}
+use Rattle.sl_typing.proofs.Scopes.{extends_same, extends_trans, left_same}
+use Rattle.sl_typing.proofs.StmtRows.{added, given_one, in_branch, steps_in_two}
 use Rattle.sl_typing.proofs.stmts.+stmts.Goals as goal
 
 pub rows-stmt-requires : goal.rows-stmt-requires
