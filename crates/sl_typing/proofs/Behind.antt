@@ -1,5 +1,5 @@
 -- What is typed behind what has been typed.
-use Rattle.std.proofs.Common.{◌≡◌, ◌≤◌, ◌<◌, ℕ, ◌+◌, Bool, false, List, [], ◌∷◌, ◌++◌, append_assoc, append-nil, drop, map, length, get_or, Ok, Err, refl, sym, ap, ◌∙◌}
+use Rattle.std.proofs.Common.{◌≡◌, ◌≤◌, ◌<◌, ℕ, ◌+◌, Bool, false, cond, List, [], ◌∷◌, ◌++◌, append_assoc, append-nil, drop, map, length, get_or, Ok, Err, refl, sym, ap, ap₂, ◌∙◌}
 use Rattle.std.proofs.lemmas.List.{at_drop_more, drop_all}
 use Rattle.sl_ast.specs.Syntax as U
 use Rattle.sl_ast.specs.SyntaxView.{expr_of, stmt_of, declared_of}
@@ -8,6 +8,7 @@ use Rattle.sl_ast.specs.declared.syntax.Expr.{Expr}
 use Rattle.sl_ast.specs.declared.syntax.Stmt.{Stmt}
 use Rattle.sl_ast.specs.declared.kinds.SlType.{SlType}
 use Rattle.sl_typing.specs.Found.{Found, ◌>>=◌}
+use Rattle.sl_typing.specs.declared.fault.TypeCode.TheVariants.{T10}
 use Rattle.sl_typing.specs.Typed as T
 use Rattle.sl_typing.specs.Scope.{Local, Around}
 use Rattle.sl_typing.specs.Exprs.{typed_expr, typed_args}
@@ -49,6 +50,11 @@ behind_twice ts ss (Err e) = refl
 behind_followed : (ts : List T.Stmt) (rows : Rows) (next : List Local → Rows) → behind ts (followed rows next) ≡ behind ts rows >>= λ r. behind r.0 (next r.1)
 behind_followed ts (Ok r) next = behind_twice ts r.0 (next r.1)
 behind_followed ts (Err e) next = refl
+
+-- a name that is declared behind others
+pub name_added : (b : Bool) (found : Found T.Stmt) (s : T.Stmt) (ts : List T.Stmt) (ls : List Local) (l : Local) (line : ℕ) → b ≡ false → found ≡ Ok s
+    → behind ts (cond b (Err (T10, line)) (found >>= λ s. Ok (s ∷ [], ls ++ l ∷ []))) ≡ Ok (ts ++ s ∷ [], ls ++ l ∷ [])
+name_added b found s ts ls l line new is = ap₂ (λ b f. behind ts (cond b (Err (T10, line)) (f >>= λ s. Ok (s ∷ [], ls ++ l ∷ [])))) new is
 
 pub names_step : (g : Around) (from : ℕ) (uniform : Bool) (kind : SlType) (ts : List T.Stmt) (ls : List Local) (ds : List Declared) (i : ℕ) (d : Declared)
     → i < length ds → d ≡ get_or ds i d

@@ -6,5 +6,7 @@ pub mod Scopes
 pub mod Named
 pub mod Branches
 pub mod Chains
+pub mod Choices
 pub mod Ends
+pub mod Learned
 pub mod StmtRows

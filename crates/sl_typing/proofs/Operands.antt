@@ -2,7 +2,8 @@
 use Rattle.std.proofs.Common.{◌≡◌, ◌≢◌, ◌≤◌, ◌<◌, ℕ, zero, suc, ◌+◌, Bool, true, false, ◌&&◌, get_or, ap, ap₂, sym, ◌∙◌, List, [], ◌∷◌, Ok, length, map, drop, refl, arith}
 use Rattle.sl_typing.specs.TypedView.{typed_of}
 use Rattle.sl_ast.specs.Rules.{takes}
-use Rattle.sl_typing.specs.Exprs.{operands_of, spaces_of, both_spaces, fits}
+use Rattle.sl_typing.specs.Exprs.{operands_of, spaces_of, space_in, both_spaces, fits}
+use Rattle.sl_typing.specs.Found.{◌>>=◌}
 use Rattle.sl_typing.specs.Typed.{kind_of}
 use Rattle.sl_typing.specs.Views.{local_of}
 use Rattle.sl_typing.specs.declared.places.Local.{Local}
@@ -26,6 +27,13 @@ other_counts g line (a ∷ []) p q = refl
 other_counts g line (a ∷ b ∷ []) p q = absurd (p refl)
 other_counts g line (a ∷ b ∷ c ∷ []) p q = absurd (q refl)
 other_counts g line (a ∷ b ∷ c ∷ d ∷ rest) p q = refl
+
+pub two_args : (g : Around) (line : ℕ) (xs : List Expr) (a : Expr) → 2 ≤ length xs → length xs < 3 → a ≡ get_or xs 0 a
+    → spaces_of g line (map expr_of xs) ≡ space_in g line (expr_of a) >>= λ s. Ok (Current, s)
+two_args g line [] a low high p = absurd (omega (arith, low))
+two_args g line (x ∷ []) a low high p = absurd (omega (arith, low))
+two_args g line (x ∷ y ∷ []) a low high p = ap (λ r. space_in g line (expr_of r) >>= λ s. Ok (Current, s)) (sym p)
+two_args g line (x ∷ y ∷ z ∷ rest) a low high p = absurd (omega (arith, high))
 
 pub three_args : (g : Around) (line : ℕ) (xs : List Expr) (a b : Expr) → 3 ≤ length xs → length xs < 4 → a ≡ get_or xs 0 a → b ≡ get_or xs 1 b
     → spaces_of g line (map expr_of xs) ≡ both_spaces g line (expr_of a) (expr_of b)

@@ -1,5 +1,5 @@
 -- Scopes that grow.
-use Rattle.std.proofs.Common.{◌≡◌, ℕ, List, [], ◌∷◌, ◌++◌, map, take, refl, sym, ap, ◌∙◌, ap₂}
+use Rattle.std.proofs.Common.{◌≡◌, ℕ, List, [], ◌∷◌, ◌++◌, map, take, refl, sym, ap, ◌∙◌, ap₂, subst}
 use Rattle.std.proofs.lemmas.List.{take-map}
 use Rattle.sl_typing.specs.declared.places.Local.{Local}
 use Rattle.sl_typing.specs.Views.{Extends}
@@ -25,6 +25,12 @@ extends_same (x ∷ a) = ap (λ r. x ∷ r) (extends_same a)
 pub extends_push : (a b : List Local) → Extends a (a ++ b)
 extends_push [] b = refl
 extends_push (x ∷ a) b = ap (λ r. x ∷ r) (extends_push a b)
+
+pub left_same : (old new : List Local) → new ≡ old → Extends old new
+left_same old new is = subst (Extends old) (sym is) (extends_same old)
+
+pub left_longer : (old new more : List Local) → new ≡ old ++ more → Extends old new
+left_longer old new more is = subst (Extends old) (sym is) (extends_push old more)
 
 pub extends_trans : (a b c : List Local) → Extends a b → Extends b c → Extends a c
 extends_trans [] b c p q = refl

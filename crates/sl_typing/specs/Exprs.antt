@@ -20,6 +20,7 @@ use Rattle.sl_ast.specs.declared.operations.Operation.{Operation}
 use Rattle.sl_ast.specs.declared.operations.Operation.TheVariants as operations
 use Rattle.sl_ast.specs.declared.operations.ValueOperation.TheVariants as ops
 use Rattle.sl_ast.specs.declared.kinds.Predefined.{Predefined}
+use Rattle.sl_ast.specs.declared.kinds.Prefix.{Prefix}
 use Rattle.sl_ast.specs.declared.kinds.SpaceName.{SpaceName}
 use Rattle.sl_ast.specs.declared.kinds.SpaceName.TheVariants.{Current}
 use Rattle.sl_ast.specs.declared.syntax.Space.{Space}
@@ -81,6 +82,14 @@ applied op line args = ruled op args line (rule op (operands_of args))
 -- no rule fits these operands
 abbrev pub misfits : Operation → List T.Expr → Bool
 misfits op args = not (is_some (rule op (operands_of args)))
+
+-- a prefix operator on its operand
+abbrev pub prefixed : Prefix → ℕ → Found T.Expr → Found T.Expr
+prefixed operator line operand = operand >>= λ t. applied (prefix_operation operator) line (t ∷ [])
+
+-- one of two values by a condition
+abbrev pub chosen : ℕ → Found (List T.Expr) → Found T.Expr
+chosen line parts = parts >>= applied (operations.Value ops.Select) line
 
 -- the space of a name
 abbrev pub space_at : ℕ → Option SpaceName → Found SpaceName
@@ -230,7 +239,7 @@ abbrev mutual
   typed_expr g behind ls (U.triple kind space x y z line) =
       tripled g.at kind space line (three (typed_expr g false ls x) (typed_expr g false ls y) (typed_expr g false ls z))
   typed_expr g behind ls (U.typed kind space e line) = converted g.at kind space line (typed_expr g true ls e)
-  typed_expr g behind ls (U.prefixed operator e line) = typed_expr g false ls e >>= λ t. applied (prefix_operation operator) line (t ∷ [])
+  typed_expr g behind ls (U.prefixed operator e line) = prefixed operator line (typed_expr g false ls e)
   typed_expr g behind ls (U.chain row e rest) = typed_expr g false ls e >>= λ t. typed_links g ls t rest
   typed_expr g behind ls (U.choice t a b line) =
       typed_expr g false ls t >>= λ x. typed_expr g false ls a >>= λ y. typed_expr g false ls b >>= λ z. applied (operations.Value ops.Select) line (x ∷ y ∷ z ∷ [])

@@ -96,6 +96,10 @@ callee_in kind known f = record {
   by_default = body_of (within kind true known f) f;
 }
 
+-- a function behind those before it
+abbrev pub learned : SlKind → List Callee → U.Function → Found (List Callee)
+learned kind known f = if is_some (callee_named f.name known) then Err (T10, f.line) else Ok (known ++ callee_in kind known f ∷ [])
+
 -- the functions in their order, each over those before it
 abbrev pub known_from : SlKind → List Callee → List U.Function → Found (List Callee)
 known_from kind known [] = Ok known
@@ -139,6 +143,12 @@ pub record Program : Type 0 where
 
 abbrev pub in_body : SlKind → List Callee → Around
 in_body kind known = record { at = W.in_shader kind; own = None; known = known }
+
+-- the parameters and the body of a shader, over its functions
+abbrev pub params_and_body : U.Shader → List Callee → Found (List Param × List T.Stmt)
+params_and_body s known =
+    typed_groups (by_default s.kind known) [] s.params >>= λ params.
+    typed_rows (in_body s.kind known) (length params) (locals_of params) s.body >>= λ rows. Ok (params, rows.0)
 
 abbrev pub program : U.Shader → Found Program
 program s =

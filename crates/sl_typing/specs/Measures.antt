@@ -13,7 +13,7 @@ abbrev mutual
   size (typed kind space e line) = 1 + size e
   size (prefixed operator e line) = 1 + size e
   size (chain row e rest) = 1 + (size e + size_links rest)
-  size (choice t e f line) = 1 + (size t + (size e + size f))
+  size (choice t e f line) = 2 + (size t + (size e + size f))
 
   pub size_args : Exprs → ℕ
   size_args none = 1

@@ -141,32 +141,61 @@ lights_of g word line args =
     if refuses args (light_misfit word) then Err (T2, line) else
     (if not (has_lights g.kind word) then Err (T6, line) else (if g.default then Err (T11, line) else args))
 
+-- a statement that leaves the scope as it is, from what its parts give: the first fault in their order, or the node
+abbrev pub jumped : Bool → List Local → ℕ → T.Stmt → Rows
+jumped looped ls line s = if looped then Ok (s ∷ [], ls) else Err (T8, line)
+
+abbrev pub blocked : List Local → ℕ → Found (List T.Stmt) → Rows
+blocked ls line body = body >>= λ b. Ok (T.block (T.stmts b) line ∷ [], ls)
+
+abbrev pub tested : List Local → ℕ → Found T.Expr → Found T.Stmt → Rows
+tested ls line test body = test >>= λ t. body >>= λ r. Ok (T.test t r line ∷ [], ls)
+
+abbrev pub tested_else : List Local → ℕ → Found T.Expr → Found T.Stmt → Found T.Stmt → Rows
+tested_else ls line test body otherwise = test >>= λ t. body >>= λ r. otherwise >>= λ q. Ok (T.test_else t r q line ∷ [], ls)
+
+abbrev pub repeated : List Local → ℕ → Found T.Expr → Found T.Stmt → Rows
+repeated ls line test body = test >>= λ t. body >>= λ r. Ok (T.repeat t r line ∷ [], ls)
+
+-- the type of the condition is asked before the first assignment, and its own faults are told behind it
+abbrev pub stepped : List Local → ℕ → Found (List T.Stmt) → Found T.Expr → Found (List T.Stmt) → Found T.Stmt → Rows
+stepped ls line first test step body =
+    if refuses test no_test then Err (T2, line) else
+    (first >>= λ x. test >>= λ t. step >>= λ y. body >>= λ r. Ok (T.steps (T.stmts x) t (T.stmts y) r line ∷ [], ls))
+
+-- the same in two parts
+abbrev pub Head : Type 0
+Head = List T.Stmt × T.Expr
+
+abbrev pub for_head : ℕ → Found T.Expr → Found (List T.Stmt) → Found Head
+for_head line test first = if refuses test no_test then Err (T2, line) else (first >>= λ x. test >>= λ t. Ok (x, t))
+
+abbrev pub for_of : List Local → ℕ → Found Head → Found (List T.Stmt) → Found T.Stmt → Rows
+for_of ls line head step body = head >>= λ h. step >>= λ y. body >>= λ r. Ok (T.steps (T.stmts h.0) h.1 (T.stmts y) r line ∷ [], ls)
+
+abbrev pub lighted : List Local → LightStmt → ℕ → Found (List T.Expr) → Found T.Stmt → Rows
+lighted ls word line args body = args >>= λ xs. body >>= λ r. Ok (T.lights word (T.exprs xs) r line ∷ [], ls)
+
 abbrev mutual
   pub typed_stmt : Around → ℕ → List Local → U.Stmt → Rows
   typed_stmt g from ls (U.empty line) = Ok (T.empty line ∷ [], ls)
-  typed_stmt g from ls (U.leave line) = if g.at.looped then Ok (T.leave line ∷ [], ls) else Err (T8, line)
-  typed_stmt g from ls (U.again line) = if g.at.looped then Ok (T.again line ∷ [], ls) else Err (T8, line)
-  typed_stmt g from ls (U.block ss line) = inner (typed_rows g (length ls) ls ss) >>= λ b. Ok (T.block (T.stmts b) line ∷ [], ls)
+  typed_stmt g from ls (U.leave line) = jumped g.at.looped ls line (T.leave line)
+  typed_stmt g from ls (U.again line) = jumped g.at.looped ls line (T.again line)
+  typed_stmt g from ls (U.block ss line) = blocked ls line (inner (typed_rows g (length ls) ls ss))
   typed_stmt g from ls (U.assign a) = typed_set g ls a >>= λ s. Ok (s ∷ [], ls)
   typed_stmt g from ls (U.give e line) = Err (misplaced g.own (typed_expr g false ls e), line)
   typed_stmt g from ls (U.declare class kind names line) = typed_names g from (is_uniform class) kind ls names
-  typed_stmt g from ls (U.test e s line) =
-      condition line (typed_expr g false ls e) >>= λ t. branch (typed_stmt g (length ls) ls s) >>= λ r. Ok (T.test t r line ∷ [], ls)
+  typed_stmt g from ls (U.test e s line) = tested ls line (condition line (typed_expr g false ls e)) (branch (typed_stmt g (length ls) ls s))
   typed_stmt g from ls (U.test_else e s o line) =
-      condition line (typed_expr g false ls e) >>= λ t. branch (typed_stmt g (length ls) ls s) >>= λ r.
-      branch (typed_stmt g (length ls) ls o) >>= λ q. Ok (T.test_else t r q line ∷ [], ls)
+      tested_else ls line (condition line (typed_expr g false ls e)) (branch (typed_stmt g (length ls) ls s)) (branch (typed_stmt g (length ls) ls o))
   typed_stmt g from ls (U.repeat e s line) =
-      condition line (typed_expr g false ls e) >>= λ t. branch (typed_stmt (in_loop g) (length ls) ls s) >>= λ r. Ok (T.repeat t r line ∷ [], ls)
+      repeated ls line (condition line (typed_expr g false ls e)) (branch (typed_stmt (in_loop g) (length ls) ls s))
   typed_stmt g from ls (U.steps a e b s line) =
-      if refuses (typed_expr g false ls e) no_test then Err (T2, line) else
-      (optional_set g ls a >>= λ x. typed_expr g false ls e >>= λ t. optional_set g ls b >>= λ y.
-      branch (typed_stmt (in_loop g) (length ls) ls s) >>= λ r. Ok (T.steps (T.stmts x) t (T.stmts y) r line ∷ [], ls))
+      stepped ls line (optional_set g ls a) (typed_expr g false ls e) (optional_set g ls b) (branch (typed_stmt (in_loop g) (length ls) ls s))
   typed_stmt g from ls (U.lights word e c s line) =
-      lights_of g.at (light_word word) line (typed_args g ls (light_args e c)) >>= λ xs.
-      branch (typed_stmt (in_lights g) (length ls) ls s) >>= λ r. Ok (T.lights (light_word word) (T.exprs xs) r line ∷ [], ls)
+      lighted ls (light_word word) line (lights_of g.at (light_word word) line (typed_args g ls (light_args e c))) (branch (typed_stmt (in_lights g) (length ls) ls s))
   typed_stmt g from ls (U.solar e f s line) =
-      lights_of g.at Solar line (typed_args g ls (U.more e (U.more f U.none))) >>= λ xs.
-      branch (typed_stmt (in_lights g) (length ls) ls s) >>= λ r. Ok (T.lights Solar (T.exprs xs) r line ∷ [], ls)
+      lighted ls Solar line (lights_of g.at Solar line (typed_args g ls (U.more e (U.more f U.none)))) (branch (typed_stmt (in_lights g) (length ls) ls s))
 
   pub typed_rows : Around → ℕ → List Local → U.Stmts → Rows
   typed_rows g from ls U.done = Ok ([], ls)

@@ -1,5 +1,5 @@
 -- What the code holds, and what its answers say of the definitions.
-use Rattle.std.specs.Prelude.{◌≡◌, ℕ, true, false, List, Vec, Option, option_map, Result, Ok, Err, map, take, length}
+use Rattle.std.specs.Prelude.{◌≡◌, ℕ, true, false, List, [], ◌∷◌, Vec, Option, option_map, Result, Ok, Err, map, take, length}
 use Rattle.std.specs.declared.alloc.Global.{Global}
 use Rattle.sl_typing.specs.declared.fault.TypeFault.{TypeFault}
 use Rattle.sl_typing.specs.declared.fault.TypeFault.TheVariants.{At, NoMemory}
@@ -14,12 +14,13 @@ use Rattle.sl_ast.specs.WellTyped as W
 use Rattle.std.specs.Borrow.{Bor}
 use Rattle.sl_typing.specs.declared.typed.TypedStmt.{TypedStmt}
 use Rattle.sl_typing.specs.declared.typed.TypedExpr.{TypedExpr}
+use Rattle.sl_typing.specs.declared.typed.TypedLink.{TypedLink}
 use Rattle.sl_typing.specs.declared.fault.TypeCode.TheVariants.{T2}
 use Rattle.std.specs.declared.boxed.Box.{Box}
 use Rattle.sl_typing.specs.Found.{Found, refuses}
 use Rattle.sl_typing.specs.Stmts.{no_test}
 use Rattle.sl_typing.specs.Typed as T
-use Rattle.sl_typing.specs.TypedView.{typed_of, tstmt_of}
+use Rattle.sl_typing.specs.TypedView.{typed_of, tlink_of, tstmt_of}
 use Rattle.sl_typing.specs.Scope as S
 use Rattle.sl_typing.specs.Functions as F
 use Rattle.sl_typing.specs.declared.places.Param.{Param}
@@ -46,11 +47,23 @@ GivesRows (Ok u) ts ls found = found ≡ Ok (map tstmt_of ts, map local_of ls)
 GivesRows (Err (At code line)) ts ls found = found ≡ Err (code, line)
 GivesRows (Err NoMemory) ts ls found = Unit {0}
 
+-- what an answer says of a statement that leaves the scope as it is
+abbrev pub GivesOne : Result TypedStmt TypeFault → List S.Local → Found (List T.Stmt × List S.Local) → Type 0
+GivesOne r ls found = Gives (λ s. (tstmt_of s ∷ [], ls)) r found
+
 -- the condition of a `for`, whose type was asked: it is told at that line where it is none, else the condition is as found
 abbrev pub GivesTested : Result (Result TypedExpr TypeFault) TypeFault → ℕ → Found T.Expr → Type 0
 GivesTested (Ok r) line found = (refuses found no_test ≡ false) × Gives typed_of r found
 GivesTested (Err (At code l)) line found = (refuses found no_test ≡ true) × (code ≡ T2) × (l ≡ line)
 GivesTested (Err NoMemory) line found = Unit {0}
+
+-- the first assignment of a `for` with its condition
+abbrev pub head_of : Vec TypedStmt Global × TypedExpr → List T.Stmt × T.Expr
+head_of h = (map tstmt_of h.0.items, typed_of h.1)
+
+-- a chain of operators behind what stands before
+abbrev pub chain_of : T.Expr → Vec TypedLink Global → T.Expr
+chain_of t links = T.chained t (map tlink_of links.items)
 
 abbrev pub boxed_of : Box TypedStmt Global → T.Stmt
 boxed_of b = tstmt_of b.value

@@ -107,18 +107,7 @@ fn literal_space(g: &Spot, line: u32, literal: Option<(&Text, u32)>) -> Result<S
 fn space_in(g: &Spot, line: u32, e: &Expr) -> Result<SpaceName, TypeFault>
     ensures { Gives (λ s. s) result (spec.space_in (spot_of g.now) line (expr_of e.now)) }
 {
-    let space = literal_space(g, line, literal_of(e))?;
-    Ok(space)
-}
-
-fn is_literal(e: &Expr) -> bool
-    ensures { result ≡ is_some (spec.literal_of (expr_of e.now)) }
-{
-    match e {
-        Expr::Str { .. } => true,
-        Expr::Paren { inner, .. } => is_literal(inner),
-        _ => false,
-    }
+    literal_space(g, line, literal_of(e))
 }
 
 fn both_spaces(
@@ -129,7 +118,7 @@ fn both_spaces(
 ) -> Result<(SpaceName, SpaceName), TypeFault>
     ensures { Gives (λ s. s) result (spec.both_spaces (spot_of g.now) line (expr_of from.now) (expr_of into.now)) }
 {
-    if !is_literal(into) {
+    if literal_of(into).is_none() {
         return fault(TypeCode::T11, line);
     }
     let from = space_in(g, line, from)?;
@@ -138,7 +127,6 @@ fn both_spaces(
 }
 
 // The spaces from and into which `transform` and its like map.
-#[tactic(auto, using(crate::proofs::Operands::other_counts))]
 fn spaces_of(g: &Spot, line: u32, es: &[Expr]) -> Result<(SpaceName, SpaceName), TypeFault>
     ensures { Gives (λ s. s) result (spec.spaces_of (spot_of g.now) line (map expr_of es.now)) }
 {
@@ -179,20 +167,11 @@ fn operation_in(
 }
 
 // `faceforward` by the number of its arguments.
-fn facing(args: &[TypedExpr]) -> Operation
-    ensures { result ≡ spec.facing (map typed_of args.now) }
-{
-    match args {
-        [_, _] => Operation::FaceForwardNg,
-        _ => Operation::Value(ValueOperation::FaceForward),
-    }
-}
-
 fn by_count(operation: Operation, args: &[TypedExpr]) -> Operation
     ensures { result ≡ spec.by_count operation (map typed_of args.now) }
 {
-    match operation {
-        Operation::Value(ValueOperation::FaceForward) => facing(args),
+    match (operation, args) {
+        (Operation::Value(ValueOperation::FaceForward), [_, _]) => Operation::FaceForwardNg,
         _ => operation,
     }
 }

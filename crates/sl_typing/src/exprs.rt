@@ -1,24 +1,24 @@
 // The typed trees of expressions.
-ghost use Rattle.std.specs.Prelude.{◌≡◌, [], ◌∷◌, Ok, List, false, map, option_map};
+ghost use Rattle.std.specs.Prelude.{◌≡◌, Ok, false, map, option_map};
 ghost use Rattle.sl_ast.specs.Syntax as U;
 ghost use Rattle.sl_ast.specs.SyntaxView.{expr_of, link_of};
 ghost use Rattle.sl_typing.specs.Exprs as spec;
 ghost use Rattle.sl_typing.specs.Typed as T;
 ghost use Rattle.sl_typing.specs.TypedView.{typed_of};
-ghost use Rattle.sl_typing.specs.Views.{Gives, GivesAll, spot_of, around_of, local_of, found_of};
+ghost use Rattle.sl_typing.specs.Views.{Gives, GivesAll, spot_of, around_of, local_of, found_of, chain_of};
 
 use crate::calls::call_of;
 use crate::fault::{TypeCode, TypeFault, fault};
 use crate::names::find;
-use crate::operations::{applied_one, applied_three, chained, converted, kind_of, linked, tripled};
+use crate::operations::{chained, chosen, converted, kind_of, linked, prefixed, tripled};
 use crate::places::{Around, Local, Spot};
 use crate::predefined::{is_own, is_read, predefined_names};
-use crate::rules::{operation_of, prefix_operation};
+use crate::rules::operation_of;
 use crate::scope::{Scope, place_of};
-use crate::typed::TypedExpr;
+use crate::typed::{TypedExpr, TypedLink};
 use fixed_math::{Num, Text};
 use rib_lex::{LexFault, Token, TokenKind, tokens};
-use sl_ast::{Expr, Link, Operation, Predefined, ValueOperation, Variable};
+use sl_ast::{Expr, Link, Predefined, Variable};
 use std::alloc::Global;
 
 fn first_value(tokens: &[Token]) -> Num
@@ -122,12 +122,13 @@ pub fn expr(
             operand,
             line,
         } => {
-            let operand = expr(operand, alloc, g, false, scope)?;
-            applied_one(alloc, prefix_operation(*operator), *line, operand)
+            let operand = expr(operand, alloc, g, false, scope);
+            prefixed(alloc, *operator, *line, operand)
         }
         Expr::Chain { first, links, .. } => {
             let first = expr(first, alloc, g, false, scope)?;
-            chain(links.as_slice(), alloc, g, scope, first)
+            let links = typed_links(links.as_slice(), alloc, g, scope, &first);
+            chained(alloc, first, links)
         }
         Expr::Choice {
             test,
@@ -135,17 +136,8 @@ pub fn expr(
             second,
             line,
         } => {
-            let test = expr(test, alloc, g, false, scope)?;
-            let first = expr(first, alloc, g, false, scope)?;
-            let second = expr(second, alloc, g, false, scope)?;
-            applied_three(
-                alloc,
-                Operation::Value(ValueOperation::Select),
-                *line,
-                test,
-                first,
-                second,
-            )
+            let parts = components(test, first, second, alloc, g, scope);
+            chosen(*line, parts)
         }
         Expr::Triple {
             kind,
@@ -195,16 +187,16 @@ pub fn exprs(
 
 // Operators behind a first operand.
 #[cycle(exprs)]
-fn chain(
+fn typed_links(
     links: &[Link],
     alloc: Global,
     g: &Around<'_, '_>,
     scope: &Scope<'_>,
-    first: TypedExpr,
-) -> Result<TypedExpr, TypeFault>
-    ensures { Gives typed_of result (spec.typed_links (around_of g.now) (map local_of scope.now) (typed_of first) (U.links (map link_of links.now))) }
+    first: &TypedExpr,
+) -> Result<Vec<TypedLink>, TypeFault>
+    ensures { Gives (chain_of (typed_of first.now)) result (spec.typed_links (around_of g.now) (map local_of scope.now) (typed_of first.now) (U.links (map link_of links.now))) }
 {
-    let mut kind = kind_of(&first);
+    let mut kind = kind_of(first);
     let mut typed = Vec::new(alloc);
     for link in links {
         let operand = expr(&link.operand, alloc, g, false, scope)?;
@@ -212,10 +204,10 @@ fn chain(
         kind = next.kind;
         typed.push(next)?;
     }
-    Ok(chained(alloc, first, typed)?)
+    Ok(typed)
 }
 
-// The components of a triple.
+// Three expressions: the components of a triple, or the parts of a choice.
 #[cycle(exprs)]
 fn components(
     x: &Expr,
@@ -227,9 +219,10 @@ fn components(
 ) -> Result<Vec<TypedExpr>, TypeFault>
     ensures { GivesAll typed_of result (spec.three (spec.typed_expr (around_of g.now) false (map local_of scope.now) (expr_of x.now)) (spec.typed_expr (around_of g.now) false (map local_of scope.now) (expr_of y.now)) (spec.typed_expr (around_of g.now) false (map local_of scope.now) (expr_of z.now))) }
 {
-    let x = expr(x, alloc, g, false, scope)?;
-    let y = expr(y, alloc, g, false, scope)?;
-    let z = expr(z, alloc, g, false, scope)?;
-    let parts = vec![in alloc; x, y, z]?;
+    let mut parts = Vec::new(alloc);
+    parts.reserve(3)?;
+    parts.push_reserved(expr(x, alloc, g, false, scope)?);
+    parts.push_reserved(expr(y, alloc, g, false, scope)?);
+    parts.push_reserved(expr(z, alloc, g, false, scope)?);
     Ok(parts)
 }

@@ -126,18 +126,17 @@ fn formals_of<'a>(alloc: Global, groups: &'a [Group]) -> Result<Vec<Local<'a>>, 
     Ok(formals)
 }
 
-// The scope of formals, each name of which stands once.
-fn scope_from<'a>(alloc: Global, formals: &[Local<'a>]) -> Result<Scope<'a>, TypeFault>
-    ensures { Gives (map local_of) result (spec.scope_from [] (map local_of formals.now)) }
+// Puts formals, each name of which stands once, into a scope.
+fn enter<'a>(formals: &[Local<'a>], scope: &mut Scope<'a>) -> Result<(), TypeFault>
+    ensures { Gives (λ _. map local_of scope.new) result (spec.scope_from (map local_of scope.old) (map local_of formals.now)) }
 {
-    let mut scope = Scope::new(alloc);
     for formal in formals {
         if scope.level(formal.name).is_some() {
             return fault(TypeCode::T10, formal.line);
         }
         scope.push(*formal)?;
     }
-    Ok(scope)
+    Ok(())
 }
 
 // What a function does, or the first fault in it.
@@ -153,9 +152,11 @@ fn typed_function<'a>(
     if !gives_any(f.body.as_slice()) {
         return fault(TypeCode::T8, f.line);
     }
-    let mut scope = scope_from(alloc, formals)?;
-    let body = body_from(alloc, g, f.returns, f.line, &mut scope, f.body.as_slice())?;
-    Ok(body)
+    let mut scope = Scope::new(alloc);
+    match enter(formals, &mut scope) {
+        Err(fault) => Err(fault),
+        Ok(()) => body_from(alloc, g, f.returns, f.line, &mut scope, f.body.as_slice()),
+    }
 }
 
 fn within(kind: SlKind, by_default: bool) -> Spot
@@ -227,21 +228,34 @@ fn learned<'a>(
     })
 }
 
-/// The functions in their order, each over those before it.
-pub fn known_from<'a>(
+// Adds a function to those before it.
+fn learn<'a>(
+    alloc: Global,
+    kind: SlKind,
+    f: &'a Function,
+    known: &mut Functions<'a>,
+) -> Result<(), TypeFault>
+    ensures { Gives (λ _. map callee_of known.new) result (spec.learned kind (map callee_of known.old) (function_of f.now)) }
+{
+    if known.find(&f.name).is_some() {
+        return fault(TypeCode::T10, f.line);
+    }
+    let next = learned(alloc, kind, known, f)?;
+    known.push(next)?;
+    Ok(())
+}
+
+/// Adds functions in their order, each over those before it.
+pub fn learn_all<'a>(
     alloc: Global,
     kind: SlKind,
     functions: &'a [Function],
-) -> Result<Functions<'a>, TypeFault>
-    ensures { Gives (map callee_of) result (spec.known_from kind [] (map function_of functions.now)) }
+    known: &mut Functions<'a>,
+) -> Result<(), TypeFault>
+    ensures { Gives (λ _. map callee_of known.new) result (spec.known_from kind (map callee_of known.old) (map function_of functions.now)) }
 {
-    let mut known = Functions::new(alloc);
     for f in functions {
-        if known.find(&f.name).is_some() {
-            return fault(TypeCode::T10, f.line);
-        }
-        let next = learned(alloc, kind, &known, f)?;
-        known.push(next)?;
+        learn(alloc, kind, f, known)?;
     }
-    Ok(known)
+    Ok(())
 }

@@ -3,6 +3,7 @@
 #![tactic(auto)]
 
 mod calls;
+mod compound;
 mod entry;
 mod exprs;
 mod fault;

@@ -1,20 +1,21 @@
 // Operators, conversions and built-ins on typed operands.
-ghost use Rattle.std.specs.Prelude.{List, ◌≡◌, [], ◌∷◌, IfOk, Ok, map, not, true};
+ghost use Rattle.std.specs.Prelude.{List, ◌≡◌, [], ◌∷◌, map};
 ghost use Rattle.std.specs.Str.{bytes_eq};
 ghost use Rattle.sl_ast.specs.Rules.{rule};
 ghost use Rattle.sl_typing.specs.Exprs as spec;
 ghost use Rattle.sl_typing.specs.Found.{Found, refuses};
 ghost use Rattle.sl_typing.specs.Typed as T;
 ghost use Rattle.sl_typing.specs.TypedView.{typed_of, tlink_of};
-ghost use Rattle.sl_typing.specs.Views.{Gives, GivesAll, spot_of};
+ghost use Rattle.sl_typing.specs.Views.{Gives, GivesAll, spot_of, chain_of};
 
 use crate::fault::{TypeCode, TypeFault, fault};
 use crate::names::is;
 use crate::places::Spot;
 use crate::predefined::space_named;
+use crate::rules::prefix_operation;
 use crate::typed::{TypedExpr, TypedLink};
-use fixed_math::{List, NoMemory, Text};
-use sl_ast::{NodeType, Operands, Operation, SlType, Space, SpaceName, ValueOperation};
+use fixed_math::{List, Text};
+use sl_ast::{NodeType, Operands, Operation, Prefix, SlType, Space, SpaceName, ValueOperation};
 use std::alloc::Global;
 
 pub fn kind_of(e: &TypedExpr) -> NodeType
@@ -77,16 +78,18 @@ pub fn applied(
     }
 }
 
-pub fn applied_one(
+/// A prefix operator on its operand.
+pub fn prefixed(
     alloc: Global,
-    operation: Operation,
+    operator: Prefix,
     line: u32,
-    a: TypedExpr,
+    operand: Result<TypedExpr, TypeFault>,
 ) -> Result<TypedExpr, TypeFault>
-    ensures { Gives typed_of result (spec.applied operation line (typed_of a ∷ [])) }
+    ensures { (found : Found T.Expr) → Gives typed_of operand found → Gives typed_of result (spec.prefixed operator line found) }
 {
-    let args = vec![in alloc; a]?;
-    applied(operation, line, args)
+    let operand = operand?;
+    let args = vec![in alloc; operand]?;
+    applied(prefix_operation(operator), line, args)
 }
 
 /// An operator behind operands whose type is `before`, with the operand behind it.
@@ -109,15 +112,16 @@ pub fn linked(
     }
 }
 
-/// Operators behind a first operand.
+/// A chain from its first operand and the operators behind it.
 #[tactic(auto, using(crate::proofs::Chains::chain_held))]
 pub fn chained(
     alloc: Global,
     first: TypedExpr,
-    mut links: Vec<TypedLink>,
-) -> Result<TypedExpr, NoMemory>
-    ensures { IfOk result (λ t. typed_of t ≡ T.chained (typed_of first) (map tlink_of links.items)) }
+    links: Result<Vec<TypedLink>, TypeFault>,
+) -> Result<TypedExpr, TypeFault>
+    ensures { (found : Found T.Expr) → Gives (chain_of (typed_of first)) links found → Gives typed_of result found }
 {
+    let mut links = links?;
     let Some(last) = links.pop() else {
         return Ok(first);
     };
@@ -131,18 +135,12 @@ pub fn chained(
     })
 }
 
-pub fn applied_three(
-    alloc: Global,
-    operation: Operation,
-    line: u32,
-    a: TypedExpr,
-    b: TypedExpr,
-    c: TypedExpr,
-) -> Result<TypedExpr, TypeFault>
-    ensures { Gives typed_of result (spec.applied operation line (typed_of a ∷ typed_of b ∷ typed_of c ∷ [])) }
+/// One of two values by a condition.
+pub fn chosen(line: u32, parts: Result<Vec<TypedExpr>, TypeFault>) -> Result<TypedExpr, TypeFault>
+    ensures { (found : Found (List T.Expr)) → GivesAll typed_of parts found → Gives typed_of result (spec.chosen line found) }
 {
-    let args = vec![in alloc; a, b, c]?;
-    applied(operation, line, args)
+    let parts = parts?;
+    applied(Operation::Value(ValueOperation::Select), line, parts)
 }
 
 fn space_at(line: u32, space: Option<SpaceName>) -> Result<SpaceName, TypeFault>

@@ -3,17 +3,17 @@ ghost use Rattle.std.specs.Prelude.{List, ◌≡◌, [], Ok, OnOk, length, map, 
 ghost use Rattle.sl_ast.specs.ShaderView.{shader_of};
 ghost use Rattle.sl_ast.specs.SyntaxView.{expr_of, group_of, declared_of};
 ghost use Rattle.sl_typing.specs.Functions as spec;
-ghost use Rattle.sl_typing.specs.TypedView.{typed_of};
+ghost use Rattle.sl_typing.specs.TypedView.{typed_of, tstmt_of};
 ghost use Rattle.sl_typing.specs.Views.{Gives, GivesParams, around_of, local_of, callee_of, param_of, program_of};
 
 use crate::exprs::expr;
 use crate::fault::{TypeCode, TypeFault, fault};
-use crate::functions::known_from;
+use crate::functions::learn_all;
 use crate::places::{Around, Local, Param, Program, Spot};
 use crate::scope::{Functions, Scope};
 use crate::sets::{is_varying, value_in};
 use crate::stmts::rows;
-use crate::typed::TypedExpr;
+use crate::typed::{TypedExpr, TypedStmt};
 use sl_ast::{Declared, Expr, Group, Shader, SlKind, SlType};
 use std::alloc::Global;
 
@@ -48,7 +48,6 @@ fn param<'a>(
     if scope.level(&d.name).is_some() {
         return fault(TypeCode::T10, d.line);
     }
-    let value = default_in(alloc, g, kind, d.set_line, &d.value)?;
     let local = Local {
         uniform,
         kind,
@@ -56,6 +55,7 @@ fn param<'a>(
         line: d.line,
     };
     scope.push(local)?;
+    let value = default_in(alloc, g, kind, d.set_line, &d.value)?;
     params.push(Param { local, value })?;
     Ok(())
 }
@@ -137,36 +137,51 @@ fn in_body<'a, 'b>(kind: SlKind, known: &'a Functions<'b>) -> Around<'a, 'b>
     }
 }
 
-/// The typed functions, parameters and body of a file, or the first fault of names, types, kinds and places.
+// The parameters and the body of a shader.
 #[tactic(auto, using(crate::proofs::Behind::behind_none))]
+fn params_and_body<'a>(
+    alloc: Global,
+    shader: &'a Shader,
+    known: &Functions<'a>,
+    params: &mut Vec<Param<'a>>,
+    body: &mut Vec<TypedStmt>,
+) -> Result<(), TypeFault>
+    requires { (params.old.items ≡ []) × (body.old.items ≡ []) }
+    ensures { Gives (λ _. (map param_of params.new.items, map tstmt_of body.new.items)) result (spec.params_and_body (shader_of shader.now) (map callee_of known.now)) }
+{
+    let mut scope = Scope::new(alloc);
+    let around = by_default(shader.kind, known);
+    match groups(alloc, &around, params, &mut scope, shader.params.as_slice()) {
+        Err(fault) => Err(fault),
+        Ok(()) => {
+            let inside = in_body(shader.kind, known);
+            let from = params.len();
+            rows(
+                shader.body.as_slice(),
+                alloc,
+                &inside,
+                from,
+                body,
+                &mut scope,
+            )
+        }
+    }
+}
+
+/// The typed functions, parameters and body of a file, or the first fault of names, types, kinds and places.
 pub fn program<'a>(alloc: Global, shader: &'a Shader) -> Result<Program<'a>, TypeFault>
     ensures { Gives program_of result (spec.program (shader_of shader.now)) }
 {
-    let known = known_from(alloc, shader.kind, shader.functions.as_slice())?;
+    let mut known = Functions::new(alloc);
+    learn_all(alloc, shader.kind, shader.functions.as_slice(), &mut known)?;
     let mut params = Vec::new(alloc);
-    let mut scope = Scope::new(alloc);
-    let around = by_default(shader.kind, &known);
-    groups(
-        alloc,
-        &around,
-        &mut params,
-        &mut scope,
-        shader.params.as_slice(),
-    )?;
     let mut body = Vec::new(alloc);
-    let from = params.len();
-    let inside = in_body(shader.kind, &known);
-    rows(
-        shader.body.as_slice(),
-        alloc,
-        &inside,
-        from,
-        &mut body,
-        &mut scope,
-    )?;
-    Ok(Program {
-        known,
-        params,
-        body,
-    })
+    match params_and_body(alloc, shader, &known, &mut params, &mut body) {
+        Err(fault) => Err(fault),
+        Ok(()) => Ok(Program {
+            known,
+            params,
+            body,
+        }),
+    }
 }

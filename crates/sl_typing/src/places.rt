@@ -49,7 +49,7 @@ pub struct Own<'a, 'b> {
 
 /// Where something stands: in a shader of that kind; in a parameter's default; where only formals, locals and `PI` are
 /// seen; in the body of a statement over lights; in a loop.
-#[derive(Debug, Clone, Copy, PartialEq, Eq)]
+#[derive(Clone, Copy)]
 pub struct Spot {
     pub kind: SlKind,
     pub default: bool,

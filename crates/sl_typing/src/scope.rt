@@ -28,7 +28,7 @@ impl<'a> Model for Scope<'a> {
 }
 
 impl<'a> Scope<'a> {
-    ghost use Rattle.std.specs.Prelude.{◌++◌, ◌∷◌, [], length, take, OnOk};
+    ghost use Rattle.std.specs.Prelude.{◌++◌, ◌∷◌, [], length, take, OnErr, OnOk};
 
     /// No variables yet.
     pub fn new(alloc: Global) -> Scope<'a>
@@ -47,9 +47,10 @@ impl<'a> Scope<'a> {
         self.locals.len()
     }
 
-    /// Declares a variable after the others.
+    /// Declares a variable after the others. Want of memory changes nothing.
     pub fn push(&mut self, local: Local<'a>) -> Result<(), NoMemory>
-        ensures { OnOk result (self.new ≡ self.old ++ local.entry ∷ []) }
+        ensures ok { OnOk result (self.new ≡ self.old ++ local.entry ∷ []) }
+        ensures err { OnErr result (self.new ≡ self.old) }
     {
         self.locals.reserve(1)?;
         self.names.push(local.name)?;
@@ -117,9 +118,13 @@ impl<'a> Functions<'a> {
     pub fn push(&mut self, function: Known<'a>) -> Result<(), NoMemory>
         ensures { OnOk result (self.new ≡ self.old ++ function.entry ∷ []) }
     {
-        self.known.reserve(1)?;
-        self.names.push(function.name)?;
-        self.known.push_reserved(function);
+        let count = self.known.len();
+        let name = function.name;
+        self.known.push(function)?;
+        if let Err(want) = self.names.push(name) {
+            self.known.truncate(count);
+            return Err(want);
+        }
         Ok(())
     }
 

@@ -1,15 +1,15 @@
 // Declarations, assignments and statements over lights.
-ghost use Rattle.std.specs.Prelude.{List, ◌≡◌, [], IfOk, OnOk, Some, not, map, option_map};
+ghost use Rattle.std.specs.Prelude.{List, ◌≡◌, Err, not, map, option_map};
 ghost use Rattle.sl_ast.specs.SyntaxView.{expr_of, assignment_of, declared_of, cone_of};
 ghost use Rattle.sl_ast.specs.Rules as rules;
 ghost use Rattle.sl_ast.specs.WellTyped as W;
 ghost use Rattle.sl_typing.specs.Exprs.{typed_expr, typed_args};
 ghost use Rattle.sl_typing.specs.Found.{Found};
-ghost use Rattle.sl_typing.specs.Scope.{level_of};
+ghost use Rattle.sl_typing.specs.Scope as scopes;
 ghost use Rattle.sl_typing.specs.Stmts as spec;
 ghost use Rattle.sl_typing.specs.Typed as T;
 ghost use Rattle.sl_typing.specs.TypedView.{typed_of, tstmt_of};
-ghost use Rattle.sl_typing.specs.Views.{Gives, GivesAll, GivesRows, Extends, spot_of, around_of, local_of, found_of, own_of};
+ghost use Rattle.sl_typing.specs.Views.{Gives, GivesAll, GivesOne, GivesRows, Extends, spot_of, around_of, local_of, found_of, own_of};
 
 use crate::exprs::expr;
 use crate::fault::{TypeCode, TypeFault, fault};
@@ -19,7 +19,7 @@ use crate::places::{Around, Local, Own, Spot};
 use crate::predefined::{is_own, is_written, predefined_names};
 use crate::scope::{Scope, place_of};
 use crate::typed::{TypedExpr, TypedStmt};
-use fixed_math::{NoMemory, Text};
+use fixed_math::Text;
 use sl_ast::{
     Assignment, Class, Cone, Declared, Expr, LightStmt, LightWord, NodeType, Operands, Predefined,
     SetOperator, SlType, Variable,
@@ -91,7 +91,6 @@ fn declared(
 }
 
 // One name of a declaration.
-#[tactic(auto, using(crate::proofs::Scopes::extends_push))]
 fn name<'a>(
     alloc: Global,
     g: &Around<'_, 'a>,
@@ -103,7 +102,7 @@ fn name<'a>(
     d: &'a Declared,
 ) -> Result<(), TypeFault>
     ensures gives { GivesRows result done.new.items scope.new (spec.behind (map tstmt_of done.old.items) (spec.typed_name (around_of g.now) from uniform kind (map local_of scope.old) (declared_of d.now))) }
-    ensures extends { OnOk result (Extends scope.old scope.new) }
+    ensures extends { Extends scope.old scope.new }
 {
     if is_since(from, scope.level(&d.name)) {
         return fault(TypeCode::T10, d.line);
@@ -120,7 +119,6 @@ fn name<'a>(
 }
 
 // The names of a declaration.
-#[tactic(auto, using(crate::proofs::Scopes::extends_same, crate::proofs::Scopes::extends_trans, crate::proofs::Behind::names_step, crate::proofs::Behind::names_end))]
 pub fn names<'a>(
     alloc: Global,
     g: &Around<'_, 'a>,
@@ -132,7 +130,7 @@ pub fn names<'a>(
     ds: &'a [Declared],
 ) -> Result<(), TypeFault>
     ensures gives { GivesRows result done.new.items scope.new (spec.behind (map tstmt_of done.old.items) (spec.typed_names (around_of g.now) from uniform kind (map local_of scope.old) (map declared_of ds.now))) }
-    ensures extends { OnOk result (Extends scope.old scope.new) }
+    ensures extends { Extends scope.old scope.new }
 {
     for d in ds {
         name(alloc, g, from, uniform, kind, done, scope, d)?;
@@ -231,11 +229,11 @@ pub fn optional_set(
 ) -> Result<Vec<TypedStmt>, TypeFault>
     ensures { GivesAll tstmt_of result (spec.optional_set (around_of g.now) (map local_of scope.now) (option_map assignment_of a.now)) }
 {
-    let mut sets = Vec::new(alloc);
-    if let Some(a) = a {
-        let one = set(alloc, g, scope, a)?;
-        sets.push(one)?;
-    }
+    let Some(a) = a else {
+        return Ok(Vec::new(alloc));
+    };
+    let one = set(alloc, g, scope, a)?;
+    let sets = vec![in alloc; one]?;
     Ok(sets)
 }
 
@@ -256,24 +254,25 @@ pub fn condition(line: u32, found: Result<TypedExpr, TypeFault>) -> Result<Typed
     Ok(test)
 }
 
-/// The fault of a `return` that isn't the last statement of a function.
+/// The fault of a `return` that isn't the last statement of a function, at its line.
 pub fn misplaced(
     own: &Option<Own<'_, '_>>,
     value: Result<TypedExpr, TypeFault>,
-) -> Result<TypeCode, NoMemory>
-    ensures { (found : Found T.Expr) → Gives typed_of value found → IfOk result (λ code. code ≡ spec.misplaced (option_map own_of own.now) found) }
+    line: u32,
+) -> Result<TypedStmt, TypeFault>
+    ensures { (ls : List scopes.Local) (found : Found T.Expr) → Gives typed_of value found → GivesOne result ls (Err (spec.misplaced (option_map own_of own.now) found, line)) }
 {
     let Some(own) = own else {
-        return Ok(TypeCode::T8);
+        return fault(TypeCode::T8, line);
     };
     match value {
-        Err(TypeFault::NoMemory) => Err(NoMemory),
-        Err(TypeFault::At { .. }) => Ok(TypeCode::T8),
+        Err(TypeFault::NoMemory) => Err(TypeFault::NoMemory),
+        Err(TypeFault::At { .. }) => fault(TypeCode::T8, line),
         Ok(value) => {
             if own.returns.takes(kind_of(&value)) {
-                Ok(TypeCode::T8)
+                fault(TypeCode::T8, line)
             } else {
-                Ok(TypeCode::T2)
+                fault(TypeCode::T2, line)
             }
         }
     }
@@ -299,21 +298,14 @@ pub fn light_args(
     ensures { GivesAll typed_of result (typed_args (around_of g.now) (map local_of scope.now) (spec.light_args (expr_of place.now) (option_map cone_of cone.now))) }
 {
     let mut args = Vec::new(alloc);
-    let place = expr(place, alloc, g, false, scope)?;
-    args.push(place)?;
-    if let Some(cone) = cone {
-        let axis = expr(&cone.axis, alloc, g, false, scope)?;
-        args.push(axis)?;
-        let angle = expr(&cone.angle, alloc, g, false, scope)?;
-        args.push(angle)?;
-    }
+    args.reserve(3)?;
+    args.push_reserved(expr(place, alloc, g, false, scope)?);
+    let Some(cone) = cone else {
+        return Ok(args);
+    };
+    args.push_reserved(expr(&cone.axis, alloc, g, false, scope)?);
+    args.push_reserved(expr(&cone.angle, alloc, g, false, scope)?);
     Ok(args)
-}
-
-fn takes(word: LightStmt, args: &[TypedExpr]) -> bool
-    ensures { spec.light_misfit word (map typed_of args.now) ≡ not result }
-{
-    lights_take(word, operands_of(args))
 }
 
 // A statement over lights, from what its arguments are.
@@ -329,7 +321,7 @@ pub fn lights_of(
         return Err(TypeFault::NoMemory);
     }
     if let Ok(args) = &args {
-        if !takes(word, args.as_slice()) {
+        if !lights_take(word, operands_of(args.as_slice())) {
             return fault(TypeCode::T2, line);
         }
     }

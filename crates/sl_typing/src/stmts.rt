@@ -1,94 +1,28 @@
 // The typed trees of statements.
-ghost use Rattle.std.specs.Prelude.{List, ◌≡◌, [], ◌∷◌, OnOk, Ok, map, length};
+ghost use Rattle.std.specs.Prelude.{List, ◌≡◌, map, length};
 ghost use Rattle.sl_ast.specs.Syntax as U;
 ghost use Rattle.sl_ast.specs.SyntaxView.{expr_of, stmt_of};
 ghost use Rattle.sl_typing.specs.Exprs.{typed_args};
-ghost use Rattle.sl_typing.specs.Found.{Found};
+ghost use Rattle.sl_typing.specs.Scope as scopes;
 ghost use Rattle.sl_typing.specs.Stmts as spec;
 ghost use Rattle.sl_typing.specs.Typed as T;
 ghost use Rattle.sl_typing.specs.TypedView.{typed_of, tstmt_of};
 ghost use Rattle.sl_typing.specs.declared.places.Local.{Local};
-ghost use Rattle.sl_typing.specs.Views.{Gives, GivesAll, GivesRows, GivesTested, boxed_of, Extends, spot_of, around_of, local_of};
+ghost use Rattle.sl_typing.specs.Views.{Gives, GivesAll, GivesOne, GivesRows, boxed_of, Extends, spot_of, around_of, local_of};
 
+use crate::compound::{
+    block_node, boxed, for_head, for_node, if_else_node, if_node, lights_node, while_node,
+};
 use crate::exprs::expr;
 use crate::fault::{TypeCode, TypeFault, fault};
 use crate::places::{Around, Spot};
 use crate::scope::Scope;
 use crate::sets::{
-    condition, is_test, is_uniform, light_args, light_word, lights_of, misplaced, names,
-    optional_set, set,
+    condition, is_uniform, light_args, light_word, lights_of, misplaced, names, optional_set, set,
 };
 use crate::typed::{TypedExpr, TypedStmt};
-use fixed_math::List;
 use sl_ast::{Expr, LightStmt, Stmt};
 use std::alloc::Global;
-
-#[tactic(auto, using(crate::proofs::Rows::held_tstmts))]
-fn block_node(body: Vec<TypedStmt>, line: u32) -> TypedStmt
-    ensures { tstmt_of result ≡ T.block (T.stmts (map tstmt_of body.items)) line }
-{
-    TypedStmt::Block {
-        body: List(body),
-        line,
-    }
-}
-
-#[tactic(auto, using(crate::proofs::Rows::held_tstmts))]
-fn group_node(body: Vec<TypedStmt>) -> TypedStmt
-    ensures { tstmt_of result ≡ T.group (T.stmts (map tstmt_of body.items)) }
-{
-    TypedStmt::Group { body: List(body) }
-}
-
-// A `for` from its parts.
-#[tactic(auto, using(crate::proofs::Rows::held_tstmts))]
-fn for_node(
-    first: Vec<TypedStmt>,
-    test: TypedExpr,
-    step: Vec<TypedStmt>,
-    body: Box<TypedStmt>,
-    line: u32,
-) -> TypedStmt
-    ensures { tstmt_of result ≡ T.steps (T.stmts (map tstmt_of first.items)) (typed_of test) (T.stmts (map tstmt_of step.items)) (tstmt_of body.value) line }
-{
-    TypedStmt::For {
-        first: List(first),
-        test,
-        step: List(step),
-        body,
-        line,
-    }
-}
-
-fn lights_node(word: LightStmt, args: Vec<TypedExpr>, body: Box<TypedStmt>, line: u32) -> TypedStmt
-    ensures { tstmt_of result ≡ T.lights word (T.exprs (map typed_of args.items)) (tstmt_of body.value) line }
-{
-    TypedStmt::Lights {
-        word,
-        args: List(args),
-        body,
-        line,
-    }
-}
-
-// The condition of a `for`, whose type is asked before the first assignment; its own faults are told behind that.
-fn tested(
-    line: u32,
-    found: Result<TypedExpr, TypeFault>,
-) -> Result<Result<TypedExpr, TypeFault>, TypeFault>
-    ensures { (test : Found T.Expr) → Gives typed_of found test → GivesTested result line test }
-{
-    match found {
-        Err(TypeFault::NoMemory) => Err(TypeFault::NoMemory),
-        Err(TypeFault::At { code, line }) => Ok(Err(TypeFault::At { code, line })),
-        Ok(test) => {
-            if !is_test(&test) {
-                return fault(TypeCode::T2, line);
-            }
-            Ok(Ok(test))
-        }
-    }
-}
 
 // The typed arguments of `solar`.
 fn solar_args(
@@ -101,33 +35,39 @@ fn solar_args(
     ensures { GivesAll typed_of result (typed_args (around_of g.now) (map local_of scope.now) (U.more (expr_of axis.now) (U.more (expr_of angle.now) U.none))) }
 {
     let mut args = Vec::new(alloc);
-    let axis = expr(axis, alloc, g, false, scope)?;
-    args.push(axis)?;
-    let angle = expr(angle, alloc, g, false, scope)?;
-    args.push(angle)?;
+    args.reserve(2)?;
+    args.push_reserved(expr(axis, alloc, g, false, scope)?);
+    args.push_reserved(expr(angle, alloc, g, false, scope)?);
     Ok(args)
 }
 
-// A branch: a declaration of several names stands as a group.
-#[tactic(auto, using(crate::proofs::Branches::one_is, crate::proofs::Branches::several_are))]
-fn one_of(mut stmts: Vec<TypedStmt>) -> TypedStmt
-    ensures { tstmt_of result ≡ spec.one_of (map tstmt_of stmts.items) }
+// A statement that leaves the scope as it is, behind those before it.
+fn add(one: Result<TypedStmt, TypeFault>, done: &mut Vec<TypedStmt>) -> Result<(), TypeFault>
+    ensures { (ls : List Local) (found : spec.Rows) → GivesOne one (map local_of ls) found → GivesRows result done.new.items ls (spec.behind (map tstmt_of done.old.items) found) }
 {
-    if stmts.len() != 1 {
-        return group_node(stmts);
-    }
-    match stmts.pop() {
-        Some(one) => one,
-        None => unreachable!(),
-    }
-}
-
-// A statement behind those before it, in the same scope.
-fn add(one: TypedStmt, done: &mut Vec<TypedStmt>) -> Result<(), TypeFault>
-    ensures { (ls : List Local) → GivesRows result done.new.items ls (spec.behind (map tstmt_of done.old.items) (Ok (tstmt_of one ∷ [], map local_of ls))) }
-{
+    let one = one?;
     done.push(one)?;
     Ok(())
+}
+
+// A `break`.
+fn leave(g: &Spot, line: u32) -> Result<TypedStmt, TypeFault>
+    ensures { (ls : List scopes.Local) → GivesOne result ls (spec.jumped g.now.looped ls line (T.leave line)) }
+{
+    if !g.looped {
+        return fault(TypeCode::T8, line);
+    }
+    Ok(TypedStmt::Break { line })
+}
+
+// A `continue`.
+fn again(g: &Spot, line: u32) -> Result<TypedStmt, TypeFault>
+    ensures { (ls : List scopes.Local) → GivesOne result ls (spec.jumped g.now.looped ls line (T.again line)) }
+{
+    if !g.looped {
+        return fault(TypeCode::T8, line);
+    }
+    Ok(TypedStmt::Continue { line })
 }
 
 fn in_loop<'a, 'b>(g: &Around<'a, 'b>) -> Around<'a, 'b>
@@ -153,9 +93,9 @@ fn in_lights<'a, 'b>(g: &Around<'a, 'b>) -> Around<'a, 'b>
     }
 }
 
-/// Adds the typed statements of a statement to those before it, and what it declares to the scope.
+/// Adds the typed statements of a statement to those before it, and what it declares to the scope. The parts of one that holds
+/// others are all typed, and the node that they make gives the first of their faults.
 #[cycle(stmts)]
-#[tactic(auto, using(crate::proofs::Scopes::extends_same))]
 pub fn stmt<'a>(
     s: &'a Stmt,
     alloc: Global,
@@ -165,30 +105,20 @@ pub fn stmt<'a>(
     scope: &mut Scope<'a>,
 ) -> Result<(), TypeFault>
     ensures gives { GivesRows result done.new.items scope.new (spec.behind (map tstmt_of done.old.items) (spec.typed_stmt (around_of g.now) from (map local_of scope.old) (stmt_of s.now))) }
-    ensures extends { OnOk result (Extends scope.old scope.new) }
+    ensures extends { Extends scope.old scope.new }
 {
     match s {
-        Stmt::Empty { line } => { add(TypedStmt::Empty { line: *line }, done) }
-        Stmt::Block { body, line } => { block(body.as_slice(), alloc, g, *line, done, scope) }
-        Stmt::Set { set: a } => {
-            let one = set(alloc, g, scope, a)?;
-            add(one, done)
+        Stmt::Empty { line } => add(Ok(TypedStmt::Empty { line: *line }), done),
+        Stmt::Block { body, line } => {
+            let body = block(body.as_slice(), alloc, g, scope);
+            add(block_node(body, *line), done)
         }
-        Stmt::Break { line } => {
-            if !g.at.looped {
-                return fault(TypeCode::T8, *line);
-            }
-            add(TypedStmt::Break { line: *line }, done)
-        }
-        Stmt::Continue { line } => {
-            if !g.at.looped {
-                return fault(TypeCode::T8, *line);
-            }
-            add(TypedStmt::Continue { line: *line }, done)
-        }
+        Stmt::Set { set: a } => add(set(alloc, g, scope, a), done),
+        Stmt::Break { line } => add(leave(&g.at, *line), done),
+        Stmt::Continue { line } => add(again(&g.at, *line), done),
         Stmt::Return { value, line } => {
             let value = expr(value, alloc, g, false, scope);
-            fault(misplaced(&g.own, value)?, *line)
+            add(misplaced(&g.own, value, *line), done)
         }
         Stmt::Declare {
             class,
@@ -200,14 +130,9 @@ pub fn stmt<'a>(
             names(alloc, g, from, uniform, *kind, done, scope, ds.as_slice())
         }
         Stmt::If { test, then, line } => {
-            let test = condition(*line, expr(test, alloc, g, false, scope))?;
-            let then = branch(then, alloc, g, scope)?;
-            let one = TypedStmt::If {
-                test,
-                then,
-                line: *line,
-            };
-            add(one, done)
+            let test = condition(*line, expr(test, alloc, g, false, scope));
+            let then = branch(then, alloc, g, scope);
+            add(if_node(test, then, *line), done)
         }
         Stmt::IfElse {
             test,
@@ -215,26 +140,15 @@ pub fn stmt<'a>(
             otherwise,
             line,
         } => {
-            let test = condition(*line, expr(test, alloc, g, false, scope))?;
-            let then = branch(then, alloc, g, scope)?;
-            let otherwise = branch(otherwise, alloc, g, scope)?;
-            let one = TypedStmt::IfElse {
-                test,
-                then,
-                otherwise,
-                line: *line,
-            };
-            add(one, done)
+            let test = condition(*line, expr(test, alloc, g, false, scope));
+            let then = branch(then, alloc, g, scope);
+            let otherwise = branch(otherwise, alloc, g, scope);
+            add(if_else_node(test, then, otherwise, *line), done)
         }
         Stmt::While { test, body, line } => {
-            let test = condition(*line, expr(test, alloc, g, false, scope))?;
-            let body = branch(body, alloc, &in_loop(g), scope)?;
-            let one = TypedStmt::While {
-                test,
-                body,
-                line: *line,
-            };
-            add(one, done)
+            let test = condition(*line, expr(test, alloc, g, false, scope));
+            let body = branch(body, alloc, &in_loop(g), scope);
+            add(while_node(test, body, *line), done)
         }
         Stmt::For {
             first,
@@ -243,13 +157,14 @@ pub fn stmt<'a>(
             body,
             line,
         } => {
-            let found = expr(test, alloc, g, false, scope);
-            let found = tested(*line, found)?;
-            let first = optional_set(alloc, g, scope, first)?;
-            let test = found?;
-            let step = optional_set(alloc, g, scope, step)?;
-            let body = branch(body, alloc, &in_loop(g), scope)?;
-            add(for_node(first, test, step, body, *line), done)
+            let test = expr(test, alloc, g, false, scope);
+            let first = optional_set(alloc, g, scope, first);
+            let step = optional_set(alloc, g, scope, step);
+            let body = branch(body, alloc, &in_loop(g), scope);
+            add(
+                for_node(for_head(test, first, *line), step, body, *line),
+                done,
+            )
         }
         Stmt::Lights {
             word,
@@ -260,8 +175,8 @@ pub fn stmt<'a>(
         } => {
             let word = light_word(*word);
             let args = light_args(alloc, g, scope, place, cone);
-            let args = lights_of(&g.at, word, *line, args)?;
-            let body = branch(body, alloc, &in_lights(g), scope)?;
+            let args = lights_of(&g.at, word, *line, args);
+            let body = branch(body, alloc, &in_lights(g), scope);
             add(lights_node(word, args, body, *line), done)
         }
         Stmt::Solar {
@@ -271,8 +186,8 @@ pub fn stmt<'a>(
             line,
         } => {
             let args = solar_args(alloc, g, scope, axis, angle);
-            let args = lights_of(&g.at, LightStmt::Solar, *line, args)?;
-            let body = branch(body, alloc, &in_lights(g), scope)?;
+            let args = lights_of(&g.at, LightStmt::Solar, *line, args);
+            let body = branch(body, alloc, &in_lights(g), scope);
             add(lights_node(LightStmt::Solar, args, body, *line), done)
         }
     }
@@ -280,42 +195,44 @@ pub fn stmt<'a>(
 
 // A statement that is a block of its own for names.
 #[cycle(stmts)]
-#[tactic(auto, using(crate::proofs::Behind::behind_none))]
 fn branch<'a>(
     s: &'a Stmt,
     alloc: Global,
     g: &Around<'_, 'a>,
     scope: &mut Scope<'a>,
 ) -> Result<Box<TypedStmt>, TypeFault>
-    ensures gives { Gives boxed_of result (spec.branch (spec.typed_stmt (around_of g.now) (length scope.old) (map local_of scope.old) (stmt_of s.now))) }
-    ensures same { OnOk result (scope.new ≡ scope.old) }
+    ensures gives { Gives boxed_of result (spec.branch (spec.typed_stmt (around_of g.now) (length (map local_of scope.old)) (map local_of scope.old) (stmt_of s.now))) }
+    ensures same { scope.new ≡ scope.old }
 {
     let start = scope.len();
     let mut done = Vec::new(alloc);
-    stmt(s, alloc, g, start, &mut done, scope)?;
+    let typed = stmt(s, alloc, g, start, &mut done, scope);
     scope.truncate(start);
-    Ok(Box::new(alloc, one_of(done))?)
+    match typed {
+        Err(fault) => Err(fault),
+        Ok(()) => boxed(alloc, done),
+    }
 }
 
-// A block.
+// The statements of a block.
 #[cycle(stmts)]
-#[tactic(auto, using(crate::proofs::Scopes::extends_same, crate::proofs::Behind::behind_none))]
 fn block<'a>(
     body: &'a [Stmt],
     alloc: Global,
     g: &Around<'_, 'a>,
-    line: u32,
-    done: &mut Vec<TypedStmt>,
     scope: &mut Scope<'a>,
-) -> Result<(), TypeFault>
-    ensures gives { GivesRows result done.new.items scope.new (spec.behind (map tstmt_of done.old.items) (spec.typed_stmt (around_of g.now) 0 (map local_of scope.old) (U.block (U.stmts (map stmt_of body.now)) line))) }
-    ensures extends { OnOk result (Extends scope.old scope.new) }
+) -> Result<Vec<TypedStmt>, TypeFault>
+    ensures gives { GivesAll tstmt_of result (spec.inner (spec.typed_rows (around_of g.now) (length (map local_of scope.old)) (map local_of scope.old) (U.stmts (map stmt_of body.now)))) }
+    ensures same { scope.new ≡ scope.old }
 {
     let start = scope.len();
-    let mut inside = Vec::new(alloc);
-    rows(body, alloc, g, start, &mut inside, scope)?;
+    let mut done = Vec::new(alloc);
+    let typed = rows(body, alloc, g, start, &mut done, scope);
     scope.truncate(start);
-    add(block_node(inside, line), done)
+    match typed {
+        Err(fault) => Err(fault),
+        Ok(()) => Ok(done),
+    }
 }
 
 /// Adds the typed statements of statements one after another to those before them, and what they declare to the scope.
@@ -330,7 +247,7 @@ pub fn rows<'a>(
     scope: &mut Scope<'a>,
 ) -> Result<(), TypeFault>
     ensures gives { GivesRows result done.new.items scope.new (spec.behind (map tstmt_of done.old.items) (spec.typed_rows (around_of g.now) from (map local_of scope.old) (U.stmts (map stmt_of body.now)))) }
-    ensures extends { OnOk result (Extends scope.old scope.new) }
+    ensures extends { Extends scope.old scope.new }
 {
     for s in body {
         stmt(s, alloc, g, from, done, scope)?;

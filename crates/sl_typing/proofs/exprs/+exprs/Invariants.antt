@@ -15,8 +15,8 @@ decreases-expr l = size (expr_of l.e.now)
 abbrev pub decreases-exprs : goal.decreases-exprs
 decreases-exprs l = size_args (U.exprs (map expr_of l.es.now))
 
-abbrev pub decreases-chain : goal.decreases-chain
-decreases-chain l = size_links (U.links (map link_of l.links.now))
+abbrev pub decreases-typed_links : goal.decreases-typed_links
+decreases-typed_links l = size_links (U.links (map link_of l.links.now))
 
 abbrev pub decreases-components : goal.decreases-components
 decreases-components l = 1 + (size (expr_of l.x.now) + (size (expr_of l.y.now) + size (expr_of l.z.now)))
@@ -26,10 +26,9 @@ invariant-exprs-loop-e l =
     args_behind (map typed_of l.before.items) (typed_args (around_of l.g) (map local_of l.scope) (U.exprs (map expr_of (drop l.e-index l.es))))
     ≡ typed_args (around_of l.g) (map local_of l.scope) (U.exprs (map expr_of l.es))
 
-abbrev pub invariant-chain-loop-link : goal.invariant-chain-loop-link
-invariant-chain-loop-link l = record {
-  first : typed_of l.first ≡ typed_of l.fn.first;
+abbrev pub invariant-typed_links-loop-link : goal.invariant-typed_links-loop-link
+invariant-typed_links-loop-link l = record {
   kind : T.kind_of (T.chained (typed_of l.first) (map tlink_of l.typed.items)) ≡ l.kind;
   same : typed_links (around_of l.g) (map local_of l.scope) (T.chained (typed_of l.first) (map tlink_of l.typed.items)) (U.links (map link_of (drop l.link-index l.links)))
-      ≡ typed_links (around_of l.g) (map local_of l.scope) (typed_of l.fn.first) (U.links (map link_of l.links));
+      ≡ typed_links (around_of l.g) (map local_of l.scope) (typed_of l.first) (U.links (map link_of l.links));
 }

@@ -1,34 +1,25 @@
-use Rattle.std.proofs.Common.{◌+◌, [], ◌∷◌, false, Ok, drop, map, refl, arith, ap, sym, subst, ◌∙◌}
+use Rattle.std.proofs.Common.{◌+◌, [], ◌∷◌, false, Ok, drop, length, map, option_map, refl, arith, ap, ap₂, sym, subst, ◌∙◌}
 use Rattle.sl_ast.specs.Syntax as U
-use Rattle.sl_ast.specs.SyntaxView.{expr_of, stmt_of}
-use Rattle.sl_typing.specs.Exprs.{typed_expr}
+use Rattle.sl_ast.specs.SyntaxView.{expr_of, stmt_of, declared_of, assignment_of, cone_of}
+use Rattle.sl_ast.specs.declared.kinds.LightStmt.TheVariants.{Solar}
+use Rattle.sl_typing.specs.Exprs.{typed_expr, typed_args}
 use Rattle.sl_typing.specs.Found.{◌>>=◌}
+use Rattle.sl_typing.specs.Stmts as spec
 use Rattle.sl_typing.specs.Stmts.{behind, typed_stmt, typed_rows}
 use Rattle.sl_typing.specs.Measures.{size_stmt, size_rows}
-use Rattle.sl_typing.specs.TypedView.{typed_of, tstmt_of}
-use Rattle.sl_typing.specs.Views.{Gives, GivesRows, around_of, local_of}
+use Rattle.sl_typing.specs.Typed as T
+use Rattle.sl_typing.specs.TypedView.{tstmt_of}
+use Rattle.sl_typing.specs.Views.{Gives, boxed_of, around_of, local_of}
 use Rattle.sl_typing.proofs.Behind.{rows_step}
 use Rattle.sl_typing.proofs.Nodes.{block_is, small_stmt}
-use Rattle.sl_typing.proofs.Scopes.{extends_trans}
-use Rattle.sl_typing.proofs.StmtRows.{leaves_same, on_fault, rows_as, if_given, else_given, while_given, for_given, lights_given, solar_given}
+use Rattle.sl_typing.proofs.Scopes.{extends_same, extends_trans, left_same}
+use Rattle.sl_typing.proofs.StmtRows.{added, given_one, in_branch, steps_in_two}
 use Rattle.sl_typing.proofs.stmts.+stmts.Goals as goal
 
 pub rows-stmt-requires : goal.rows-stmt-requires
 rows-stmt-requires t c =
     let small = small_stmt c.args.body.now c.loop-s.s-index c.s-item.result (omega arith) c.s-item.is in
     (omega (arith, c.decreases, small), tt)
-
-pub stmt-block-requires : goal.stmt-block-requires
-stmt-block-requires t c =
-    let q = ap size_stmt (block_is c.args.s.now c.in-Block.body c.in-Block.line c.in-Block.is) in
-    let d = ap (λ xs. size_rows (U.stmts (map stmt_of xs))) c.as_slice.ensures in
-    (omega (arith, c.decreases, q, d), tt)
-
-pub stmt-returns-in-Block-clause-gives : goal.stmt-returns-in-Block-clause-gives
-stmt-returns-in-Block-clause-gives t c =
-    subst (λ x. GivesRows c.block.result c.block.new.done.items c.block.new.scope (behind (map tstmt_of c.args.done.now.items) (typed_stmt (around_of c.args.g.now) c.args.from (map local_of c.args.scope.now) x)))
-    (sym (block_is c.args.s.now c.in-Block.body c.in-Block.line c.in-Block.is ∙ ap (λ xs. U.block (U.stmts (map stmt_of xs)) c.in-Block.line) (sym c.as_slice.ensures)))
-    c.block.ensures.gives
 
 pub rows-loop-s-preserved : goal.rows-loop-s-preserved
 rows-loop-s-preserved t c =
@@ -41,107 +32,163 @@ rows-loop-s-preserved t c =
       extends = extends_trans c.args.scope.now c.loop-s.scope c.stmt.new.scope c.loop-s.invariant.extends c.in_ok-stmt.ensures.extends;
     }
 
-pub stmt-returns-in-Empty-clause-extends : goal.stmt-returns-in-Empty-clause-extends
-stmt-returns-in-Empty-clause-extends t c = leaves_same _ _ _ refl
+pub stmt-block-body-requires : goal.stmt-block-body-requires
+stmt-block-body-requires t c =
+    let q = ap size_stmt (block_is c.args.s.now c.in-Block.body c.in-Block.line c.in-Block.is) in
+    let d = ap (λ xs. size_rows (U.stmts (map stmt_of xs))) c.as_slice.ensures in
+    (omega (arith, c.decreases, q, d), tt)
 
-pub stmt-returns-in-Declare-clause-extends : goal.stmt-returns-in-Declare-clause-extends
-stmt-returns-in-Declare-clause-extends t c = c.names.ensures.extends
-
-pub stmt-returns-in-Block-clause-extends : goal.stmt-returns-in-Block-clause-extends
-stmt-returns-in-Block-clause-extends t c = c.block.ensures.extends
-
-pub stmt-returns-in_ok-one-in-Set-clause-extends : goal.stmt-returns-in_ok-one-in-Set-clause-extends
-stmt-returns-in_ok-one-in-Set-clause-extends t c = leaves_same _ _ _ refl
-
-pub stmt-returns-then-not-g-clause-extends : goal.stmt-returns-then-not-g-clause-extends
-stmt-returns-then-not-g-clause-extends t c = on_fault _ _ _ c.fault.ensures
-
-pub stmt-returns-else-not-g-clause-extends : goal.stmt-returns-else-not-g-clause-extends
-stmt-returns-else-not-g-clause-extends t c = leaves_same _ _ _ refl
-
-pub stmt-returns-then-not-g-2-clause-extends : goal.stmt-returns-then-not-g-2-clause-extends
-stmt-returns-then-not-g-2-clause-extends t c = on_fault _ _ _ c.fault-then-not-g-2.ensures
-
-pub stmt-returns-else-not-g-2-clause-extends : goal.stmt-returns-else-not-g-2-clause-extends
-stmt-returns-else-not-g-2-clause-extends t c = leaves_same _ _ _ refl
-
-pub stmt-returns-in_ok-then-in-If-clause-extends : goal.stmt-returns-in_ok-then-in-If-clause-extends
-stmt-returns-in_ok-then-in-If-clause-extends t c = leaves_same _ _ _ c.in_ok-then-in-If.ensures.same
-
-pub stmt-returns-in_ok-otherwise-in-IfElse-clause-extends : goal.stmt-returns-in_ok-otherwise-in-IfElse-clause-extends
-stmt-returns-in_ok-otherwise-in-IfElse-clause-extends t c = leaves_same _ _ _ (c.in_ok-otherwise-in-IfElse.ensures.same ∙ c.in_ok-then-in-IfElse.ensures.same)
-
-pub stmt-returns-in_ok-body-in-While-clause-extends : goal.stmt-returns-in_ok-body-in-While-clause-extends
-stmt-returns-in_ok-body-in-While-clause-extends t c = leaves_same _ _ _ c.in_ok-body-in-While.ensures.same
-
-pub stmt-returns-in_ok-body-in-For-clause-extends : goal.stmt-returns-in_ok-body-in-For-clause-extends
-stmt-returns-in_ok-body-in-For-clause-extends t c = leaves_same _ _ _ c.in_ok-body-in-For.ensures.same
-
-pub stmt-returns-in_ok-body-in-Lights-clause-extends : goal.stmt-returns-in_ok-body-in-Lights-clause-extends
-stmt-returns-in_ok-body-in-Lights-clause-extends t c = leaves_same _ _ _ c.in_ok-body-in-Lights.ensures.same
-
-pub stmt-returns-in_ok-body-in-Solar-clause-extends : goal.stmt-returns-in_ok-body-in-Solar-clause-extends
-stmt-returns-in_ok-body-in-Solar-clause-extends t c = leaves_same _ _ _ c.in_ok-body-in-Solar.ensures.same
-
-pub stmt-returns-in-Empty-clause-gives : goal.stmt-returns-in-Empty-clause-gives
-stmt-returns-in-Empty-clause-gives t c =
+pub stmt-returns-in-Empty : goal.stmt-returns-in-Empty
+stmt-returns-in-Empty t c =
     let g = around_of c.args.g.now in
     let ls = map local_of c.args.scope.now in
-    rows_as _ _ _ _ _ _ (ap (λ s. typed_stmt g c.args.from ls (stmt_of s)) c.in-Empty.is) (c.add.ensures c.args.scope.now)
+    record {
+      gives = added _ _ _ _ _ _ _ refl (ap (λ s. typed_stmt g c.args.from ls (stmt_of s)) c.in-Empty.is) (c.add.ensures c.args.scope.now (Ok (T.empty c.in-Empty.line ∷ [], ls)) refl);
+      extends = extends_same _;
+    }
 
-pub stmt-returns-in_ok-one-in-Set-clause-gives : goal.stmt-returns-in_ok-one-in-Set-clause-gives
-stmt-returns-in_ok-one-in-Set-clause-gives t c =
+pub stmt-returns-in-Block : goal.stmt-returns-in-Block
+stmt-returns-in-Block t c =
     let g = around_of c.args.g.now in
     let ls = map local_of c.args.scope.now in
-    rows_as _ _ _ _ _ _ (ap (λ s. typed_stmt g c.args.from ls (stmt_of s)) c.in-Set.is ∙ ap (λ r. r >>= λ s. Ok (s ∷ [], ls)) c.in_ok-one-in-Set.ensures)
-    (c.add-in-Set.ensures c.args.scope.now)
+    let line = c.in-Block.line in
+    let is = ap (typed_stmt g c.args.from ls) (block_is c.args.s.now c.in-Block.body line c.in-Block.is)
+    ∙ ap (λ xs. spec.blocked ls line (spec.inner (typed_rows g (length ls) ls (U.stmts (map stmt_of xs))))) (sym c.as_slice.ensures) in
+    record {
+      gives = added _ _ _ _ _ _ _ c.block-body.ensures.same is (c.add-in-Block.ensures c.args.scope.now _ (c.block_node.ensures ls _ c.block-body.ensures.gives));
+      extends = left_same _ _ c.block-body.ensures.same;
+    }
 
-pub stmt-returns-in_ok-then-in-If-clause-gives : goal.stmt-returns-in_ok-then-in-If-clause-gives
-stmt-returns-in_ok-then-in-If-clause-gives t c =
-    let g = around_of c.args.g.now in
-    let given = if_given g c.args.from c.args.scope.now c.branch-deref.new.scope _ _ _ _ _ _ _ c.in-If.is (c.in_ok-test-in-If.ensures _ c.expr.ensures) c.in_ok-then-in-If.ensures.gives
-    c.deref.ensures c.in_ok-then-in-If.ensures.same in
-    rows_as _ _ _ _ _ _ given (c.add-in-If.ensures c.branch-deref.new.scope)
-
-pub stmt-returns-in_ok-otherwise-in-IfElse-clause-gives : goal.stmt-returns-in_ok-otherwise-in-IfElse-clause-gives
-stmt-returns-in_ok-otherwise-in-IfElse-clause-gives t c =
-    let g = around_of c.args.g.now in
-    let given = else_given g c.args.from c.args.scope.now c.branch-deref-in-IfElse.new.scope c.branch-deref-in-IfElse-2.new.scope _ _ _ _ _ _ _ _ _ _ c.in-IfElse.is
-    (c.in_ok-test-in-IfElse.ensures _ c.expr-in-IfElse.ensures) c.in_ok-then-in-IfElse.ensures.gives c.deref-in-IfElse.ensures c.in_ok-then-in-IfElse.ensures.same
-    c.in_ok-otherwise-in-IfElse.ensures.gives c.deref-in-IfElse-2.ensures c.in_ok-otherwise-in-IfElse.ensures.same in
-    rows_as _ _ _ _ _ _ given (c.add-in-IfElse.ensures c.branch-deref-in-IfElse-2.new.scope)
-
-pub stmt-returns-in_ok-body-in-While-clause-gives : goal.stmt-returns-in_ok-body-in-While-clause-gives
-stmt-returns-in_ok-body-in-While-clause-gives t c =
-    let g = around_of c.args.g.now in
-    let given = while_given g (around_of c.in_loop.result) c.args.from c.args.scope.now c.branch-deref-in-While.new.scope _ _ _ _ _ _ _ c.in-While.is
-    (c.in_ok-test-in-While.ensures _ c.expr-in-While.ensures) c.in_loop.ensures c.in_ok-body-in-While.ensures.gives c.deref-in-While.ensures c.in_ok-body-in-While.ensures.same in
-    rows_as _ _ _ _ _ _ given (c.add-in-While.ensures c.branch-deref-in-While.new.scope)
-
-pub stmt-returns-in_ok-body-in-For-clause-gives : goal.stmt-returns-in_ok-body-in-For-clause-gives
-stmt-returns-in_ok-body-in-For-clause-gives t c =
+pub stmt-returns-in-Set : goal.stmt-returns-in-Set
+stmt-returns-in-Set t c =
     let g = around_of c.args.g.now in
     let ls = map local_of c.args.scope.now in
-    let e = typed_expr g false ls (expr_of c.in-For.test) in
-    let asked = c.in_ok-found-in-For.ensures e c.expr-found.ensures in
-    let tested = subst (λ r. Gives typed_of r e) c.in_ok-test-in-For.was asked.1 in
-    let given = for_given g (around_of c.in_loop-in-For.result) c.args.from c.args.scope.now c.branch-deref-in-For.new.scope _ _ _ _ _ _ _ _ _ _ _ _ c.in-For.is asked.0
-    c.in_ok-first-in-For.ensures tested c.in_ok-step-in-For.ensures c.in_loop-in-For.ensures c.in_ok-body-in-For.ensures.gives c.deref-in-For.ensures c.in_ok-body-in-For.ensures.same
-    c.for_node.ensures in
-    rows_as _ _ _ _ _ _ given (c.add-in-For.ensures c.branch-deref-in-For.new.scope)
+    record {
+      gives = added _ _ _ _ _ _ _ refl (ap (λ s. typed_stmt g c.args.from ls (stmt_of s)) c.in-Set.is) (c.add-in-Set.ensures c.args.scope.now _ (given_one _ ls _ c.set.ensures));
+      extends = extends_same _;
+    }
 
-pub stmt-returns-in_ok-body-in-Lights-clause-gives : goal.stmt-returns-in_ok-body-in-Lights-clause-gives
-stmt-returns-in_ok-body-in-Lights-clause-gives t c =
+pub stmt-returns-in-Break : goal.stmt-returns-in-Break
+stmt-returns-in-Break t c =
     let g = around_of c.args.g.now in
-    let given = lights_given g (around_of c.in_lights.result) c.args.from c.args.scope.now c.branch-deref-in-Lights.new.scope _ _ _ _ _ _ _ _ _ _ _ c.in-Lights.is c.light_word-word.ensures
-    (c.in_ok-args-in-Lights.ensures _ c.light_args-args.ensures) c.in_lights.ensures c.in_ok-body-in-Lights.ensures.gives c.deref-in-Lights.ensures c.in_ok-body-in-Lights.ensures.same
-    c.lights_node.ensures in
-    rows_as _ _ _ _ _ _ given (c.add-in-Lights.ensures c.branch-deref-in-Lights.new.scope)
+    let ls = map local_of c.args.scope.now in
+    record {
+      gives = added _ _ _ _ _ _ _ refl (ap (λ s. typed_stmt g c.args.from ls (stmt_of s)) c.in-Break.is) (c.add-in-Break.ensures c.args.scope.now _ (c.leave.ensures ls));
+      extends = extends_same _;
+    }
 
-pub stmt-returns-in_ok-body-in-Solar-clause-gives : goal.stmt-returns-in_ok-body-in-Solar-clause-gives
-stmt-returns-in_ok-body-in-Solar-clause-gives t c =
+pub stmt-returns-in-Continue : goal.stmt-returns-in-Continue
+stmt-returns-in-Continue t c =
     let g = around_of c.args.g.now in
-    let given = solar_given g (around_of c.in_lights-in-Solar.result) c.args.from c.args.scope.now c.branch-deref-in-Solar.new.scope _ _ _ _ _ _ _ _ _ c.in-Solar.is
-    (c.in_ok-args-in-Solar.ensures _ c.solar_args-args.ensures) c.in_lights-in-Solar.ensures c.in_ok-body-in-Solar.ensures.gives c.deref-in-Solar.ensures c.in_ok-body-in-Solar.ensures.same
-    c.lights_node-in-Solar.ensures in
-    rows_as _ _ _ _ _ _ given (c.add-in-Solar.ensures c.branch-deref-in-Solar.new.scope)
+    let ls = map local_of c.args.scope.now in
+    record {
+      gives = added _ _ _ _ _ _ _ refl (ap (λ s. typed_stmt g c.args.from ls (stmt_of s)) c.in-Continue.is) (c.add-in-Continue.ensures c.args.scope.now _ (c.again.ensures ls));
+      extends = extends_same _;
+    }
+
+pub stmt-returns-in-Return : goal.stmt-returns-in-Return
+stmt-returns-in-Return t c =
+    let g = around_of c.args.g.now in
+    let ls = map local_of c.args.scope.now in
+    record {
+      gives = added _ _ _ _ _ _ _ refl (ap (λ s. typed_stmt g c.args.from ls (stmt_of s)) c.in-Return.is) (c.add-in-Return.ensures c.args.scope.now _ (c.misplaced.ensures ls _ c.expr-value.ensures));
+      extends = extends_same _;
+    }
+
+pub stmt-returns-in-Declare : goal.stmt-returns-in-Declare
+stmt-returns-in-Declare t c =
+    let g = around_of c.args.g.now in
+    let ls = map local_of c.args.scope.now in
+    let is = ap (λ s. typed_stmt g c.args.from ls (stmt_of s)) c.in-Declare.is
+    ∙ ap₂ (λ u ds. spec.typed_names g c.args.from u c.in-Declare.kind ls (map declared_of ds)) (sym c.is_uniform-uniform.ensures) (sym c.as_slice-in-Declare.ensures) in
+    record {
+      gives = added _ _ _ _ _ _ _ refl is c.names.ensures.gives;
+      extends = c.names.ensures.extends;
+    }
+
+pub stmt-returns-in-If : goal.stmt-returns-in-If
+stmt-returns-in-If t c =
+    let g = around_of c.args.g.now in
+    let ls = map local_of c.args.scope.now in
+    let test = spec.condition c.in-If.line (typed_expr g false ls (expr_of c.in-If.test)) in
+    let is = ap (λ s. typed_stmt g c.args.from ls (stmt_of s)) c.in-If.is ∙ in_branch (spec.tested ls c.in-If.line test) g g ls _ _ c.deref.ensures refl in
+    let node = c.if_node.ensures ls _ _ (c.condition-test.ensures _ c.expr.ensures) c.branch-then.ensures.gives in
+    record {
+      gives = added _ _ _ _ _ _ _ c.branch-then.ensures.same is (c.add-in-If.ensures c.args.scope.now _ node);
+      extends = left_same _ _ c.branch-then.ensures.same;
+    }
+
+pub stmt-returns-in-IfElse : goal.stmt-returns-in-IfElse
+stmt-returns-in-IfElse t c =
+    let g = around_of c.args.g.now in
+    let ls = map local_of c.args.scope.now in
+    let line = c.in-IfElse.line in
+    let test = spec.condition line (typed_expr g false ls (expr_of c.in-IfElse.test)) in
+    let otherwise = spec.branch (typed_stmt g (length ls) ls (stmt_of c.in-IfElse.otherwise.value)) in
+    let then = spec.branch (typed_stmt g (length ls) ls (stmt_of c.deref-in-IfElse.result.now)) in
+    let is = ap (λ s. typed_stmt g c.args.from ls (stmt_of s)) c.in-IfElse.is ∙ in_branch (λ r. spec.tested_else ls line test r otherwise) g g ls _ _ c.deref-in-IfElse.ensures refl
+    ∙ in_branch (spec.tested_else ls line test then) g g ls _ _ c.deref-in-IfElse-2.ensures refl in
+    let second = subst (λ k. Gives boxed_of c.branch-otherwise.result (spec.branch (typed_stmt g (length (map local_of k)) (map local_of k) (stmt_of c.deref-in-IfElse-2.result.now)))) c.branch-then-in-IfElse.ensures.same c.branch-otherwise.ensures.gives in
+    let node = c.if_else_node.ensures ls _ _ _ (c.condition-test-in-IfElse.ensures _ c.expr-in-IfElse.ensures) c.branch-then-in-IfElse.ensures.gives second in
+    let same = c.branch-otherwise.ensures.same ∙ c.branch-then-in-IfElse.ensures.same in
+    record {
+      gives = added _ _ _ _ _ _ _ same is (c.add-in-IfElse.ensures c.args.scope.now _ node);
+      extends = left_same _ _ same;
+    }
+
+pub stmt-returns-in-While : goal.stmt-returns-in-While
+stmt-returns-in-While t c =
+    let g = around_of c.args.g.now in
+    let ls = map local_of c.args.scope.now in
+    let test = spec.condition c.in-While.line (typed_expr g false ls (expr_of c.in-While.test)) in
+    let is = ap (λ s. typed_stmt g c.args.from ls (stmt_of s)) c.in-While.is ∙ in_branch (spec.repeated ls c.in-While.line test) (spec.in_loop g) _ ls _ _ c.deref-in-While.ensures c.in_loop.ensures in
+    let node = c.while_node.ensures ls _ _ (c.condition-test-in-While.ensures _ c.expr-in-While.ensures) c.branch-body.ensures.gives in
+    record {
+      gives = added _ _ _ _ _ _ _ c.branch-body.ensures.same is (c.add-in-While.ensures c.args.scope.now _ node);
+      extends = left_same _ _ c.branch-body.ensures.same;
+    }
+
+pub stmt-returns-in-For : goal.stmt-returns-in-For
+stmt-returns-in-For t c =
+    let g = around_of c.args.g.now in
+    let ls = map local_of c.args.scope.now in
+    let line = c.in-For.line in
+    let test = typed_expr g false ls (expr_of c.in-For.test) in
+    let first = spec.optional_set g ls (option_map assignment_of c.in-For.first) in
+    let step = spec.optional_set g ls (option_map assignment_of c.in-For.step) in
+    let is = ap (λ s. typed_stmt g c.args.from ls (stmt_of s)) c.in-For.is ∙ in_branch (spec.stepped ls line first test step) (spec.in_loop g) _ ls _ _ c.deref-in-For.ensures c.in_loop-in-For.ensures
+    ∙ steps_in_two ls line first test step _ in
+    let node = c.for_node.ensures ls _ _ _ (c.for_head.ensures _ _ c.expr-test.ensures c.optional_set-first.ensures) c.optional_set-step.ensures c.branch-body-in-For.ensures.gives in
+    record {
+      gives = added _ _ _ _ _ _ _ c.branch-body-in-For.ensures.same is (c.add-in-For.ensures c.args.scope.now _ node);
+      extends = left_same _ _ c.branch-body-in-For.ensures.same;
+    }
+
+pub stmt-returns-in-Lights : goal.stmt-returns-in-Lights
+stmt-returns-in-Lights t c =
+    let g = around_of c.args.g.now in
+    let ls = map local_of c.args.scope.now in
+    let line = c.in-Lights.line in
+    let word = c.light_word-word.result in
+    let args = typed_args g ls (spec.light_args (expr_of c.in-Lights.place) (option_map cone_of c.in-Lights.cone)) in
+    let body = spec.branch (typed_stmt (spec.in_lights g) (length ls) ls (stmt_of c.in-Lights.body.value)) in
+    let is = ap (λ s. typed_stmt g c.args.from ls (stmt_of s)) c.in-Lights.is ∙ ap (λ w. spec.lighted ls w line (spec.lights_of g.at w line args) body) (sym c.light_word-word.ensures)
+    ∙ in_branch (spec.lighted ls word line (spec.lights_of g.at word line args)) (spec.in_lights g) _ ls _ _ c.deref-in-Lights.ensures c.in_lights.ensures in
+    let node = c.lights_node.ensures ls _ _ (c.lights_of-args.ensures _ c.light_args-args.ensures) c.branch-body-in-Lights.ensures.gives in
+    record {
+      gives = added _ _ _ _ _ _ _ c.branch-body-in-Lights.ensures.same is (c.add-in-Lights.ensures c.args.scope.now _ node);
+      extends = left_same _ _ c.branch-body-in-Lights.ensures.same;
+    }
+
+pub stmt-returns-in-Solar : goal.stmt-returns-in-Solar
+stmt-returns-in-Solar t c =
+    let g = around_of c.args.g.now in
+    let ls = map local_of c.args.scope.now in
+    let line = c.in-Solar.line in
+    let args = spec.lights_of g.at Solar line (typed_args g ls (U.more (expr_of c.in-Solar.axis) (U.more (expr_of c.in-Solar.angle) U.none))) in
+    let is = ap (λ s. typed_stmt g c.args.from ls (stmt_of s)) c.in-Solar.is ∙ in_branch (spec.lighted ls Solar line args) (spec.in_lights g) _ ls _ _ c.deref-in-Solar.ensures c.in_lights-in-Solar.ensures in
+    let node = c.lights_node-in-Solar.ensures ls _ _ (c.lights_of-args-in-Solar.ensures _ c.solar_args-args.ensures) c.branch-body-in-Solar.ensures.gives in
+    record {
+      gives = added _ _ _ _ _ _ _ c.branch-body-in-Solar.ensures.same is (c.add-in-Solar.ensures c.args.scope.now _ node);
+      extends = left_same _ _ c.branch-body-in-Solar.ensures.same;
+    }

@@ -1,0 +1,46 @@
+-- What is learned one after another: functions and parameters.
+use Rattle.std.proofs.Common.{◌≡◌, ℕ, ◌+◌, ◌<◌, Bool, true, false, cond, List, [], ◌∷◌, ◌++◌, append_assoc, map, drop, length, get_or, is_some, Ok, Err, refl, sym, ap, ◌∙◌}
+use Rattle.std.proofs.lemmas.List.{at_drop_more}
+use Rattle.sl_ast.specs.SyntaxView.{declared_of, function_of, group_of}
+use Rattle.sl_ast.specs.declared.kinds.SlKind.{SlKind}
+use Rattle.sl_ast.specs.declared.kinds.SlType.{SlType}
+use Rattle.sl_ast.specs.declared.syntax.Declared.{Declared}
+use Rattle.sl_ast.specs.declared.syntax.Function.{Function}
+use Rattle.sl_ast.specs.declared.syntax.Group.{Group}
+use Rattle.sl_typing.specs.Found.{Found, ◌>>=◌}
+use Rattle.sl_typing.specs.Scope.{Around, Callee, Local, callee_named}
+use Rattle.sl_typing.specs.Functions.{Param, callee_in, formals_named, formals_of, known_from, learned, typed_param, typed_params}
+use Rattle.sl_typing.specs.Stmts.{is_uniform}
+use Rattle.sl_typing.specs.declared.fault.TypeCode.TheVariants.{T10}
+
+one_more : (b : Bool) (line : ℕ) (ks : List Callee) (next : List Callee → Found (List Callee))
+    → cond b (Err (T10, line)) (next ks) ≡ cond b (Err (T10, line)) (Ok ks) >>= next
+one_more true line ks next = refl
+one_more false line ks next = refl
+
+-- one function of those that are left, and those behind it
+pub known_step : (kind : SlKind) (ks : List Callee) (xs : List Function) (i : ℕ) (x : Function) → i < length xs → x ≡ get_or xs i x
+    → known_from kind ks (map function_of (drop i xs)) ≡ learned kind ks (function_of x) >>= λ k. known_from kind k (map function_of (drop (i + 1) xs))
+known_step kind ks xs i x low is =
+    let next : List Callee → Found (List Callee) = λ k. known_from kind k (map function_of (drop (i + 1) xs)) in
+    at_drop_more (λ ys. known_from kind ks (map function_of ys)) xs i x low
+    ∙ ap (λ y. known_from kind ks (function_of y ∷ map function_of (drop (i + 1) xs))) (sym is)
+    ∙ one_more (is_some (callee_named (function_of x).name ks)) (function_of x).line (ks ++ callee_in kind ks (function_of x) ∷ []) next
+
+-- the formals of a group behind others, and those of the groups that are left
+pub formals_step : (before : List Local) (xs : List Group) (i : ℕ) (x : Group) → i < length xs → x ≡ get_or xs i x
+    → before ++ formals_of (map group_of (drop i xs))
+    ≡ (before ++ formals_named (is_uniform x.class) x.kind (map declared_of x.names)) ++ formals_of (map group_of (drop (i + 1) xs))
+formals_step before xs i x low is =
+    let rest = formals_of (map group_of (drop (i + 1) xs)) in
+    at_drop_more (λ ys. before ++ formals_of (map group_of ys)) xs i x low
+    ∙ ap (λ y. before ++ (formals_named (is_uniform y.class) y.kind (map declared_of y.names) ++ rest)) (sym is)
+    ∙ sym (append_assoc before (formals_named (is_uniform x.class) x.kind (map declared_of x.names)) rest)
+
+-- one parameter of those that are left, and those behind it
+pub params_step : (g : Around) (uniform : Bool) (kind : SlType) (ps : List Param) (xs : List Declared) (i : ℕ) (x : Declared) → i < length xs → x ≡ get_or xs i x
+    → typed_params g uniform kind ps (map declared_of (drop i xs))
+    ≡ typed_param g uniform kind ps (declared_of x) >>= λ r. typed_params g uniform kind r (map declared_of (drop (i + 1) xs))
+params_step g uniform kind ps xs i x low is =
+    at_drop_more (λ ys. typed_params g uniform kind ps (map declared_of ys)) xs i x low
+    ∙ ap (λ y. typed_params g uniform kind ps (declared_of y ∷ map declared_of (drop (i + 1) xs))) (sym is)

@@ -1,7 +1,0 @@
-use Rattle.std.proofs.Common.{◌≡◌, [], drop, map}
-use Rattle.sl_typing.specs.Functions.{scope_from}
-use Rattle.sl_typing.specs.Views.{local_of}
-use Rattle.sl_typing.proofs.functions.scope_from.Given as goal
-
-abbrev pub invariant-loop-formal : goal.invariant-loop-formal
-invariant-loop-formal l = scope_from (map local_of l.scope) (map local_of (drop l.formal-index l.formals)) ≡ scope_from [] (map local_of l.formals)

@@ -1,0 +1,178 @@
+// Statements that hold others, from what was found of their parts: the first fault in the order of the text, or the node.
+ghost use Rattle.std.specs.Prelude.{List, ◌≡◌, Ok, map};
+ghost use Rattle.sl_typing.specs.Found.{Found};
+ghost use Rattle.sl_typing.specs.Scope.{Local};
+ghost use Rattle.sl_typing.specs.Stmts as spec;
+ghost use Rattle.sl_typing.specs.Typed as T;
+ghost use Rattle.sl_typing.specs.TypedView.{typed_of, tstmt_of};
+ghost use Rattle.sl_typing.specs.Views.{Gives, GivesAll, GivesOne, GivesTested, boxed_of, head_of};
+
+use crate::fault::{TypeCode, TypeFault, fault};
+use crate::sets::is_test;
+use crate::typed::{TypedExpr, TypedStmt};
+use fixed_math::List;
+use sl_ast::LightStmt;
+use std::alloc::Global;
+
+// A block.
+#[tactic(auto, using(crate::proofs::Rows::held_tstmts))]
+pub fn block_node(
+    body: Result<Vec<TypedStmt>, TypeFault>,
+    line: u32,
+) -> Result<TypedStmt, TypeFault>
+    ensures { (ls : List Local) (b : Found (List T.Stmt)) → GivesAll tstmt_of body b → GivesOne result ls (spec.blocked ls line b) }
+{
+    let body = body?;
+    Ok(TypedStmt::Block {
+        body: List(body),
+        line,
+    })
+}
+
+#[tactic(auto, using(crate::proofs::Rows::held_tstmts))]
+fn group_node(body: Vec<TypedStmt>) -> TypedStmt
+    ensures { tstmt_of result ≡ T.group (T.stmts (map tstmt_of body.items)) }
+{
+    TypedStmt::Group { body: List(body) }
+}
+
+// A branch: a declaration of several names stands as a group.
+#[tactic(auto, using(crate::proofs::Branches::one_is, crate::proofs::Branches::several_are))]
+fn one_of(mut stmts: Vec<TypedStmt>) -> TypedStmt
+    ensures { tstmt_of result ≡ spec.one_of (map tstmt_of stmts.items) }
+{
+    if stmts.len() != 1 {
+        return group_node(stmts);
+    }
+    match stmts.pop() {
+        Some(one) => one,
+        None => unreachable!(),
+    }
+}
+
+// A branch as the node around it holds it.
+pub fn boxed(alloc: Global, stmts: Vec<TypedStmt>) -> Result<Box<TypedStmt>, TypeFault>
+    ensures { Gives boxed_of result (Ok (spec.one_of (map tstmt_of stmts.items))) }
+{
+    Ok(Box::new(alloc, one_of(stmts))?)
+}
+
+// An `if` alone.
+pub fn if_node(
+    test: Result<TypedExpr, TypeFault>,
+    then: Result<Box<TypedStmt>, TypeFault>,
+    line: u32,
+) -> Result<TypedStmt, TypeFault>
+    ensures { (ls : List Local) (t : Found T.Expr) (r : Found T.Stmt) → Gives typed_of test t → Gives boxed_of then r → GivesOne result ls (spec.tested ls line t r) }
+{
+    let test = test?;
+    let then = then?;
+    Ok(TypedStmt::If { test, then, line })
+}
+
+// An `if` with its `else`.
+pub fn if_else_node(
+    test: Result<TypedExpr, TypeFault>,
+    then: Result<Box<TypedStmt>, TypeFault>,
+    otherwise: Result<Box<TypedStmt>, TypeFault>,
+    line: u32,
+) -> Result<TypedStmt, TypeFault>
+    ensures { (ls : List Local) (t : Found T.Expr) (r : Found T.Stmt) (q : Found T.Stmt) → Gives typed_of test t → Gives boxed_of then r → Gives boxed_of otherwise q → GivesOne result ls (spec.tested_else ls line t r q) }
+{
+    let test = test?;
+    let then = then?;
+    let otherwise = otherwise?;
+    Ok(TypedStmt::IfElse {
+        test,
+        then,
+        otherwise,
+        line,
+    })
+}
+
+// A `while`.
+pub fn while_node(
+    test: Result<TypedExpr, TypeFault>,
+    body: Result<Box<TypedStmt>, TypeFault>,
+    line: u32,
+) -> Result<TypedStmt, TypeFault>
+    ensures { (ls : List Local) (t : Found T.Expr) (r : Found T.Stmt) → Gives typed_of test t → Gives boxed_of body r → GivesOne result ls (spec.repeated ls line t r) }
+{
+    let test = test?;
+    let body = body?;
+    Ok(TypedStmt::While { test, body, line })
+}
+
+// The condition of a `for`, whose type is asked before the first assignment; its own faults are told behind that.
+fn tested(
+    line: u32,
+    found: Result<TypedExpr, TypeFault>,
+) -> Result<Result<TypedExpr, TypeFault>, TypeFault>
+    ensures { (test : Found T.Expr) → Gives typed_of found test → GivesTested result line test }
+{
+    match found {
+        Err(TypeFault::NoMemory) => Err(TypeFault::NoMemory),
+        Err(TypeFault::At { code, line }) => Ok(Err(TypeFault::At { code, line })),
+        Ok(test) => {
+            if !is_test(&test) {
+                return fault(TypeCode::T2, line);
+            }
+            Ok(Ok(test))
+        }
+    }
+}
+
+// The first assignment of a `for`, and its condition.
+pub fn for_head(
+    test: Result<TypedExpr, TypeFault>,
+    first: Result<Vec<TypedStmt>, TypeFault>,
+    line: u32,
+) -> Result<(Vec<TypedStmt>, TypedExpr), TypeFault>
+    ensures { (t : Found T.Expr) (a : Found (List T.Stmt)) → Gives typed_of test t → GivesAll tstmt_of first a → Gives head_of result (spec.for_head line t a) }
+{
+    let test = tested(line, test)?;
+    let first = first?;
+    let test = test?;
+    Ok((first, test))
+}
+
+// A `for`.
+#[tactic(auto, using(crate::proofs::Rows::held_tstmts))]
+pub fn for_node(
+    head: Result<(Vec<TypedStmt>, TypedExpr), TypeFault>,
+    step: Result<Vec<TypedStmt>, TypeFault>,
+    body: Result<Box<TypedStmt>, TypeFault>,
+    line: u32,
+) -> Result<TypedStmt, TypeFault>
+    ensures { (ls : List Local) (h : Found spec.Head) (b : Found (List T.Stmt)) (r : Found T.Stmt) → Gives head_of head h → GivesAll tstmt_of step b → Gives boxed_of body r → GivesOne result ls (spec.for_of ls line h b r) }
+{
+    let (first, test) = head?;
+    let step = step?;
+    let body = body?;
+    Ok(TypedStmt::For {
+        first: List(first),
+        test,
+        step: List(step),
+        body,
+        line,
+    })
+}
+
+// A statement over lights.
+pub fn lights_node(
+    word: LightStmt,
+    args: Result<Vec<TypedExpr>, TypeFault>,
+    body: Result<Box<TypedStmt>, TypeFault>,
+    line: u32,
+) -> Result<TypedStmt, TypeFault>
+    ensures { (ls : List Local) (xs : Found (List T.Expr)) (r : Found T.Stmt) → GivesAll typed_of args xs → Gives boxed_of body r → GivesOne result ls (spec.lighted ls word line xs r) }
+{
+    let args = args?;
+    let body = body?;
+    Ok(TypedStmt::Lights {
+        word,
+        args: List(args),
+        body,
+        line,
+    })
+}
