@@ -1,4 +1,5 @@
-// What is made of tokens, put into memory.
+// What is made of tokens, put into memory. Where memory runs out the item is dropped here, so that a caller has only the
+// stop to hand on.
 ghost use Rattle.std.specs.Prelude.{◌≡◌, ◌++◌, [], ◌∷◌, Ok, IfOk, length};
 ghost use Rattle.sl_parser.specs.Parsing.{Gives};
 
