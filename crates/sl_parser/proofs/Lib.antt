@@ -8,8 +8,8 @@ pub mod Fronts
 pub mod Good
 pub mod Levels
 mod Never
-mod Pieces
 mod Readers
 pub mod Spans
 pub mod Steps
 mod StmtTexts
+mod StringBytes

@@ -15,7 +15,7 @@ use Rattle.sl_parser.specs.declared.fault.SlCode.{SlCode}
 use Rattle.sl_parser.specs.declared.reading.Stop.{Stop}
 use Rattle.sl_parser.specs.declared.reading.Stop.TheVariants.{At, NoMemory}
 use Rattle.sl_parser.specs.Reading.{Reads, ◌>>=◌, with_front, many_then, many, after_comma, behind, is_mark}
-use Rattle.sl_parser.specs.Expressions.{operator_at, link_at, link, next_link, is_single, most_links, expr_with, typed_with, name_with, prim_in, expr_at, unary_at, prim_at}
+use Rattle.sl_parser.specs.Expressions.{operator_at, link_at, linked, link, next_link, is_single, most_links, expr_with, typed_with, name_with, prim_in, expr_at, unary_at, prim_at}
 use Rattle.sl_parser.specs.Rows.{typed_at}
 use Rattle.sl_parser.specs.Parsing.{Gives, GivesItems}
 use Rattle.sl_parser.proofs.Levels.{prim_is}
@@ -70,9 +70,6 @@ refused false count len row operand ts h = many-end (next_link row operand) (len
 
 one_each : (single : Bool) (count len : ℕ) → cond single 1 len - count - 1 ≡ cond single 1 len - (count + 1)
 one_each single count len = omega arith
-
-abbrev linked : Operator → ℕ → S.Expr → S.Link
-linked o line e = record { operator = o; line = line; operand = e }
 
 module _ (row : Row) (operand : List Token → Reads S.Expr) (count len : ℕ) where
   pub link-turn : (ts : List Token) (o : Operator) (line : ℕ) (after : List Token) (e : S.Expr) (left : List Token)

@@ -86,9 +86,12 @@ operator_at row (t ∷ ts) = option_map (λ o. (o, t.line, ts)) (operator_in row
 abbrev pub link_at : Row → ℕ → List Token → Option (Operator × ℕ × List Token)
 link_at row count ts = if is_single row && nat_lt 0 count then None else operator_at row ts
 
+abbrev pub linked : Operator → ℕ → S.Expr → S.Link
+linked operator line operand = record { operator = operator; line = line; operand = operand }
+
 -- an operator with its operand, if one follows
 abbrev pub link : (List Token → Reads S.Expr) → Operator × ℕ × List Token → Reads S.Link
-link operand o = operand o.2 >>= λ e. Ok (record { operator = o.0; line = o.1; operand = e.0 }, e.1)
+link operand o = operand o.2 >>= λ e. Ok (linked o.0 o.1 e.0, e.1)
 
 abbrev pub next_link : Row → (List Token → Reads S.Expr) → List Token → Option (Reads S.Link)
 next_link row operand ts = option_map (link operand) (operator_at row ts)
@@ -159,8 +162,11 @@ triple_with expr kind space line x ts =
     expr ts >>= λ y. past Comma y.1 λ behind_y.
     expr behind_y >>= λ z. past RightParen z.1 λ rest. Ok (S.triple kind space x y.0 z.0 line, rest)
 
+abbrev pub paren_typed : SlType → Option Space → ℕ → ℕ → S.Expr → List Token → Reads S.Expr
+paren_typed kind space line inner x ts = past RightParen ts λ rest. Ok (S.typed kind space (S.paren x inner) line, rest)
+
 abbrev pub triple_then : (List Token → Reads S.Expr) → SlType → Option Space → ℕ → ℕ → S.Expr → List Token → Option (List Token) → Reads S.Expr
-triple_then expr kind space line inner x ts None = past RightParen ts λ rest. Ok (S.typed kind space (S.paren x inner) line, rest)
+triple_then expr kind space line inner x ts None = paren_typed kind space line inner x ts
 triple_then expr kind space line inner x ts (Some behind_x) = triple_with expr kind space line x behind_x
 
 abbrev pub inside_with : (List Token → Reads S.Expr) → SlType → Option Space → ℕ → ℕ → List Token → Reads S.Expr

@@ -2,13 +2,14 @@ pub mod Bytes
 pub mod Numbers
 pub mod Words
 pub mod Found
-pub mod Pieces
+pub mod StringBytes
 pub mod Tokens
 pub mod Reading
 pub mod Expressions
 pub mod Parsing
 pub mod Rows
 pub mod Statements
+pub mod Boxes
 pub mod Naming
 pub mod Files
 pub mod Parsed

@@ -172,12 +172,15 @@ set_maybe expr ts = set_or expr ts (head_is is_name ts)
 abbrev pub For : Type 0
 For = Option S.Assignment × S.Expr × Option S.Assignment
 
+-- behind the second semicolon, and behind the first
+abbrev pub step_with : (List Token → Reads S.Expr) → Option S.Assignment → S.Expr → List Token → Reads For
+step_with expr first test ts = set_maybe expr ts >>= λ step. past RightParen step.1 λ rest. Ok ((first, test, step.0), rest)
+
+abbrev pub steps_with : (List Token → Reads S.Expr) → Option S.Assignment → List Token → Reads For
+steps_with expr first ts = expr ts >>= λ test. past Semicolon test.1 λ behind_test. step_with expr first test.0 behind_test
+
 abbrev pub for_head : (List Token → Reads S.Expr) → List Token → Reads For
-for_head expr ts =
-    past LeftParen ts λ inside. set_maybe expr inside >>= λ first.
-    past Semicolon first.1 λ behind_first. expr behind_first >>= λ test.
-    past Semicolon test.1 λ behind_test. set_maybe expr behind_test >>= λ step.
-    past RightParen step.1 λ rest. Ok ((first.0, test.0, step.0), rest)
+for_head expr ts = past LeftParen ts λ inside. set_maybe expr inside >>= λ first. past Semicolon first.1 λ behind_first. steps_with expr first.0 behind_first
 
 abbrev pub for_with : (List Token → Reads S.Stmt) → (List Token → Reads S.Expr) → ℕ → List Token → Reads S.Stmt
 for_with stmt expr line ts = for_head expr ts >>= λ head. stmt head.1 >>= λ body. Ok (S.steps head.0.0 head.0.1 head.0.2 body.0 line, body.1)
@@ -216,9 +219,15 @@ assign_with expr ts = set_with expr ts >>= λ set. past Semicolon set.1 λ rest.
 abbrev pub declare_with : (List Token → Reads S.Expr) → ℕ → List Token → Reads S.Stmt
 declare_with expr line ts = group_with expr Freely ts >>= λ g. past Semicolon g.1 λ rest. Ok (S.declare g.0.class g.0.kind g.0.names line, rest)
 
+abbrev pub leave_with : ℕ → List Token → Reads S.Stmt
+leave_with line ts = past Semicolon ts λ rest. Ok (S.leave line, rest)
+
+abbrev pub again_with : ℕ → List Token → Reads S.Stmt
+again_with line ts = past Semicolon ts λ rest. Ok (S.again line, rest)
+
 abbrev pub word_with : (List Token → Reads S.Stmt) → (List Token → Reads S.Expr) → Word → ℕ → List Token → List Token → Reads S.Stmt
-word_with stmt expr words.Break line rest ts = past Semicolon rest λ left. Ok (S.leave line, left)
-word_with stmt expr words.Continue line rest ts = past Semicolon rest λ left. Ok (S.again line, left)
+word_with stmt expr words.Break line rest ts = leave_with line rest
+word_with stmt expr words.Continue line rest ts = again_with line rest
 word_with stmt expr words.Return line rest ts = return_with expr line rest
 word_with stmt expr words.If line rest ts = if_with stmt expr line rest
 word_with stmt expr words.Else line rest ts = unexpected ts

@@ -1,13 +1,16 @@
 // Names, types and what declares them.
 ghost use Rattle.std.specs.Prelude.{◌≡◌, ◌≤◌, ◌<◌, [], ◌∷◌, IfOk, IfSome, length, option_map};
-ghost use Rattle.sl_ast.specs.SyntaxView.{expr_of, assignment_of, declared_of, group_of};
+ghost use Rattle.sl_ast.specs.SyntaxView.{declared_of, group_of};
 ghost use Rattle.sl_parser.specs.Reading.{head_is, behind, with_front, many, after_comma};
 ghost use Rattle.sl_parser.specs.Expressions.{expr_at};
 ghost use Rattle.sl_parser.specs.Statements.{front_line, name_at, set_at, set_with, type_at, class_at, is_equals, is_name, set_maybe, value_with, declared_with, group_with, IsClassAt};
 ghost use Rattle.sl_parser.specs.Parsing.{Gives, GivesItems};
 ghost use Rattle.sl_parser.specs.Naming.{MatchName};
+ghost use Rattle.sl_parser.specs.Boxes.{boxed_expr, boxed_assignment};
 
+use crate::boxes::push;
 use crate::expressions::expr;
+use crate::nodes::{make_assignment, make_declared};
 use crate::reading::{Stop, behind, code_at};
 use crate::token::{Mark, Token, TokenKind};
 use fixed_math::{List, Text};
@@ -23,7 +26,7 @@ pub enum Valued {
 }
 
 // The name that has to stand at the front with its line, and the tokens behind it.
-pub fn name<'a>(alloc: Global, ts: &'a [Token]) -> Result<(Text, u32, &'a [Token]), Stop<'a>>
+pub fn name(ts: &[Token]) -> Result<(&Text, u32, &[Token]), Stop<'_>>
     ensures gives { MatchName ts.now result }
     ensures within { IfOk result (λ n. length n.2.now < length ts.now) }
 {
@@ -31,7 +34,7 @@ pub fn name<'a>(alloc: Global, ts: &'a [Token]) -> Result<(Text, u32, &'a [Token
         return Err(Stop::At(code_at(ts), ts));
     };
     match &first.kind {
-        TokenKind::Name(name) => Ok((name.copied(alloc)?, first.line, rest)),
+        TokenKind::Name(name) => Ok((name, first.line, rest)),
         _ => Err(Stop::At(code_at(ts), ts)),
     }
 }
@@ -110,25 +113,16 @@ pub fn assignment<'a>(
     alloc: Global,
     levels: u32,
     ts: &'a [Token],
-) -> Result<(Assignment, &'a [Token]), Stop<'a>>
-    ensures gives { Gives assignment_of result (set_with (expr_at levels) ts.now) }
+) -> Result<(Box<Assignment>, &'a [Token]), Stop<'a>>
+    ensures gives { Gives boxed_assignment result (set_with (expr_at levels) ts.now) }
     ensures within { IfOk result (λ a. length a.1.now < length ts.now) }
 {
-    let (name, line, after) = name(alloc, ts)?;
+    let (name, line, after) = name(ts)?;
     let Some((operator, rest)) = set_at(after) else {
         return Err(Stop::At(code_at(after), after));
     };
     let (value, rest) = expr(alloc, levels, rest)?;
-    Ok((
-        Assignment {
-            name,
-            operator,
-            value,
-            line,
-            set_line: front_line(after),
-        },
-        rest,
-    ))
+    make_assignment(alloc, name, operator, value, line, front_line(after), rest)
 }
 
 // An assignment, if a name stands at the front.
@@ -136,8 +130,8 @@ pub fn maybe_assignment<'a>(
     alloc: Global,
     levels: u32,
     ts: &'a [Token],
-) -> Result<(Option<Assignment>, &'a [Token]), Stop<'a>>
-    ensures gives { Gives (option_map assignment_of) result (set_maybe (expr_at levels) ts.now) }
+) -> Result<(Option<Box<Assignment>>, &'a [Token]), Stop<'a>>
+    ensures gives { Gives (option_map boxed_assignment) result (set_maybe (expr_at levels) ts.now) }
     ensures within { IfOk result (λ a. length a.1.now ≤ length ts.now) }
 {
     if begins_name(ts) {
@@ -154,8 +148,8 @@ fn value<'a>(
     levels: u32,
     valued: Valued,
     ts: &'a [Token],
-) -> Result<(Option<Expr>, &'a [Token]), Stop<'a>>
-    ensures gives { Gives (option_map expr_of) result (value_with (expr_at levels) valued ts.now) }
+) -> Result<(Option<Box<Expr>>, &'a [Token]), Stop<'a>>
+    ensures gives { Gives (option_map boxed_expr) result (value_with (expr_at levels) valued ts.now) }
     ensures within { IfOk result (λ v. length v.1.now ≤ length ts.now) }
 {
     match (valued, behind_equals(ts)) {
@@ -179,18 +173,10 @@ fn declared<'a>(
     ensures gives { Gives declared_of result (declared_with (expr_at levels) valued ts.now) }
     ensures within { IfOk result (λ d. length d.1.now < length ts.now) }
 {
-    let (name, line, rest) = name(alloc, ts)?;
+    let (name, line, rest) = name(ts)?;
     let set_line = front_line(rest);
     let (value, rest) = value(alloc, levels, valued, rest)?;
-    Ok((
-        Declared {
-            name,
-            value,
-            line,
-            set_line,
-        },
-        rest,
-    ))
+    make_declared(alloc, name, value, line, set_line, rest)
 }
 
 // Further names behind the first.
@@ -205,11 +191,11 @@ fn further<'a>(
     ensures within { IfOk result (λ d. length d.1.now ≤ length ts.now) }
 {
     let mut names = Vec::new(alloc);
-    names.push(first)?;
+    push(&mut names, first)?;
     let mut rest = ts;
     while let Some(after) = behind(Mark::Comma, rest) {
         let (name, left) = declared(alloc, levels, valued, after)?;
-        names.push(name)?;
+        push(&mut names, name)?;
         rest = left;
     }
     Ok((names, rest))

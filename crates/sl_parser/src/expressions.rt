@@ -1,18 +1,23 @@
 // Expressions from tokens.
-ghost use Rattle.std.specs.Prelude.{◌≡◌, ◌≤◌, [], ◌∷◌, IfOk, length, Some};
+ghost use Rattle.std.specs.Prelude.{◌≤◌, [], ◌∷◌, IfOk, length, Some};
 ghost use Rattle.sl_ast.specs.SyntaxView.{expr_of, link_of};
 ghost use Rattle.sl_parser.specs.Reading.{with_front, many, after_comma};
-ghost use Rattle.sl_parser.specs.Expressions.{chain, links_in, choice_then, expr_with, args_in, name_with, paren_with, inside_with, triple_with, typed_with, expr_at, unary_at, prim_at};
+ghost use Rattle.sl_parser.specs.Expressions.{chain, links_in, choice_then, expr_with, args_in, name_with, paren_with, inside_with, paren_typed, triple_with, typed_with, expr_at, unary_at, prim_at};
 ghost use Rattle.sl_parser.specs.Rows.{operand_with};
 ghost use Rattle.sl_parser.specs.Parsing.{Gives, GivesItems};
+ghost use Rattle.sl_parser.specs.Boxes.{boxed_expr, space_from};
 
+use crate::boxes::{push, push_boxed};
+use crate::expression_nodes::{
+    make_call, make_chain, make_choice, make_link, make_name, make_number, make_paren,
+    make_prefixed, make_string, make_triple, make_typed,
+};
 use crate::fault::SlCode;
 use crate::heads::{begins_expr, link_at, prefix_at, space_at};
-use crate::nodes::{make_call, make_chain, make_typed};
-use crate::reading::{Stop, behind, closed, code_at, line_behind, past};
+use crate::reading::{Stop, behind, closed, code_at, line_behind};
 use crate::token::{Mark, Token, TokenKind};
 use fixed_math::Text;
-use sl_ast::{Expr, Link, Row, SlType, Space};
+use sl_ast::{Expr, Link, Row, SlType};
 use std::alloc::Global;
 
 // An expression, where so many levels are left.
@@ -21,8 +26,8 @@ pub fn expr<'a>(
     alloc: Global,
     levels: u32,
     ts: &'a [Token],
-) -> Result<(Expr, &'a [Token]), Stop<'a>>
-    ensures gives { Gives expr_of result (expr_at levels ts.now) }
+) -> Result<(Box<Expr>, &'a [Token]), Stop<'a>>
+    ensures gives { Gives boxed_expr result (expr_at levels ts.now) }
     ensures within { IfOk result (λ e. length e.1.now ≤ length ts.now) }
 {
     if levels > 0 {
@@ -34,24 +39,14 @@ pub fn expr<'a>(
     }
 }
 
-// The same in a box.
+// An expression that has opened its level.
 #[cycle(expressions)]
-fn boxed<'a>(
+fn choice<'a>(
     alloc: Global,
     levels: u32,
     ts: &'a [Token],
 ) -> Result<(Box<Expr>, &'a [Token]), Stop<'a>>
-    ensures gives { Gives (λ e. expr_of e.value) result (expr_at levels ts.now) }
-    ensures within { IfOk result (λ e. length e.1.now ≤ length ts.now) }
-{
-    let (expr, rest) = expr(alloc, levels, ts)?;
-    Ok((Box::new(alloc, expr)?, rest))
-}
-
-// An expression that has opened its level.
-#[cycle(expressions)]
-fn choice<'a>(alloc: Global, levels: u32, ts: &'a [Token]) -> Result<(Expr, &'a [Token]), Stop<'a>>
-    ensures gives { Gives expr_of result (expr_with (unary_at levels) (expr_at levels) ts.now) }
+    ensures gives { Gives boxed_expr result (expr_with (unary_at levels) (expr_at levels) ts.now) }
     ensures within { IfOk result (λ e. length e.1.now ≤ length ts.now) }
 {
     let (test, rest) = chain(alloc, levels, Row::Or, ts)?;
@@ -66,26 +61,17 @@ fn choice<'a>(alloc: Global, levels: u32, ts: &'a [Token]) -> Result<(Expr, &'a 
 fn chosen<'a>(
     alloc: Global,
     levels: u32,
-    test: Expr,
+    test: Box<Expr>,
     line: u32,
     ts: &'a [Token],
-) -> Result<(Expr, &'a [Token]), Stop<'a>>
-    ensures gives { Gives expr_of result (choice_then (expr_at levels) (expr_of test) ts.now (Some (line, ts.now))) }
+) -> Result<(Box<Expr>, &'a [Token]), Stop<'a>>
+    ensures gives { Gives boxed_expr result (choice_then (expr_at levels) (boxed_expr test) ts.now (Some (line, ts.now))) }
     ensures within { IfOk result (λ e. length e.1.now ≤ length ts.now) }
 {
-    let test = Box::new(alloc, test)?;
-    let (first, rest) = boxed(alloc, levels, ts)?;
-    let rest = past(Mark::Colon, rest)?;
-    let (second, rest) = boxed(alloc, levels, rest)?;
-    Ok((
-        Expr::Choice {
-            test,
-            first,
-            second,
-            line,
-        },
-        rest,
-    ))
+    let (first, rest) = expr(alloc, levels, ts)?;
+    let (first, rest) = closed(first, Mark::Colon, rest)?;
+    let (second, rest) = expr(alloc, levels, rest)?;
+    make_choice(alloc, test, first, second, line, rest)
 }
 
 // A chain of that row.
@@ -95,13 +81,13 @@ fn chain<'a>(
     levels: u32,
     row: Row,
     ts: &'a [Token],
-) -> Result<(Expr, &'a [Token]), Stop<'a>>
-    ensures gives { Gives expr_of result (chain row (operand_with row (unary_at levels)) ts.now) }
+) -> Result<(Box<Expr>, &'a [Token]), Stop<'a>>
+    ensures gives { Gives boxed_expr result (chain row (operand_with row (unary_at levels)) ts.now) }
     ensures within { IfOk result (λ e. length e.1.now ≤ length ts.now) }
 {
     let (first, rest) = operand(alloc, levels, row, ts)?;
     let (links, rest) = links(alloc, levels, row, rest)?;
-    Ok((make_chain(alloc, row, first, links)?, rest))
+    make_chain(alloc, row, first, links, rest)
 }
 
 // Operators of that row with their operands.
@@ -119,11 +105,7 @@ fn links<'a>(
     let mut rest = ts;
     while let Some((operator, line, after)) = link_at(row, links.len(), rest) {
         let (operand, left) = operand(alloc, levels, row, after)?;
-        links.push(Link {
-            operator,
-            line,
-            operand,
-        })?;
+        push(&mut links, make_link(operator, line, operand))?;
         rest = left;
     }
     Ok((links, rest))
@@ -136,8 +118,8 @@ fn operand<'a>(
     levels: u32,
     row: Row,
     ts: &'a [Token],
-) -> Result<(Expr, &'a [Token]), Stop<'a>>
-    ensures gives { Gives expr_of result (operand_with row (unary_at levels) ts.now) }
+) -> Result<(Box<Expr>, &'a [Token]), Stop<'a>>
+    ensures gives { Gives boxed_expr result (operand_with row (unary_at levels) ts.now) }
     ensures within { IfOk result (λ e. length e.1.now ≤ length ts.now) }
 {
     match row {
@@ -154,8 +136,12 @@ fn operand<'a>(
 
 // Prefix operators and what stands behind them.
 #[cycle(expressions)]
-fn unary<'a>(alloc: Global, levels: u32, ts: &'a [Token]) -> Result<(Expr, &'a [Token]), Stop<'a>>
-    ensures gives { Gives expr_of result (unary_at levels ts.now) }
+fn unary<'a>(
+    alloc: Global,
+    levels: u32,
+    ts: &'a [Token],
+) -> Result<(Box<Expr>, &'a [Token]), Stop<'a>>
+    ensures gives { Gives boxed_expr result (unary_at levels ts.now) }
     ensures within { IfOk result (λ e. length e.1.now ≤ length ts.now) }
 {
     let Some((operator, line, rest)) = prefix_at(ts) else {
@@ -165,21 +151,17 @@ fn unary<'a>(alloc: Global, levels: u32, ts: &'a [Token]) -> Result<(Expr, &'a [
         return Err(Stop::At(SlCode::P3, ts));
     }
     let (operand, rest) = unary(alloc, levels - 1, rest)?;
-    let operand = Box::new(alloc, operand)?;
-    Ok((
-        Expr::Prefixed {
-            operator,
-            operand,
-            line,
-        },
-        rest,
-    ))
+    make_prefixed(alloc, operator, operand, line, rest)
 }
 
 // What stands between operators and behind prefix operators.
 #[cycle(expressions)]
-fn prim<'a>(alloc: Global, levels: u32, ts: &'a [Token]) -> Result<(Expr, &'a [Token]), Stop<'a>>
-    ensures gives { Gives expr_of result (prim_at levels ts.now) }
+fn prim<'a>(
+    alloc: Global,
+    levels: u32,
+    ts: &'a [Token],
+) -> Result<(Box<Expr>, &'a [Token]), Stop<'a>>
+    ensures gives { Gives boxed_expr result (prim_at levels ts.now) }
     ensures within { IfOk result (λ e. length e.1.now ≤ length ts.now) }
 {
     let Some((first, rest)) = ts.split_first() else {
@@ -187,15 +169,9 @@ fn prim<'a>(alloc: Global, levels: u32, ts: &'a [Token]) -> Result<(Expr, &'a [T
     };
     let line = first.line;
     match &first.kind {
-        TokenKind::Number(text) => {
-            let text = text.copied(alloc)?;
-            Ok((Expr::Number { text, line }, rest))
-        }
-        TokenKind::Str(text) => {
-            let text = text.copied(alloc)?;
-            Ok((Expr::Str { text, line }, rest))
-        }
-        TokenKind::Name(name) => named(alloc, levels, name.copied(alloc)?, line, rest),
+        TokenKind::Number(text) => make_number(alloc, text, line, rest),
+        TokenKind::Str(text) => make_string(alloc, text, line, rest),
+        TokenKind::Name(name) => named(alloc, levels, name, line, rest),
         TokenKind::Mark(Mark::LeftParen) => paren(alloc, levels, line, rest),
         TokenKind::Type(_) if levels == 0 => Err(Stop::At(SlCode::P3, ts)),
         TokenKind::Type(kind) => typed(alloc, levels - 1, *kind, line, rest),
@@ -208,18 +184,18 @@ fn prim<'a>(alloc: Global, levels: u32, ts: &'a [Token]) -> Result<(Expr, &'a [T
 fn named<'a>(
     alloc: Global,
     levels: u32,
-    name: Text,
+    name: &Text,
     line: u32,
     ts: &'a [Token],
-) -> Result<(Expr, &'a [Token]), Stop<'a>>
-    ensures gives { Gives expr_of result (name_with (expr_at levels) name line ts.now) }
+) -> Result<(Box<Expr>, &'a [Token]), Stop<'a>>
+    ensures gives { Gives boxed_expr result (name_with (expr_at levels) name.now line ts.now) }
     ensures within { IfOk result (λ e. length e.1.now ≤ length ts.now) }
 {
     let Some(inside) = behind(Mark::LeftParen, ts) else {
-        return Ok((Expr::Name { name, line }, ts));
+        return make_name(alloc, name, line, ts);
     };
     let (args, rest) = arguments(alloc, levels, inside)?;
-    Ok((make_call(name, args, line), rest))
+    make_call(alloc, name, args, line, rest)
 }
 
 // Arguments and the parenthesis behind them.
@@ -245,18 +221,18 @@ fn arguments<'a>(
 fn further<'a>(
     alloc: Global,
     levels: u32,
-    first: Expr,
+    first: Box<Expr>,
     ts: &'a [Token],
 ) -> Result<(Vec<Expr>, &'a [Token]), Stop<'a>>
-    ensures gives { GivesItems expr_of result (with_front (expr_of first ∷ []) (many (after_comma (expr_at levels)) (length ts.now) ts.now)) }
+    ensures gives { GivesItems expr_of result (with_front (boxed_expr first ∷ []) (many (after_comma (expr_at levels)) (length ts.now) ts.now)) }
     ensures within { IfOk result (λ e. length e.1.now ≤ length ts.now) }
 {
     let mut args = Vec::new(alloc);
-    args.push(first)?;
+    push_boxed(&mut args, first)?;
     let mut rest = ts;
     while let Some(after) = behind(Mark::Comma, rest) {
         let (arg, left) = expr(alloc, levels, after)?;
-        args.push(arg)?;
+        push_boxed(&mut args, arg)?;
         rest = left;
     }
     Ok((args, rest))
@@ -269,13 +245,13 @@ fn paren<'a>(
     levels: u32,
     line: u32,
     ts: &'a [Token],
-) -> Result<(Expr, &'a [Token]), Stop<'a>>
-    ensures gives { Gives expr_of result (paren_with (expr_at levels) line ts.now) }
+) -> Result<(Box<Expr>, &'a [Token]), Stop<'a>>
+    ensures gives { Gives boxed_expr result (paren_with (expr_at levels) line ts.now) }
     ensures within { IfOk result (λ e. length e.1.now ≤ length ts.now) }
 {
-    let (inner, rest) = boxed(alloc, levels, ts)?;
+    let (inner, rest) = expr(alloc, levels, ts)?;
     let (inner, rest) = closed(inner, Mark::RightParen, rest)?;
-    Ok((Expr::Paren { inner, line }, rest))
+    make_paren(alloc, inner, line, rest)
 }
 
 // What stands behind a type.
@@ -286,25 +262,16 @@ fn typed<'a>(
     kind: SlType,
     line: u32,
     ts: &'a [Token],
-) -> Result<(Expr, &'a [Token]), Stop<'a>>
-    ensures gives { Gives expr_of result (typed_with (expr_at levels) (prim_at levels) kind line ts.now) }
+) -> Result<(Box<Expr>, &'a [Token]), Stop<'a>>
+    ensures gives { Gives boxed_expr result (typed_with (expr_at levels) (prim_at levels) kind line ts.now) }
     ensures within { IfOk result (λ e. length e.1.now ≤ length ts.now) }
 {
-    let (space, rest) = space_at(alloc, ts)?;
+    let (space, rest) = space_at(ts);
     if let Some((inner, rest)) = line_behind(Mark::LeftParen, rest) {
         return inside(alloc, levels, kind, space, line, inner, rest);
     }
     let (value, rest) = prim(alloc, levels, rest)?;
-    let value = Box::new(alloc, value)?;
-    Ok((
-        Expr::Typed {
-            kind,
-            space,
-            value,
-            line,
-        },
-        rest,
-    ))
+    make_typed(alloc, kind, space, value, line, rest)
 }
 
 // One value or three behind a type and an opening parenthesis.
@@ -313,20 +280,37 @@ fn inside<'a>(
     alloc: Global,
     levels: u32,
     kind: SlType,
-    space: Option<Space>,
+    space: Option<(&Text, u32)>,
     line: u32,
     inner: u32,
     ts: &'a [Token],
-) -> Result<(Expr, &'a [Token]), Stop<'a>>
-    ensures gives { Gives expr_of result (inside_with (expr_at levels) kind space line inner ts.now) }
+) -> Result<(Box<Expr>, &'a [Token]), Stop<'a>>
+    ensures gives { Gives boxed_expr result (inside_with (expr_at levels) kind (space_from space.entry) line inner ts.now) }
     ensures within { IfOk result (λ e. length e.1.now ≤ length ts.now) }
 {
-    let (x, rest) = boxed(alloc, levels, ts)?;
-    if let Some(rest) = behind(Mark::Comma, rest) {
-        return triple(alloc, levels, kind, space, x, line, rest);
+    let (x, rest) = expr(alloc, levels, ts)?;
+    match behind(Mark::Comma, rest) {
+        Some(rest) => triple(alloc, levels, kind, space, x, line, rest),
+        None => typed_paren(alloc, kind, space, x, inner, line, rest),
     }
-    let rest = past(Mark::RightParen, rest)?;
-    Ok((make_typed(alloc, kind, space, x, inner, line)?, rest))
+}
+
+// The closing parenthesis behind one value behind a type.
+fn typed_paren<'a>(
+    alloc: Global,
+    kind: SlType,
+    space: Option<(&Text, u32)>,
+    value: Box<Expr>,
+    inner: u32,
+    line: u32,
+    ts: &'a [Token],
+) -> Result<(Box<Expr>, &'a [Token]), Stop<'a>>
+    ensures gives { Gives boxed_expr result (paren_typed kind (space_from space.entry) line inner (boxed_expr value) ts.now) }
+    ensures within { IfOk result (λ e. length e.1.now ≤ length ts.now) }
+{
+    let (value, rest) = closed(value, Mark::RightParen, ts)?;
+    let (paren, rest) = make_paren(alloc, value, inner, rest)?;
+    make_typed(alloc, kind, space, paren, line, rest)
 }
 
 // The second and third of three values.
@@ -335,25 +319,17 @@ fn triple<'a>(
     alloc: Global,
     levels: u32,
     kind: SlType,
-    space: Option<Space>,
+    space: Option<(&Text, u32)>,
     x: Box<Expr>,
     line: u32,
     ts: &'a [Token],
-) -> Result<(Expr, &'a [Token]), Stop<'a>>
-    ensures gives { Gives expr_of result (triple_with (expr_at levels) kind space line (expr_of x.value) ts.now) }
+) -> Result<(Box<Expr>, &'a [Token]), Stop<'a>>
+    ensures gives { Gives boxed_expr result (triple_with (expr_at levels) kind (space_from space.entry) line (boxed_expr x) ts.now) }
     ensures within { IfOk result (λ e. length e.1.now ≤ length ts.now) }
 {
-    let (y, rest) = boxed(alloc, levels, ts)?;
-    let rest = past(Mark::Comma, rest)?;
-    let (z, rest) = boxed(alloc, levels, rest)?;
-    let rest = past(Mark::RightParen, rest)?;
-    let triple = Expr::Triple {
-        kind,
-        space,
-        x,
-        y,
-        z,
-        line,
-    };
-    Ok((triple, rest))
+    let (y, rest) = expr(alloc, levels, ts)?;
+    let (y, rest) = closed(y, Mark::Comma, rest)?;
+    let (z, rest) = expr(alloc, levels, rest)?;
+    let (z, rest) = closed(z, Mark::RightParen, rest)?;
+    make_triple(alloc, kind, space, x, y, z, line, rest)
 }

@@ -10,8 +10,10 @@ ghost use Rattle.sl_parser.specs.Statements.{group_with};
 ghost use Rattle.sl_parser.specs.Files.{semicolon_at, next_group, some_groups, groups_end, groups_with, body_at, function_with, functions_in, sort_at, shader_then, file_of};
 ghost use Rattle.sl_parser.specs.Parsing.{Gives, GivesItems};
 
+use crate::boxes::push;
 use crate::declarations::{Valued, group, name, type_at};
-use crate::reading::{Stop, behind, code_at, past};
+use crate::nodes::make_function;
+use crate::reading::{Stop, behind, closed, code_at, past};
 use crate::statements::block;
 use crate::token::{Mark, Token, TokenKind};
 use fixed_math::List;
@@ -20,9 +22,9 @@ use std::alloc::Global;
 
 /// Groups of declared names, and whether a semicolon stands behind the last.
 #[derive(Drop)]
-struct GroupList {
-    groups: Vec<Group>,
-    ended: bool,
+pub struct GroupList {
+    pub groups: Vec<Group>,
+    pub ended: bool,
 }
 
 // The tokens behind a semicolon that goes on with a list of groups.
@@ -63,11 +65,11 @@ fn further<'a>(
     ensures within { IfOk result (λ g. length g.1.now ≤ length ts.now) }
 {
     let mut groups = Vec::new(alloc);
-    groups.push(first)?;
+    push(&mut groups, first)?;
     let mut rest = ts;
     while let Some(after) = behind_semicolon(rest) {
         let (item, left) = group(alloc, levels, valued, after)?;
-        groups.push(item)?;
+        push(&mut groups, item)?;
         rest = left;
     }
     Ok((groups, rest))
@@ -80,14 +82,12 @@ fn groups_end<'a>(groups: Vec<Group>, ts: &'a [Token]) -> Result<(GroupList, &'a
 {
     match behind(Mark::Semicolon, ts) {
         None => {
-            let rest = past(Mark::RightParen, ts)?;
             let ended = false;
-            Ok((GroupList { groups, ended }, rest))
+            closed(GroupList { groups, ended }, Mark::RightParen, ts)
         }
         Some(rest) => {
-            let rest = past(Mark::RightParen, rest)?;
             let ended = true;
-            Ok((GroupList { groups, ended }, rest))
+            closed(GroupList { groups, ended }, Mark::RightParen, rest)
         }
     }
 }
@@ -135,20 +135,10 @@ fn function<'a>(
     ensures gives { Gives function_of result (function_with levels returns ts.now) }
     ensures within { IfOk result (λ f. length f.1.now < length ts.now) }
 {
-    let (name, line, rest) = name(alloc, ts)?;
+    let (name, line, rest) = name(ts)?;
     let (formals, rest) = groups(alloc, levels, Valued::Never, rest)?;
     let (body, rest) = body(alloc, levels, rest)?;
-    Ok((
-        Function {
-            returns,
-            name,
-            formals: List(formals.groups),
-            ended: formals.ended,
-            body: List(body),
-            line,
-        },
-        rest,
-    ))
+    make_function(alloc, returns, name, formals, body, line, rest)
 }
 
 // The functions before the shader.
@@ -164,7 +154,7 @@ fn functions<'a>(
     let mut rest = ts;
     while let Some((returns, after)) = type_at(rest) {
         let (item, left) = function(alloc, levels, returns, after)?;
-        functions.push(item)?;
+        push(&mut functions, item)?;
         rest = left;
     }
     Ok((functions, rest))
@@ -195,14 +185,14 @@ fn shader<'a>(
     let Some((kind, line, rest)) = sort_at(ts) else {
         return Err(Stop::At(code_at(ts), ts));
     };
-    let (name, _, rest) = name(alloc, rest)?;
+    let (name, _, rest) = name(rest)?;
     let (params, rest) = groups(alloc, levels, Valued::Always, rest)?;
     let (body, rest) = body(alloc, levels, rest)?;
     Ok((
         Shader {
             functions: List(functions),
             kind,
-            name,
+            name: name.copied(alloc)?,
             params: List(params.groups),
             ended: params.ended,
             body: List(body),

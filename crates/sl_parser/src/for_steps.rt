@@ -1,32 +1,46 @@
-// The last assignment in the parentheses of a `for`.
-ghost use Rattle.std.specs.Prelude.{◌≡◌, ◌<◌, Ok, IfOk, length, option_map};
-ghost use Rattle.sl_ast.specs.SyntaxView.{expr_of, assignment_of};
+// What stands behind the first assignment in the parentheses of a `for`.
+ghost use Rattle.std.specs.Prelude.{◌<◌, IfOk, length, option_map};
 ghost use Rattle.sl_parser.specs.Expressions.{expr_at};
-ghost use Rattle.sl_parser.specs.Reading.{◌>>=◌ as ◌and_then◌, past};
-ghost use Rattle.sl_parser.specs.declared.token.Mark.TheVariants.{RightParen};
-ghost use Rattle.sl_parser.specs.Statements.{For, set_maybe};
+ghost use Rattle.sl_parser.specs.Statements.{steps_with, step_with};
 ghost use Rattle.sl_parser.specs.Parsing.{Gives};
+ghost use Rattle.sl_parser.specs.Boxes.{boxed_expr, boxed_assignment, for_of};
 
+use crate::boxes::boxed;
 use crate::declarations::maybe_assignment;
+use crate::expressions::expr;
 use crate::reading::{Stop, closed};
 use crate::statement_heads::ForHead;
 use crate::token::{Mark, Token};
 use sl_ast::{Assignment, Expr};
 use std::alloc::Global;
 
-// The same assignment, a closing parenthesis behind it, and a whole head with what was read before.
-pub fn for_step<'a>(
+// The test and a semicolon, and the rest of the head.
+pub fn for_test<'a>(
     alloc: Global,
     levels: u32,
-    first: Option<Assignment>,
-    test: Expr,
+    first: Option<Box<Assignment>>,
     ts: &'a [Token],
 ) -> Result<(Box<ForHead>, &'a [Token]), Stop<'a>>
-    ensures gives { Gives {B = For} (λ h. (option_map assignment_of h.value.first, expr_of h.value.test, option_map assignment_of h.value.step)) result ((set_maybe (expr_at levels) ts.now) and_then (λ step. past RightParen step.1 (λ rest. Ok ((option_map assignment_of first, expr_of test, step.0), rest)))) }
+    ensures gives { Gives for_of result (steps_with (expr_at levels) (option_map boxed_assignment first) ts.now) }
+    ensures within { IfOk result (λ h. length h.1.now < length ts.now) }
+{
+    let (test, rest) = expr(alloc, levels, ts)?;
+    let (test, rest) = closed(test, Mark::Semicolon, rest)?;
+    for_step(alloc, levels, first, test, rest)
+}
+
+// The last assignment and a closing parenthesis, and a whole head with what was read before.
+fn for_step<'a>(
+    alloc: Global,
+    levels: u32,
+    first: Option<Box<Assignment>>,
+    test: Box<Expr>,
+    ts: &'a [Token],
+) -> Result<(Box<ForHead>, &'a [Token]), Stop<'a>>
+    ensures gives { Gives for_of result (step_with (expr_at levels) (option_map boxed_assignment first) (boxed_expr test) ts.now) }
     ensures within { IfOk result (λ h. length h.1.now < length ts.now) }
 {
     let (step, rest) = maybe_assignment(alloc, levels, ts)?;
-    let head = ForHead { first, test, step };
-    let (head, rest) = closed(head, Mark::RightParen, rest)?;
-    Ok((Box::new(alloc, head)?, rest))
+    let (step, rest) = closed(step, Mark::RightParen, rest)?;
+    boxed(alloc, ForHead { first, test, step }, rest)
 }

@@ -1,12 +1,12 @@
 // What single tokens and their texts say.
-ghost use Rattle.std.specs.Prelude.{◌≡◌, ◌<◌, ◌≤◌, IfOk, IfSome, length, option_map};
+ghost use Rattle.std.specs.Prelude.{◌≡◌, ◌<◌, ◌≤◌, IfSome, length, option_map};
 ghost use Rattle.sl_parser.specs.Reading.{head_is};
 ghost use Rattle.sl_parser.specs.Expressions.{begins_expr, begins_prim, is_single, same_row, row_of, operator_at, link_at, prefix_at, IsSpaceAt};
+ghost use Rattle.sl_parser.specs.Boxes.{space_from};
 
 use crate::token::{Mark, Token, TokenKind};
-use fixed_math::NoMemory;
-use sl_ast::{Operator, Prefix, Row, Space};
-use std::alloc::Global;
+use fixed_math::Text;
+use sl_ast::{Operator, Prefix, Row};
 
 pub fn begins_expr(ts: &[Token]) -> bool
     ensures { result ≡ head_is begins_expr ts.now }
@@ -110,22 +110,16 @@ pub fn prefix_at(ts: &[Token]) -> Option<(Prefix, u32, &[Token])>
     }
 }
 
-// The space name behind a type, if a value stands behind it, and the tokens behind it.
-pub fn space_at(alloc: Global, ts: &[Token]) -> Result<(Option<Space>, &[Token]), NoMemory>
-    ensures at { IfOk result (λ s. IsSpaceAt s.0 s.1.now ts.now) }
-    ensures within { IfOk result (λ s. length s.1.now ≤ length ts.now) }
+// The space name behind a type with its line, if a value stands behind it, and the tokens behind it.
+pub fn space_at(ts: &[Token]) -> (Option<(&Text, u32)>, &[Token])
+    ensures at { IsSpaceAt (space_from result.0) result.1.now ts.now }
+    ensures within { length result.1.now ≤ length ts.now }
 {
     let Some((first, rest)) = ts.split_first() else {
-        return Ok((None, ts));
+        return (None, ts);
     };
     match &first.kind {
-        TokenKind::Str(name) if begins_prim(rest) => {
-            let space = Space {
-                name: name.copied(alloc)?,
-                line: first.line,
-            };
-            Ok((Some(space), rest))
-        }
-        _ => Ok((None, ts)),
+        TokenKind::Str(name) if begins_prim(rest) => (Some((name, first.line)), rest),
+        _ => (None, ts),
     }
 }

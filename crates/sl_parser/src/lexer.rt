@@ -2,6 +2,7 @@
 ghost use Rattle.std.specs.Prelude.{◌≡◌, ◌≤◌, ◌==◌, IfOk, length, count_by};
 ghost use Rattle.sl_parser.specs.Tokens.{tokens_of};
 
+use crate::boxes::push;
 use crate::finding::find;
 use crate::found::Found;
 use crate::token::{Token, TokenKind};
@@ -29,14 +30,12 @@ pub fn tokens(alloc: Global, bytes: &[u8]) -> Result<Vec<Token>, NoMemory>
         let len = match find(alloc, rest)? {
             Found::Blank(len) => len,
             Found::Whole(kind, len) => {
-                tokens.push(Token { kind, line })?;
+                push(&mut tokens, Token { kind, line })?;
                 len
             }
             Found::Bad => {
-                tokens.push(Token {
-                    kind: TokenKind::Bad,
-                    line,
-                })?;
+                let bad = TokenKind::Bad;
+                push(&mut tokens, Token { kind: bad, line })?;
                 return Ok(tokens);
             }
         };

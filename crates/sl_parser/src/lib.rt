@@ -1,8 +1,10 @@
 //! The grammar of the Shading Language: the untyped tree of a shader's text, or its first fault.
 #![tactic(auto)]
 
+mod boxes;
 mod bytes;
 mod declarations;
+mod expression_nodes;
 mod expressions;
 mod fault;
 mod files;

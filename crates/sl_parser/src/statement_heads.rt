@@ -1,13 +1,15 @@
 // What stands in the parentheses of statements, in boxes, since it is held while a statement is read behind it.
-ghost use Rattle.std.specs.Prelude.{◌≡◌, ◌≤◌, ◌<◌, IfOk, length, option_map};
-ghost use Rattle.sl_ast.specs.SyntaxView.{expr_of, assignment_of, cone_of};
+ghost use Rattle.std.specs.Prelude.{◌<◌, IfOk, length, option_map};
 ghost use Rattle.sl_parser.specs.Expressions.{expr_at};
 ghost use Rattle.sl_parser.specs.Statements.{test_with, for_head, pair_with, cone_in, lights_head, solar_head};
 ghost use Rattle.sl_parser.specs.Parsing.{Gives};
+ghost use Rattle.sl_parser.specs.Boxes.{boxed_expr, boxed_cone, for_of, lights_of};
 
+use crate::boxes::boxed;
 use crate::declarations::maybe_assignment;
 use crate::expressions::expr;
-use crate::for_steps::for_step;
+use crate::for_steps::for_test;
+use crate::nodes::make_cone;
 use crate::reading::{Stop, behind, closed, past};
 use crate::token::{Mark, Token};
 use sl_ast::{Assignment, Cone, Expr};
@@ -19,21 +21,20 @@ pub fn test<'a>(
     levels: u32,
     ts: &'a [Token],
 ) -> Result<(Box<Expr>, &'a [Token]), Stop<'a>>
-    ensures gives { Gives (λ e. expr_of e.value) result (test_with (expr_at levels) ts.now) }
+    ensures gives { Gives boxed_expr result (test_with (expr_at levels) ts.now) }
     ensures within { IfOk result (λ e. length e.1.now < length ts.now) }
 {
     let inside = past(Mark::LeftParen, ts)?;
     let (test, rest) = expr(alloc, levels, inside)?;
-    let (test, rest) = closed(test, Mark::RightParen, rest)?;
-    Ok((Box::new(alloc, test)?, rest))
+    closed(test, Mark::RightParen, rest)
 }
 
 /// What stands in the parentheses of a `for`.
 #[derive(Drop)]
 pub struct ForHead {
-    pub first: Option<Assignment>,
-    pub test: Expr,
-    pub step: Option<Assignment>,
+    pub first: Option<Box<Assignment>>,
+    pub test: Box<Expr>,
+    pub step: Option<Box<Assignment>>,
 }
 
 pub fn for_head<'a>(
@@ -41,26 +42,29 @@ pub fn for_head<'a>(
     levels: u32,
     ts: &'a [Token],
 ) -> Result<(Box<ForHead>, &'a [Token]), Stop<'a>>
-    ensures gives { Gives (λ h. (option_map assignment_of h.value.first, expr_of h.value.test, option_map assignment_of h.value.step)) result (for_head (expr_at levels) ts.now) }
+    ensures gives { Gives for_of result (for_head (expr_at levels) ts.now) }
     ensures within { IfOk result (λ h. length h.1.now < length ts.now) }
 {
     let inside = past(Mark::LeftParen, ts)?;
     let (first, rest) = maybe_assignment(alloc, levels, inside)?;
     let (first, rest) = closed(first, Mark::Semicolon, rest)?;
-    let (test, rest) = expr(alloc, levels, rest)?;
-    let (test, rest) = closed(test, Mark::Semicolon, rest)?;
-    for_step(alloc, levels, first, test, rest)
+    for_test(alloc, levels, first, rest)
 }
 
 // Two expressions with a comma between them, and a parenthesis.
-fn pair<'a>(alloc: Global, levels: u32, ts: &'a [Token]) -> Result<(Cone, &'a [Token]), Stop<'a>>
-    ensures gives { Gives cone_of result (pair_with (expr_at levels) ts.now) }
+fn pair<'a>(
+    alloc: Global,
+    levels: u32,
+    ts: &'a [Token],
+) -> Result<(Box<Cone>, &'a [Token]), Stop<'a>>
+    ensures gives { Gives boxed_cone result (pair_with (expr_at levels) ts.now) }
     ensures within { IfOk result (λ c. length c.1.now < length ts.now) }
 {
     let (axis, rest) = expr(alloc, levels, ts)?;
     let (axis, rest) = closed(axis, Mark::Comma, rest)?;
     let (angle, rest) = expr(alloc, levels, rest)?;
-    closed(Cone { axis, angle }, Mark::RightParen, rest)
+    let (angle, rest) = closed(angle, Mark::RightParen, rest)?;
+    make_cone(alloc, axis, angle, rest)
 }
 
 // An axis and an angle behind a comma, or none, and the parenthesis behind them.
@@ -68,8 +72,8 @@ fn cone<'a>(
     alloc: Global,
     levels: u32,
     ts: &'a [Token],
-) -> Result<(Option<Cone>, &'a [Token]), Stop<'a>>
-    ensures gives { Gives (option_map cone_of) result (cone_in (expr_at levels) ts.now) }
+) -> Result<(Option<Box<Cone>>, &'a [Token]), Stop<'a>>
+    ensures gives { Gives (option_map boxed_cone) result (cone_in (expr_at levels) ts.now) }
     ensures within { IfOk result (λ c. length c.1.now < length ts.now) }
 {
     let Some(inside) = behind(Mark::Comma, ts) else {
@@ -83,8 +87,8 @@ fn cone<'a>(
 /// What stands in the parentheses of `illuminance` and `illuminate`.
 #[derive(Drop)]
 pub struct LightsHead {
-    pub place: Expr,
-    pub cone: Option<Cone>,
+    pub place: Box<Expr>,
+    pub cone: Option<Box<Cone>>,
 }
 
 pub fn lights_head<'a>(
@@ -92,14 +96,13 @@ pub fn lights_head<'a>(
     levels: u32,
     ts: &'a [Token],
 ) -> Result<(Box<LightsHead>, &'a [Token]), Stop<'a>>
-    ensures gives { Gives (λ h. (expr_of h.value.place, option_map cone_of h.value.cone)) result (lights_head (expr_at levels) ts.now) }
+    ensures gives { Gives lights_of result (lights_head (expr_at levels) ts.now) }
     ensures within { IfOk result (λ h. length h.1.now < length ts.now) }
 {
     let inside = past(Mark::LeftParen, ts)?;
     let (place, rest) = expr(alloc, levels, inside)?;
     let (cone, rest) = cone(alloc, levels, rest)?;
-    let head = LightsHead { place, cone };
-    Ok((Box::new(alloc, head)?, rest))
+    boxed(alloc, LightsHead { place, cone }, rest)
 }
 
 pub fn solar_head<'a>(
@@ -107,10 +110,9 @@ pub fn solar_head<'a>(
     levels: u32,
     ts: &'a [Token],
 ) -> Result<(Box<Cone>, &'a [Token]), Stop<'a>>
-    ensures gives { Gives (λ c. cone_of c.value) result (solar_head (expr_at levels) ts.now) }
+    ensures gives { Gives boxed_cone result (solar_head (expr_at levels) ts.now) }
     ensures within { IfOk result (λ c. length c.1.now < length ts.now) }
 {
     let inside = past(Mark::LeftParen, ts)?;
-    let (cone, rest) = pair(alloc, levels, inside)?;
-    Ok((Box::new(alloc, cone)?, rest))
+    pair(alloc, levels, inside)
 }

@@ -3,9 +3,11 @@ ghost use Rattle.std.specs.Prelude.{◌≡◌, ◌≤◌, ◌<◌, IfOk, IfSome,
 ghost use Rattle.sl_ast.specs.SyntaxView.{stmt_of};
 ghost use Rattle.sl_parser.specs.Reading.{head_is, behind};
 ghost use Rattle.sl_parser.specs.Expressions.{expr_at};
-ghost use Rattle.sl_parser.specs.Statements.{begins_stmt, is_else, block_in, if_with, while_with, for_with, lights_with, solar_with, return_with, assign_with, declare_with, word_with, stmt_opened, stmt_at};
+ghost use Rattle.sl_parser.specs.Statements.{begins_stmt, is_else, block_in, if_with, while_with, for_with, lights_with, solar_with, return_with, assign_with, declare_with, leave_with, again_with, word_with, stmt_opened, stmt_at};
 ghost use Rattle.sl_parser.specs.Parsing.{Gives, GivesItems};
+ghost use Rattle.sl_parser.specs.Boxes.{boxed_stmt};
 
+use crate::boxes::{boxed, push_boxed};
 use crate::declarations::{Valued, assignment, group};
 use crate::expressions::expr;
 use crate::fault::SlCode;
@@ -51,22 +53,28 @@ fn return_value<'a>(
     levels: u32,
     line: u32,
     ts: &'a [Token],
-) -> Result<(Stmt, &'a [Token]), Stop<'a>>
-    ensures gives { Gives stmt_of result (return_with (expr_at levels) line ts.now) }
+) -> Result<(Box<Stmt>, &'a [Token]), Stop<'a>>
+    ensures gives { Gives boxed_stmt result (return_with (expr_at levels) line ts.now) }
     ensures within { IfOk result (λ s. length s.1.now < length ts.now) }
 {
     let (value, rest) = expr(alloc, levels, ts)?;
     let (value, rest) = closed(value, Mark::Semicolon, rest)?;
-    Ok((Stmt::Return { value, line }, rest))
+    let value = Box::into_inner(value);
+    boxed(alloc, Stmt::Return { value, line }, rest)
 }
 
-fn set<'a>(alloc: Global, levels: u32, ts: &'a [Token]) -> Result<(Stmt, &'a [Token]), Stop<'a>>
-    ensures gives { Gives stmt_of result (assign_with (expr_at levels) ts.now) }
+fn set<'a>(
+    alloc: Global,
+    levels: u32,
+    ts: &'a [Token],
+) -> Result<(Box<Stmt>, &'a [Token]), Stop<'a>>
+    ensures gives { Gives boxed_stmt result (assign_with (expr_at levels) ts.now) }
     ensures within { IfOk result (λ s. length s.1.now < length ts.now) }
 {
     let (set, rest) = assignment(alloc, levels, ts)?;
     let (set, rest) = closed(set, Mark::Semicolon, rest)?;
-    Ok((Stmt::Set { set }, rest))
+    let set = Box::into_inner(set);
+    boxed(alloc, Stmt::Set { set }, rest)
 }
 
 fn declaration<'a>(
@@ -74,21 +82,45 @@ fn declaration<'a>(
     levels: u32,
     line: u32,
     ts: &'a [Token],
-) -> Result<(Stmt, &'a [Token]), Stop<'a>>
-    ensures gives { Gives stmt_of result (declare_with (expr_at levels) line ts.now) }
+) -> Result<(Box<Stmt>, &'a [Token]), Stop<'a>>
+    ensures gives { Gives boxed_stmt result (declare_with (expr_at levels) line ts.now) }
     ensures within { IfOk result (λ s. length s.1.now < length ts.now) }
 {
     let (group, rest) = group(alloc, levels, Valued::Freely, ts)?;
     let (group, rest) = closed(group, Mark::Semicolon, rest)?;
-    Ok((
-        Stmt::Declare {
-            class: group.class,
-            kind: group.kind,
-            names: group.names,
-            line,
-        },
-        rest,
-    ))
+    let declare = Stmt::Declare {
+        class: group.class,
+        kind: group.kind,
+        names: group.names,
+        line,
+    };
+    boxed(alloc, declare, rest)
+}
+
+// A `break` behind its word.
+fn leave<'a>(
+    alloc: Global,
+    line: u32,
+    ts: &'a [Token],
+) -> Result<(Box<Stmt>, &'a [Token]), Stop<'a>>
+    ensures gives { Gives boxed_stmt result (leave_with line ts.now) }
+    ensures within { IfOk result (λ s. length s.1.now < length ts.now) }
+{
+    let rest = past(Mark::Semicolon, ts)?;
+    boxed(alloc, Stmt::Break { line }, rest)
+}
+
+// A `continue` behind its word.
+fn again<'a>(
+    alloc: Global,
+    line: u32,
+    ts: &'a [Token],
+) -> Result<(Box<Stmt>, &'a [Token]), Stop<'a>>
+    ensures gives { Gives boxed_stmt result (again_with line ts.now) }
+    ensures within { IfOk result (λ s. length s.1.now < length ts.now) }
+{
+    let rest = past(Mark::Semicolon, ts)?;
+    boxed(alloc, Stmt::Continue { line }, rest)
 }
 
 // A statement, where so many levels are left.
@@ -97,8 +129,8 @@ pub fn stmt<'a>(
     alloc: Global,
     levels: u32,
     ts: &'a [Token],
-) -> Result<(Stmt, &'a [Token]), Stop<'a>>
-    ensures gives { Gives stmt_of result (stmt_at levels ts.now) }
+) -> Result<(Box<Stmt>, &'a [Token]), Stop<'a>>
+    ensures gives { Gives boxed_stmt result (stmt_at levels ts.now) }
     ensures within { IfOk result (λ s. length s.1.now < length ts.now) }
 {
     if levels > 0 {
@@ -110,24 +142,14 @@ pub fn stmt<'a>(
     }
 }
 
-// The same in a box.
+// A statement that has opened its level.
 #[cycle(statements)]
-fn boxed<'a>(
+fn opened<'a>(
     alloc: Global,
     levels: u32,
     ts: &'a [Token],
 ) -> Result<(Box<Stmt>, &'a [Token]), Stop<'a>>
-    ensures gives { Gives (λ s. stmt_of s.value) result (stmt_at levels ts.now) }
-    ensures within { IfOk result (λ s. length s.1.now < length ts.now) }
-{
-    let (stmt, rest) = stmt(alloc, levels, ts)?;
-    Ok((Box::new(alloc, stmt)?, rest))
-}
-
-// A statement that has opened its level.
-#[cycle(statements)]
-fn opened<'a>(alloc: Global, levels: u32, ts: &'a [Token]) -> Result<(Stmt, &'a [Token]), Stop<'a>>
-    ensures gives { Gives stmt_of result (stmt_opened (stmt_at levels) (expr_at levels) ts.now) }
+    ensures gives { Gives boxed_stmt result (stmt_opened (stmt_at levels) (expr_at levels) ts.now) }
     ensures within { IfOk result (λ s. length s.1.now < length ts.now) }
 {
     let Some((first, rest)) = ts.split_first() else {
@@ -135,10 +157,10 @@ fn opened<'a>(alloc: Global, levels: u32, ts: &'a [Token]) -> Result<(Stmt, &'a 
     };
     let line = first.line;
     match &first.kind {
-        TokenKind::Mark(Mark::Semicolon) => Ok((Stmt::Empty { line }, rest)),
+        TokenKind::Mark(Mark::Semicolon) => boxed(alloc, Stmt::Empty { line }, rest),
         TokenKind::Mark(Mark::LeftBrace) => {
             let (body, rest) = block(alloc, levels, rest)?;
-            Ok((make_block(body, line), rest))
+            make_block(alloc, body, line, rest)
         }
         TokenKind::Name(_) => set(alloc, levels, ts),
         TokenKind::Class(_) | TokenKind::Type(_) => declaration(alloc, levels, line, ts),
@@ -156,14 +178,14 @@ fn worded<'a>(
     line: u32,
     rest: &'a [Token],
     ts: &'a [Token],
-) -> Result<(Stmt, &'a [Token]), Stop<'a>>
+) -> Result<(Box<Stmt>, &'a [Token]), Stop<'a>>
     requires { length rest.now < length ts.now }
-    ensures gives { Gives stmt_of result (word_with (stmt_at levels) (expr_at levels) word line rest.now ts.now) }
+    ensures gives { Gives boxed_stmt result (word_with (stmt_at levels) (expr_at levels) word line rest.now ts.now) }
     ensures within { IfOk result (λ s. length s.1.now < length ts.now) }
 {
     match word {
-        Word::Break => Ok((Stmt::Break { line }, past(Mark::Semicolon, rest)?)),
-        Word::Continue => Ok((Stmt::Continue { line }, past(Mark::Semicolon, rest)?)),
+        Word::Break => leave(alloc, line, rest),
+        Word::Continue => again(alloc, line, rest),
         Word::Return => return_value(alloc, levels, line, rest),
         Word::If => choice(alloc, levels, line, rest),
         Word::Else => Err(Stop::At(code_at(ts), ts)),
@@ -192,7 +214,7 @@ pub fn block<'a>(
             return Ok((body, behind));
         }
         let (item, left) = stmt(alloc, levels, rest)?;
-        body.push(item)?;
+        push_boxed(&mut body, item)?;
         rest = left;
     }
 }
@@ -204,17 +226,17 @@ fn choice<'a>(
     levels: u32,
     line: u32,
     ts: &'a [Token],
-) -> Result<(Stmt, &'a [Token]), Stop<'a>>
-    ensures gives { Gives stmt_of result (if_with (stmt_at levels) (expr_at levels) line ts.now) }
+) -> Result<(Box<Stmt>, &'a [Token]), Stop<'a>>
+    ensures gives { Gives boxed_stmt result (if_with (stmt_at levels) (expr_at levels) line ts.now) }
     ensures within { IfOk result (λ s. length s.1.now < length ts.now) }
 {
     let (test, rest) = test(alloc, levels, ts)?;
-    let (then, rest) = boxed(alloc, levels, rest)?;
+    let (then, rest) = stmt(alloc, levels, rest)?;
     let Some(rest) = behind_else(rest) else {
-        return Ok((make_if(test, then, line), rest));
+        return make_if(alloc, test, then, line, rest);
     };
-    let (otherwise, rest) = boxed(alloc, levels, rest)?;
-    Ok((make_if_else(test, then, otherwise, line), rest))
+    let (otherwise, rest) = stmt(alloc, levels, rest)?;
+    make_if_else(alloc, test, then, otherwise, line, rest)
 }
 
 #[cycle(statements)]
@@ -223,13 +245,13 @@ fn repeated<'a>(
     levels: u32,
     line: u32,
     ts: &'a [Token],
-) -> Result<(Stmt, &'a [Token]), Stop<'a>>
-    ensures gives { Gives stmt_of result (while_with (stmt_at levels) (expr_at levels) line ts.now) }
+) -> Result<(Box<Stmt>, &'a [Token]), Stop<'a>>
+    ensures gives { Gives boxed_stmt result (while_with (stmt_at levels) (expr_at levels) line ts.now) }
     ensures within { IfOk result (λ s. length s.1.now < length ts.now) }
 {
     let (test, rest) = test(alloc, levels, ts)?;
-    let (body, rest) = boxed(alloc, levels, rest)?;
-    Ok((make_while(test, body, line), rest))
+    let (body, rest) = stmt(alloc, levels, rest)?;
+    make_while(alloc, test, body, line, rest)
 }
 
 #[cycle(statements)]
@@ -238,13 +260,13 @@ fn stepped<'a>(
     levels: u32,
     line: u32,
     ts: &'a [Token],
-) -> Result<(Stmt, &'a [Token]), Stop<'a>>
-    ensures gives { Gives stmt_of result (for_with (stmt_at levels) (expr_at levels) line ts.now) }
+) -> Result<(Box<Stmt>, &'a [Token]), Stop<'a>>
+    ensures gives { Gives boxed_stmt result (for_with (stmt_at levels) (expr_at levels) line ts.now) }
     ensures within { IfOk result (λ s. length s.1.now < length ts.now) }
 {
     let (head, rest) = for_head(alloc, levels, ts)?;
-    let (body, rest) = boxed(alloc, levels, rest)?;
-    Ok((make_for(head, body, line), rest))
+    let (body, rest) = stmt(alloc, levels, rest)?;
+    make_for(alloc, head, body, line, rest)
 }
 
 #[cycle(statements)]
@@ -254,13 +276,13 @@ fn lit<'a>(
     word: LightWord,
     line: u32,
     ts: &'a [Token],
-) -> Result<(Stmt, &'a [Token]), Stop<'a>>
-    ensures gives { Gives stmt_of result (lights_with (stmt_at levels) (expr_at levels) word line ts.now) }
+) -> Result<(Box<Stmt>, &'a [Token]), Stop<'a>>
+    ensures gives { Gives boxed_stmt result (lights_with (stmt_at levels) (expr_at levels) word line ts.now) }
     ensures within { IfOk result (λ s. length s.1.now < length ts.now) }
 {
     let (head, rest) = lights_head(alloc, levels, ts)?;
-    let (body, rest) = boxed(alloc, levels, rest)?;
-    Ok((make_lights(word, head, body, line), rest))
+    let (body, rest) = stmt(alloc, levels, rest)?;
+    make_lights(alloc, word, head, body, line, rest)
 }
 
 #[cycle(statements)]
@@ -269,11 +291,11 @@ fn solar<'a>(
     levels: u32,
     line: u32,
     ts: &'a [Token],
-) -> Result<(Stmt, &'a [Token]), Stop<'a>>
-    ensures gives { Gives stmt_of result (solar_with (stmt_at levels) (expr_at levels) line ts.now) }
+) -> Result<(Box<Stmt>, &'a [Token]), Stop<'a>>
+    ensures gives { Gives boxed_stmt result (solar_with (stmt_at levels) (expr_at levels) line ts.now) }
     ensures within { IfOk result (λ s. length s.1.now < length ts.now) }
 {
     let (cone, rest) = solar_head(alloc, levels, ts)?;
-    let (body, rest) = boxed(alloc, levels, rest)?;
-    Ok((make_solar(cone, body, line), rest))
+    let (body, rest) = stmt(alloc, levels, rest)?;
+    make_solar(alloc, cone, body, line, rest)
 }

@@ -1,14 +1,14 @@
 // Strings and comments.
-ghost use Rattle.std.specs.Prelude.{◌≡◌, ◌≤◌, ◌∷◌, ℕ, List, IfOk, IfSome, length, true, false};
+ghost use Rattle.std.specs.Prelude.{◌≡◌, ◌≤◌, ◌<◌, ◌∷◌, ℕ, List, All, Some, IfOk, IfSome, length, true, false};
 ghost use Rattle.sl_parser.specs.Found.{string_in, comment_in};
-ghost use Rattle.sl_parser.specs.Pieces.{string_behind, IsAsciiPiece};
+ghost use Rattle.sl_parser.specs.StringBytes.{string_behind, IsAsciiByte};
 
 use crate::bytes::plain;
 use fixed_math::{NoMemory, Text};
 use std::alloc::Global;
 
 /// What a byte of a string is there.
-enum Piece {
+enum StringByte {
     End,
     Backslash,
     Byte(u8),
@@ -17,42 +17,50 @@ enum Piece {
 }
 
 // A byte behind a backslash.
-fn escaped(byte: u8) -> Piece
+fn escaped(byte: u8) -> StringByte
     ensures goes { (bs : List ℕ) → string_in true (byte ∷ bs) ≡ string_behind result (string_in true bs) (string_in false bs) }
-    ensures ascii { IsAsciiPiece result }
+    ensures ascii { IsAsciiByte result }
 {
     match byte {
-        b'"' => Piece::Byte(b'"'),
-        b'\\' => Piece::Byte(b'\\'),
-        b'n' => Piece::Byte(b'\n'),
-        b't' => Piece::Byte(b'\t'),
-        b'\n' => Piece::Skipped,
-        _ => Piece::Bad,
+        b'"' => StringByte::Byte(b'"'),
+        b'\\' => StringByte::Byte(b'\\'),
+        b'n' => StringByte::Byte(b'\n'),
+        b't' => StringByte::Byte(b'\t'),
+        b'\n' => StringByte::Skipped,
+        _ => StringByte::Bad,
     }
 }
 
 // A byte that no backslash stands before.
-fn unescaped(byte: u8) -> Piece
+fn unescaped(byte: u8) -> StringByte
     ensures goes { (bs : List ℕ) → string_in false (byte ∷ bs) ≡ string_behind result (string_in true bs) (string_in false bs) }
-    ensures ascii { IsAsciiPiece result }
+    ensures ascii { IsAsciiByte result }
 {
     match byte {
-        b'"' => Piece::End,
-        b'\\' => Piece::Backslash,
-        _ if plain(byte) => Piece::Byte(byte),
-        _ => Piece::Bad,
+        b'"' => StringByte::End,
+        b'\\' => StringByte::Backslash,
+        _ if plain(byte) => StringByte::Byte(byte),
+        _ => StringByte::Bad,
     }
 }
 
-fn piece_at(behind: bool, byte: u8) -> Piece
+fn byte_at(behind: bool, byte: u8) -> StringByte
     ensures goes { (bs : List ℕ) → string_in behind (byte ∷ bs) ≡ string_behind result (string_in true bs) (string_in false bs) }
-    ensures ascii { IsAsciiPiece result }
+    ensures ascii { IsAsciiByte result }
 {
     if behind {
         escaped(byte)
     } else {
         unescaped(byte)
     }
+}
+
+// The text of these bytes of ASCII, which ends after so many bytes.
+fn ended(alloc: Global, text: &[u8], len: usize) -> Result<Option<(Text, usize)>, NoMemory>
+    requires { All (λ b. b < 128) text.now }
+    ensures { IfOk result (λ s. s ≡ Some (text.now, len)) }
+{
+    Ok(Some((Text::from_bytes(alloc, text)?, len)))
 }
 
 // A string's text behind its opening quote, and how many bytes it takes with its closing one.
@@ -63,12 +71,12 @@ pub fn read_string(alloc: Global, bytes: &[u8]) -> Result<Option<(Text, usize)>,
     let mut text = Vec::new(alloc);
     let mut behind = false;
     for (at, byte) in bytes.iter().enumerate() {
-        match piece_at(behind, *byte) {
-            Piece::End => return Ok(Some((Text::from_bytes(alloc, &text)?, at + 1))),
-            Piece::Bad => return Ok(None),
-            Piece::Backslash => behind = true,
-            Piece::Skipped => behind = false,
-            Piece::Byte(byte) => {
+        match byte_at(behind, *byte) {
+            StringByte::End => return ended(alloc, &text, at + 1),
+            StringByte::Bad => return Ok(None),
+            StringByte::Backslash => behind = true,
+            StringByte::Skipped => behind = false,
+            StringByte::Byte(byte) => {
                 text.push(byte)?;
                 behind = false;
             }

@@ -13,7 +13,7 @@ pub loop-after-init : goal.loop-after-init
 loop-after-init c =
     let step = after_comma (declared_with (expr_at c.args.levels) c.args.valued) in
     let ts = c.args.ts.now in
-    let items : c.push.new.self.items ≡ c.args.first ∷ [] = c.in_ok-push.ensures.items ∙ ap (λ xs. xs ++ c.args.first ∷ []) c.new-names.ensures.items in
+    let items : c.push.new.items.items ≡ c.args.first ∷ [] = c.in_ok-push.ensures ∙ ap (λ xs. xs ++ c.args.first ∷ []) c.new-names.ensures.items in
     let counts : length ts + 1 - 1 ≡ length ts = omega arith in
     record {
       same = ap (λ xs. with_front (map declared_of xs) (many step (length ts + 1 - length xs) ts)) items
@@ -32,9 +32,9 @@ loop-after-preserved c =
     let shorter : length c.in-Some.after.now < length c.loop-after.rest.now = c.in-Some.ensures.within in
     let low : 1 ≤ n = omega (arith, c.loop-after.invariant.room) in
     let turn = comma-turn item n c.loop-after.rest.now c.in-Some.after.now (declared_of d) left low c.in-Some.ensures.at c.in_ok-name.ensures.gives in
-    let items : c.push-in-Some.new.self.items ≡ names ++ d ∷ [] = c.in_ok-push-2.ensures.items in
+    let items : c.push-in-Some.new.items.items ≡ names ++ d ∷ [] = c.in_ok-push-2.ensures in
     let counts : length c.args.ts.now + 1 - (length names + 1) ≡ n - 1 = omega arith in
-    let grown : length c.push-in-Some.new.self.items ≡ length names + 1 = ap length items ∙ length-append names (d ∷ []) in
+    let grown : length c.push-in-Some.new.items.items ≡ length names + 1 = ap length items ∙ length-append names (d ∷ []) in
     let more = many (after_comma item) (n - 1) left in
     record {
       same = rw (grown, items) (

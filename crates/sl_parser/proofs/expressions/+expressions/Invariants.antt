@@ -3,13 +3,11 @@ use Rattle.sl_ast.specs.SyntaxView.{expr_of, link_of}
 use Rattle.sl_parser.specs.Reading.{with_front, many, after_comma}
 use Rattle.sl_parser.specs.Expressions.{next_link, links_in, most_links, unary_at, expr_at}
 use Rattle.sl_parser.specs.Rows.{operand_with, rows_from}
+use Rattle.sl_parser.specs.Boxes.{boxed_expr}
 use Rattle.sl_parser.proofs.expressions.+expressions.Given as goal
 
 abbrev pub decreases-expr : goal.decreases-expr
 decreases-expr l = 40 * l.levels
-
-abbrev pub decreases-boxed : goal.decreases-boxed
-decreases-boxed l = 40 * l.levels + 1
 
 abbrev pub decreases-choice : goal.decreases-choice
 decreases-choice l = 40 * l.levels + 39
@@ -56,7 +54,7 @@ decreases-triple l = 40 * l.levels + 11
 abbrev pub invariant-further-loop-after : goal.invariant-further-loop-after
 invariant-further-loop-after l = record {
   same : with_front (map expr_of l.args.items) (many (after_comma (expr_at l.levels)) (length l.ts + 1 - length l.args.items) l.rest)
-      ≡ with_front (expr_of l.fn.first ∷ []) (many (after_comma (expr_at l.levels)) (length l.ts) l.ts);
+      ≡ with_front (boxed_expr l.fn.first ∷ []) (many (after_comma (expr_at l.levels)) (length l.ts) l.ts);
   some : 1 ≤ length l.args.items;
   room : length l.args.items + length l.rest ≤ length l.ts + 1;
 }

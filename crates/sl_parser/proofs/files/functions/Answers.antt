@@ -21,9 +21,9 @@ loop-returns-preserved c =
     let low : 1 ≤ n = omega (arith, c.loop-returns.invariant.room) in
     let at : Some (c.in-Some.returns, c.in-Some.after.now) ≡ type_at rest = search rules in
     let turn = function-turn levels n rest c.in-Some.returns c.in-Some.after.now (function_of f) left low at c.in_ok-item.ensures.gives in
-    let items : c.push.new.self.items ≡ functions ++ f ∷ [] = c.in_ok-push.ensures.items in
+    let items : c.push.new.items.items ≡ functions ++ f ∷ [] = c.in_ok-push.ensures in
     let counts : length c.args.ts.now - (length functions + 1) ≡ n - 1 = omega arith in
-    let grown : length c.push.new.self.items ≡ length functions + 1 = ap length items ∙ length-append functions (f ∷ []) in
+    let grown : length c.push.new.items.items ≡ length functions + 1 = ap length items ∙ length-append functions (f ∷ []) in
     let more = many (next_function levels) (n - 1) left in
     record {
       same = rw (grown, items) (

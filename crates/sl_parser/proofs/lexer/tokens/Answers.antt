@@ -35,5 +35,5 @@ loop-rest-preserved c =
           go-whole c.loop-rest.tokens.items kind c.match-branch-2.len c.loop-rest.line c.line_feeds-line.result
           rest c.split_at.result.1.now c.split_at.result.0.now (tokens_of c.args.bytes.now) within.0 within.1 found
           c.split_at.ensures.front c.split_at.ensures.back c.line_feeds-line.ensures.count c.loop-rest.invariant.same in
-          record { same = rw (w.tokens-is, w.in_ok-push-in-Whole.ensures.items) same; starts = omega (arith, c.loop-rest.invariant.starts); lines = lines }
+          record { same = rw (w.tokens-is, w.in_ok-push-in-Whole.ensures) same; starts = omega (arith, c.loop-rest.invariant.starts); lines = lines }
     ]

@@ -7,9 +7,6 @@ use Rattle.sl_parser.proofs.statements.+statements.Given as goal
 abbrev pub decreases-stmt : goal.decreases-stmt
 decreases-stmt l = 6 * l.levels
 
-abbrev pub decreases-boxed : goal.decreases-boxed
-decreases-boxed l = 6 * l.levels + 1
-
 abbrev pub decreases-opened : goal.decreases-opened
 decreases-opened l = 6 * l.levels + 4
 
