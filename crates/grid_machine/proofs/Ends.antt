@@ -1,9 +1,12 @@
 -- What a run leaves, by its machine.
 use Rattle.std.proofs.Common.{◌≡◌, ℕ, ◌+◌, ◌*◌, ◌<◌, ℤ, true, false, List, [], ◌∷◌, sym, ap, ◌∙◌, subst}
+use Rattle.std.specs.Prelude.{◌&&◌}
 use Rattle.std.specs.List.{list_all}
 use Rattle.sl_ast.specs.declared.kinds.SlKind.{SlKind}
 use Rattle.sl_ast.specs.declared.typed.Value.{Value}
 use Rattle.builtins.specs.declared.shape.Shape.TheVariants as shapes
+use Rattle.grid_code.specs.declared.code.Register.{Register}
+use Rattle.grid_code.specs.declared.register_set.RegisterSet.{RegisterSet}
 use Rattle.grid_code.specs.declared.slot.Slot.{Slot}
 use Rattle.grid_code.specs.Code.{Block}
 use Rattle.grid_code.specs.Names.{reg}
@@ -20,24 +23,27 @@ module _ (ls : List Asked) (f0 : Frame) (m k : Machine) (kind : SlKind) (params 
   abbrev pub AtEnd : State
   AtEnd = masked x w0 c 65536 (begun kind params c vs rows)
 
-  near_end : NearIn m (masked x (lit_ground ls m.registers.frame.now) m.registers.frame.now.places 65536 (begun kind params m.registers.frame.now.places vs rows)) (state_of k) → Near c f0.varying.now f0.uniform.now AtEnd (state_of k)
+  pub near_end : NearIn m (masked x (lit_ground ls m.registers.frame.now) m.registers.frame.now.places 65536 (begun kind params m.registers.frame.now.places vs rows)) (state_of k) → NearIn k AtEnd (state_of k)
   near_end near =
-      subst (λ w. Near c f0.varying.now f0.uniform.now (masked x w c 65536 (begun kind params c vs rows)) (state_of k)) ground_is
-      (subst (λ p. Near p f0.varying.now f0.uniform.now (masked x (lit_ground ls f0) p 65536 (begun kind params p vs rows)) (state_of k)) places_are
-      (subst (λ f. Near f.places f.varying.now f.uniform.now (masked x (lit_ground ls f) f.places 65536 (begun kind params f.places vs rows)) (state_of k)) me near))
+      subst (λ f. Near f.now.places f.now.varying.now f.now.uniform.now AtEnd (state_of k)) (sym kept.frame)
+      (subst (λ w. NearIn m (masked x w c 65536 (begun kind params c vs rows)) (state_of k)) ground_is
+      (subst (λ p. NearIn m (masked x (lit_ground ls f0) p 65536 (begun kind params p vs rows)) (state_of k)) places_are
+      (subst (λ f. NearIn m (masked x (lit_ground ls f) f.places 65536 (begun kind params f.places vs rows)) (state_of k)) me near)))
 
-  same_places : k.registers.frame.now.places ≡ c
+  pub same_places : k.registers.frame.now.places ≡ c
   same_places = ap (λ f. f.now.places) kept.frame ∙ ap (λ f. f.places) me ∙ places_are
 
-  pub left_rows : (out : List ℤ) (a b w : ℕ) → NearIn m (masked x (lit_ground ls m.registers.frame.now) m.registers.frame.now.places 65536 (begun kind params m.registers.frame.now.places vs rows)) (state_of k) → written_names kind ≡ reg false shapes.Triple a ∷ reg false shapes.Triple b ∷ [] → list_all (has f0.varying.now f0.uniform.now) (written_names kind) ≡ true → w ≡ row_length c → ((i : ℕ) → i < k.registers.frame.now.places → value_in shapes.Triple out w (0 + i) ≡ read (state_of k) (reg false shapes.Triple a) i) → ((i : ℕ) → i < k.registers.frame.now.places → value_in shapes.Triple out w (0 + 3 * w + i) ≡ read (state_of k) (reg false shapes.Triple b) i) → Leaves kind c out AtEnd
-  left_rows out a b w near names all width first second i l =
-      let n = near_end near in
-      let v = f0.varying.now in
-      let u = f0.uniform.now in
-      let h = subst (λ rs. list_all (has v u) rs ≡ true) names all in
-      let ha = left (has v u (reg false shapes.Triple a)) _ h in
-      let hb = left (has v u (reg false shapes.Triple b)) _ (right (has v u (reg false shapes.Triple a)) _ h) in
-      let lk = subst (λ p. i < p) (sym same_places) l in
-      subst (λ q. HoldRows q out i (written_names kind) 0 AtEnd) width
-      (subst (λ rs. HoldRows w out i rs 0 AtEnd) (sym names)
-      (first i lk ∙ sym (n.rows shapes.Triple a i ha l), (second i lk ∙ sym (n.rows shapes.Triple b i hb l), tt)))
+-- the two registers that a kind writes
+pub two_registers : (v u : RegisterSet) (p q : Register) (rs : List Register) → rs ≡ p ∷ q ∷ [] → list_all (has v u) rs ≡ true → (has v u p ≡ true) × (has v u q ≡ true)
+two_registers v u p q rs is h =
+    let all = subst (λ xs. list_all (has v u) xs ≡ true) is h in
+    (left (has v u p) (has v u q && true) all, left (has v u q) true (right (has v u p) (has v u q && true) all))
+
+pub left_rows : (k : Machine) (kind : SlKind) (g : State) (c : ℕ) (out : List ℤ) (a b w : ℕ) → k.registers.frame.now.places ≡ c → NearIn k g (state_of k) → written_names kind ≡ reg false shapes.Triple a ∷ reg false shapes.Triple b ∷ [] → list_all (has k.registers.frame.now.varying.now k.registers.frame.now.uniform.now) (written_names kind) ≡ true → w ≡ row_length c → ((i : ℕ) → i < k.registers.frame.now.places → value_in shapes.Triple out w (0 + i) ≡ read (state_of k) (reg false shapes.Triple a) i) → ((i : ℕ) → i < k.registers.frame.now.places → value_in shapes.Triple out w (0 + 3 * w + i) ≡ read (state_of k) (reg false shapes.Triple b) i) → Leaves kind c out g
+left_rows k kind g c out a b w same near names all width first second i l =
+    let f = k.registers.frame.now in
+    let two = two_registers f.varying.now f.uniform.now (reg false shapes.Triple a) (reg false shapes.Triple b) (written_names kind) names all in
+    let lk = subst (λ p. i < p) (sym same) l in
+    subst (λ q. HoldRows q out i (written_names kind) 0 g) width
+    (subst (λ rs. HoldRows w out i rs 0 g) (sym names)
+    (first i lk ∙ sym (near.rows shapes.Triple a i two.0 lk), (second i lk ∙ sym (near.rows shapes.Triple b i two.1 lk), tt)))

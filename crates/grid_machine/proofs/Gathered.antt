@@ -1,5 +1,5 @@
 -- The texts that a run of a block has still to gather.
-use Rattle.std.proofs.Common.{◌≡◌, ℕ, ◌+◌, ◌<◌, ◌≤◌, List, [], ◌++◌, length, get_or, drop, refl, sym, ap, ◌∙◌, arith, append_assoc, append-nil}
+use Rattle.std.proofs.Common.{◌≡◌, ℕ, ◌+◌, ◌<◌, ◌≤◌, List, [], ◌++◌, length, get_or, drop, Result, Ok, Err, OnOk, refl, sym, ap, ◌∙◌, arith, append_assoc, append-nil}
 use Rattle.grid_code.specs.declared.code.Node.{Node, Put, Differ, Sum, If', Loop', Lights', Break, Continue}
 use Rattle.grid_code.specs.Code.{end}
 use Rattle.grid_code.specs.View.{with_node, block_of}
@@ -39,6 +39,11 @@ module _ (block : List Node) (i : ℕ) (old now : List (List ℕ)) (x : Node) (e
 
 pub gathering_end : (block : List Node) (i : ℕ) (old now : List (List ℕ)) → Gathering block i old now → i ≡ length block → now ≡ old ++ texts_in (block_of block)
 gathering_end block i old now e h = sym (append-nil now) ∙ ap (λ b. now ++ texts_in (block_of b)) (sym (none_left block i h)) ∙ e.texts
+
+-- what follows of what a call did
+pub follows : {T E P Q : Type 0} (r : Result T E) → (P → Q) → OnOk r P → OnOk r Q
+follows (Ok x) f h = f h
+follows (Err e) f h = tt
 
 pub one_gathered : (old t a : List (List ℕ)) → t ≡ old ++ a → t ≡ old ++ (a ++ [])
 one_gathered old t a h = h ∙ ap (λ x. old ++ x) (sym (append-nil a))

@@ -39,8 +39,12 @@ map_length f (x ∷ xs) = ap suc (map_length f xs)
 pub rows_left : (rs : List Register) (k : ℕ) (q : Register) → q ≡ get_or rs k q → k < length rs → rows_of (drop k rs) ≡ height (register_shape q) + rows_of (drop (k + 1) rs)
 rows_left rs k q is l = ap rows_of (drop-cons rs k q l) ∙ ap (λ r. height (register_shape r) + rows_of (drop (suc k) rs)) (sym is) ∙ ap (λ n. height (register_shape q) + rows_of (drop n rs)) (sym (add-one k))
 
-pub room_left : (at h n w : ℕ) → at + (h + n) * w ≡ at + h * w + n * w
+room_left : (at h n w : ℕ) → at + (h + n) * w ≡ at + h * w + n * w
 room_left at h n w = omega arith
+
+-- what a register leaves of the rows
+pub room_after : (at k w n : ℕ) (rs : List Register) (q : Register) → q ≡ get_or rs k q → k < length rs → at + rows_of (drop k rs) * w ≡ n → at + height (register_shape q) * w + rows_of (drop (k + 1) rs) * w ≡ n
+room_after at k w n rs q is l e = sym (room_left at (height (register_shape q)) (rows_of (drop (k + 1) rs)) w) ∙ ap (λ m. at + m * w) (sym (rows_left rs k q is l)) ∙ e
 
 module _ (c : ℕ) (v z : RegisterSet) where
   -- what is left to assign, from any state that is the same on the grid

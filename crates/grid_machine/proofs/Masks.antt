@@ -9,7 +9,7 @@ use Rattle.grid_code.specs.declared.code.Register.TheVariants.{Uniform, Varying}
 use Rattle.grid_code.specs.declared.register_set.RegisterSet.{RegisterSet}
 use Rattle.grid_code.specs.Code.{Block, end, branch, loops, breaks, continues}
 use Rattle.grid_code.specs.Uses.{has}
-use Rattle.grid_code.specs.Masked.{State, Ground, any, under, take_turn, going, turn, turns_of, masked}
+use Rattle.grid_code.specs.Masked.{State, Ground, read, any, under, take_turn, going, turn, turns_of, masked}
 use Rattle.grid_machine.specs.State.{Near, Steps, Turns}
 use Rattle.grid_machine.proofs.Near.{any_same, read_near}
 
@@ -21,7 +21,7 @@ pub near_masks : (c : ℕ) (v z : RegisterSet) (g h : State) (p q p' q' : ℕ �
 near_masks c v z g h p q p' q' n e e' = record { rows = n.rows; shared = n.shared; turns = n.turns; own = n.own; live = e; staying = e' }
 
 module _ (w : Ground) (c : ℕ) (v z : RegisterSet) (n : ℕ) where
-  pub parts_steps : (s : Shape) (r : ℕ) (a b : Block) (s0 s2 s4 : State) (l1 l3 l5 : ℕ → Bool) → has v z (Varying s r) ≡ true → ((i : ℕ) → i < c → l1 i ≡ (s0.live i && is_true (s0.rows s r i))) → Steps w c v z n a record s0 { live = l1 } s2 → ((i : ℕ) → i < c → l3 i ≡ (s0.live i && not (is_true (s0.rows s r i)))) → Steps w c v z n b record s2 { live = l3 } s4 → ((i : ℕ) → i < c → l5 i ≡ (s2.live i || s4.live i)) → Steps w c v z n (branch (Varying s r) a b end) s0 record s4 { live = l5 }
+  parts_steps : (s : Shape) (r : ℕ) (a b : Block) (s0 s2 s4 : State) (l1 l3 l5 : ℕ → Bool) → has v z (Varying s r) ≡ true → ((i : ℕ) → i < c → l1 i ≡ (s0.live i && is_true (s0.rows s r i))) → Steps w c v z n a record s0 { live = l1 } s2 → ((i : ℕ) → i < c → l3 i ≡ (s0.live i && not (is_true (s0.rows s r i)))) → Steps w c v z n b record s2 { live = l3 } s4 → ((i : ℕ) → i < c → l5 i ≡ (s2.live i || s4.live i)) → Steps w c v z n (branch (Varying s r) a b end) s0 record s4 { live = l5 }
   parts_steps s r a b s0 s2 s4 l1 l3 l5 is e1 ha e3 hb e5 g near =
       let p : ℕ → Bool = λ j. is_true (g.rows s r j) in
       let test : (i : ℕ) → i < c → p i ≡ is_true (s0.rows s r i) = λ i l. ap is_true (near.rows s r i is l) in
@@ -31,11 +31,21 @@ module _ (w : Ground) (c : ℕ) (v z : RegisterSet) (n : ℕ) where
       let ny = hb y0 (near_live c v z x s2 (λ i. g.live i && not (p i)) l3 nx (λ i l. ap (λ k. k && not (p i)) (near.live i l) ∙ ap (λ k. s0.live i && not k) (test i l) ∙ sym (e3 i l))) in
       near_live c v z (masked b w c n y0) s4 (λ i. x.live i || (masked b w c n y0).live i) l5 ny (λ i l. ap (λ k. k || (masked b w c n y0).live i) (nx.live i l) ∙ ap (λ k. s2.live i || k) (ny.live i l) ∙ sym (e5 i l))
 
-  pub one_steps : (s : Shape) (r : ℕ) (t : Bool) (a b : Block) (s0 s1 : State) → has v z (Uniform s r) ≡ true → is_true (s0.shared s r) ≡ t → Steps w c v z n (cond t a b) s0 s1 → Steps w c v z n (branch (Uniform s r) a b end) s0 s1
+  one_steps : (s : Shape) (r : ℕ) (t : Bool) (a b : Block) (s0 s1 : State) → has v z (Uniform s r) ≡ true → is_true (s0.shared s r) ≡ t → Steps w c v z n (cond t a b) s0 s1 → Steps w c v z n (branch (Uniform s r) a b end) s0 s1
   one_steps s r true a b s0 s1 is e st g near =
       subst (λ k. Near c v z (cond k (masked a w c n g) (masked b w c n g)) s1) (sym (ap is_true (near.shared s r is) ∙ e)) (st g near)
   one_steps s r false a b s0 s1 is e st g near =
       subst (λ k. Near c v z (cond k (masked a w c n g) (masked b w c n g)) s1) (sym (ap is_true (near.shared s r is) ∙ e)) (st g near)
+
+  -- the same of a register that is known to be uniform or varying
+  pub one_at : (x : Register) (s : Shape) (r : ℕ) (t : Bool) (a b : Block) (s0 s1 : State) → x ≡ Uniform s r → has v z x ≡ true → is_true (read s0 x 0) ≡ t → Steps w c v z n (cond t a b) s0 s1 → Steps w c v z n (branch x a b end) s0 s1
+  one_at x s r t a b s0 s1 is h e st = subst (λ y. Steps w c v z n (branch y a b end) s0 s1) (sym is) (one_steps s r t a b s0 s1 (subst (λ y. has v z y ≡ true) is h) (subst (λ y. is_true (read s0 y 0) ≡ t) is e) st)
+
+  pub parts_at : (x : Register) (s : Shape) (r : ℕ) (a b : Block) (s0 s2 s4 : State) (set l1 l3 l5 : ℕ → Bool) → x ≡ Varying s r → has v z x ≡ true → ((i : ℕ) → i < c → set i ≡ is_true (read s0 x i)) → ((i : ℕ) → i < c → l1 i ≡ (s0.live i && set i)) → Steps w c v z n a record s0 { live = l1 } s2 → ((i : ℕ) → i < c → l3 i ≡ (s0.live i && not (set i))) → Steps w c v z n b record s2 { live = l3 } s4 → ((i : ℕ) → i < c → l5 i ≡ (s2.live i || s4.live i)) → Steps w c v z n (branch x a b end) s0 record s4 { live = l5 }
+  parts_at x s r a b s0 s2 s4 set l1 l3 l5 is h test e1 ha e3 hb e5 =
+      let at : (i : ℕ) → i < c → set i ≡ is_true (s0.rows s r i) = λ i l. test i l ∙ ap (λ y. is_true (read s0 y i)) is in
+      subst (λ y. Steps w c v z n (branch y a b end) s0 record s4 { live = l5 }) (sym is)
+      (parts_steps s r a b s0 s2 s4 l1 l3 l5 (subst (λ y. has v z y ≡ true) is h) (λ i l. e1 i l ∙ ap (λ k. s0.live i && k) (at i l)) ha (λ i l. e3 i l ∙ ap (λ k. s0.live i && not k) (at i l)) hb e5)
 
   pub breaks_steps : (s0 : State) (l k : ℕ → Bool) → ((i : ℕ) → i < c → l i ≡ false) → ((i : ℕ) → i < c → k i ≡ (s0.staying i && not (s0.live i))) → Steps w c v z n (breaks end) s0 record s0 { live = l; staying = k }
   breaks_steps s0 l k el ek g near =

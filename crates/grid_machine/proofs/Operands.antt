@@ -1,9 +1,12 @@
 -- Operations on registers, of which there are one to three.
-use Rattle.std.proofs.Common.{◌≡◌, ℕ, List, [], ◌∷◌, refl}
+use Rattle.std.proofs.Common.{◌≡◌, ℕ, List, [], ◌∷◌, length, get_or, refl, arith}
 use Rattle.transforms.specs.declared.spaces.Spaces.{Spaces}
 use Rattle.sl_ast.specs.declared.operations.ValueOperation.{ValueOperation}
+use Rattle.sl_ast.specs.declared.typed.Value.{Value}
+use Rattle.builtins.specs.declared.shape.Shape.TheVariants as shapes
 use Rattle.builtins.specs.Table.{applied}
 use Rattle.grid_code.specs.declared.code.Register.{Register}
+use Rattle.grid_code.specs.declared.code.Register.TheVariants.{Uniform}
 use Rattle.grid_code.specs.Masked.{State, read, reads}
 use Rattle.grid_machine.specs.Operands.{applied_to}
 
@@ -13,3 +16,23 @@ applied_reads op sp s (a ∷ []) i = refl
 applied_reads op sp s (a ∷ b ∷ []) i = refl
 applied_reads op sp s (a ∷ b ∷ d ∷ []) i = refl
 applied_reads op sp s (a ∷ b ∷ d ∷ e ∷ qs) i = refl
+
+-- one to three registers by their places
+module _ (op : ValueOperation) (sp : Spaces) (f : Register → Value) where
+  pub applied_one : (rs : List Register) → length rs ≡ 1 → applied op sp (f (get_or rs 0 (Uniform shapes.Number 0)) ∷ []) ≡ applied_to op sp f rs
+  applied_one [] h = absurd (omega arith)
+  applied_one (p ∷ []) h = refl
+  applied_one (p ∷ q ∷ rs) h = absurd (omega arith)
+
+  pub applied_two : (rs : List Register) → length rs ≡ 2 → applied op sp (f (get_or rs 0 (Uniform shapes.Number 0)) ∷ f (get_or rs 1 (Uniform shapes.Number 0)) ∷ []) ≡ applied_to op sp f rs
+  applied_two [] h = absurd (omega arith)
+  applied_two (p ∷ []) h = absurd (omega arith)
+  applied_two (p ∷ q ∷ []) h = refl
+  applied_two (p ∷ q ∷ t ∷ rs) h = absurd (omega arith)
+
+  pub applied_three : (rs : List Register) → length rs ≡ 3 → applied op sp (f (get_or rs 0 (Uniform shapes.Number 0)) ∷ f (get_or rs 1 (Uniform shapes.Number 0)) ∷ f (get_or rs 2 (Uniform shapes.Number 0)) ∷ []) ≡ applied_to op sp f rs
+  applied_three [] h = absurd (omega arith)
+  applied_three (p ∷ []) h = absurd (omega arith)
+  applied_three (p ∷ q ∷ []) h = absurd (omega arith)
+  applied_three (p ∷ q ∷ t ∷ []) h = refl
+  applied_three (p ∷ q ∷ t ∷ r ∷ rs) h = absurd (omega arith)

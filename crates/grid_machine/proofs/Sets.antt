@@ -1,5 +1,5 @@
 -- Lists that are set place by place.
-use Rattle.std.proofs.Common.{◌≡◌, ℕ, zero, suc, ◌+◌, ◌<◌, ◌≤◌, List, [], ◌∷◌, ◌++◌, length, get_or, take, drop, set, replicate, refl, sym, ap, ◌∙◌, arith, ⊎_elim}
+use Rattle.std.proofs.Common.{◌≡◌, ℕ, zero, suc, ◌+◌, ◌<◌, ◌≤◌, List, [], ◌∷◌, length, get_or, set, replicate, refl, sym, ap, ◌∙◌, arith, ⊎_elim}
 use Rattle.std.proofs.lemmas.List.{get_or-set_same, get_or-set_other}
 use Rattle.std.proofs.lemmas.Bool.{cases_eq}
 
@@ -20,17 +20,3 @@ pub past_end : {A : Type 0} (xs : List A) (i : ℕ) (d : A) → length xs ≤ i 
 past_end [] i d l = refl
 past_end (x ∷ xs) zero d l = absurd (omega arith)
 past_end (x ∷ xs) (suc i) d l = past_end xs i d (omega arith)
-
-pub any_default : {A : Type 0} (xs : List A) (i : ℕ) (d e : A) → i < length xs → get_or xs i d ≡ get_or xs i e
-any_default [] i d e l = absurd (omega arith)
-any_default (x ∷ xs) zero d e l = refl
-any_default (x ∷ xs) (suc i) d e l = any_default xs i d e (omega arith)
-
--- a whole list written over another one
-pub written_over : {A : Type 0} (xs ys : List A) (n : ℕ) → length xs ≡ length ys → n ≡ length ys → take n (xs ++ drop (length xs) ys) ≡ xs
-written_over [] [] zero e h = refl
-written_over [] [] (suc n) e h = refl
-written_over [] (y ∷ ys) n e h = absurd (omega arith)
-written_over (x ∷ xs) [] n e h = absurd (omega arith)
-written_over (x ∷ xs) (y ∷ ys) zero e h = absurd (omega arith)
-written_over (x ∷ xs) (y ∷ ys) (suc n) e h = ap (λ zs. x ∷ zs) (written_over xs ys n (omega arith) (omega arith))

@@ -1,19 +1,21 @@
 -- Sums over lights, light by light.
 use Rattle.std.proofs.Common.{◌≡◌, ◌≢◌, ℕ, ◌+◌, ◌<◌, ◌≤◌, ℤ, Bool, true, false, cond, List, [], ◌∷◌, length, get_or, set, drop, map, refl, sym, ap, ◌∙◌, arith, add-one}
-use Rattle.std.specs.Prelude.{Option, Some, None}
+use Rattle.std.specs.Prelude.{Option, Some, None, int_le}
 use Rattle.std.specs.List.{fold, filter, filter_map}
 use Rattle.std.proofs.Math.Seq.{drop-cons}
 use Rattle.std.proofs.lemmas.List.{get_or-set_other}
 use Rattle.fixed_math.specs.Axes.{origin}
 use Rattle.fixed_math.specs.Fixed.{add}
+use Rattle.fixed_math.specs.Sine.{cos}
 use Rattle.fixed_math.specs.declared.vec3.Vec3.{Vec3}
 use Rattle.sl_ast.specs.declared.operations.LightSum.{LightSum}
 use Rattle.sl_ast.specs.declared.operations.LightSum.TheVariants as sums
 use Rattle.sl_ast.specs.declared.typed.Value.{Value}
 use Rattle.sl_ast.specs.declared.typed.Value.TheVariants.{Triple}
-use Rattle.builtins.specs.Lights.{is_in_cone, Light, ambient, unlit, lit, ambients, shown, diffused, thrown, is_before, sum_of}
+use Rattle.builtins.specs.Lights.{is_in_cone, facing, Light, ambient, unlit, lit, ambients, shown, diffused, thrown, is_before, sum_of}
 use Rattle.builtins.specs.Triples.{each_two, negated}
 use Rattle.builtins.specs.Values.{number_of, triple_of}
+use Rattle.builtins.specs.declared.shape.Shape.TheVariants as shapes
 use Rattle.grid_code.specs.declared.code.Register.{Register}
 use Rattle.grid_code.specs.declared.code.Register.TheVariants.{Uniform, Varying}
 use Rattle.grid_code.specs.Masked.{Asked, State, read, reads, all_answers}
@@ -101,6 +103,26 @@ pub no_diffuse : (s : State) (qs : List Register) (i : ℕ) (l : Light) → leng
 no_diffuse s [] i l h = refl
 no_diffuse s (a ∷ []) i l h = absurd (h refl)
 no_diffuse s (a ∷ b ∷ qs) i l h = refl
+
+-- as many arguments as a sum and a cone have
+pub cone_is : (s : State) (qs : List Register) (i : ℕ) (l axis : Vec3) (angle : ℤ) → length qs ≡ 2 → axis ≡ triple_of (read s (get_or qs 0 (Uniform shapes.Number 0)) i) → angle ≡ number_of (read s (get_or qs 1 (Uniform shapes.Number 0)) i) → int_le (cos angle) (facing l axis) ≡ is_in_cone (reads s qs i) l
+cone_is s [] i l x a h ex ea = absurd (omega arith)
+cone_is s (p ∷ []) i l x a h ex ea = absurd (omega arith)
+cone_is s (p ∷ q ∷ []) i l x a h ex ea = ap (λ y. int_le (cos a) (facing l y)) ex ∙ ap (λ b. int_le (cos b) (facing l (triple_of (read s p i)))) ea
+cone_is s (p ∷ q ∷ t ∷ qs) i l x a h ex ea = absurd (omega arith)
+
+pub diffuse_is : (s : State) (qs : List Register) (i : ℕ) (l : Light) (n : Vec3) → length qs ≡ 1 → n ≡ triple_of (read s (get_or qs 0 (Uniform shapes.Number 0)) i) → option_bind (shown [] l) (λ x. Some (diffused n x)) ≡ gain sums.Diffuse (reads s qs i) l
+diffuse_is s [] i l n h en = absurd (omega arith)
+diffuse_is s (p ∷ []) i l n h en = ap (λ m. option_bind (shown [] l) (λ x. Some (diffused m x))) en
+diffuse_is s (p ∷ q ∷ qs) i l n h en = absurd (omega arith)
+
+pub specular_is : (s : State) (qs : List Register) (i : ℕ) (l : Light) (n v : Vec3) (r : ℤ) → length qs ≡ 3 → n ≡ triple_of (read s (get_or qs 0 (Uniform shapes.Number 0)) i) → v ≡ triple_of (read s (get_or qs 1 (Uniform shapes.Number 0)) i) → r ≡ number_of (read s (get_or qs 2 (Uniform shapes.Number 0)) i) → option_bind (shown [] l) (reflected n v r) ≡ gain sums.Specular (reads s qs i) l
+specular_is s [] i l n v r h en ev er = absurd (omega arith)
+specular_is s (p ∷ []) i l n v r h en ev er = absurd (omega arith)
+specular_is s (p ∷ q ∷ []) i l n v r h en ev er = absurd (omega arith)
+specular_is s (p ∷ q ∷ t ∷ []) i l n v r h en ev er =
+    ap (λ m. option_bind (shown [] l) (reflected m v r)) en ∙ ap (λ m. option_bind (shown [] l) (reflected (triple_of (read s p i)) m r)) ev ∙ ap (λ m. option_bind (shown [] l) (reflected (triple_of (read s p i)) (triple_of (read s q i)) m)) er
+specular_is s (p ∷ q ∷ t ∷ w ∷ qs) i l n v r h en ev er = absurd (omega arith)
 
 no_specular : (s : State) (qs : List Register) (i : ℕ) (l : Light) → length qs ≢ 3 → gain sums.Specular (reads s qs i) l ≡ None
 no_specular s [] i l h = refl

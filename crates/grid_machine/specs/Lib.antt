@@ -8,3 +8,4 @@ pub mod Seen
 pub mod Texts
 pub mod Fits
 pub mod Lamps
+pub mod Ended

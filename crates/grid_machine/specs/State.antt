@@ -52,13 +52,13 @@ abbrev pub state_of : Machine → State
 state_of m =
     record (held_by m.registers) {
       turns = m.turns;
-      own = λ i. get_or m.own.items i 0;
+      own = λ i. get_or m.own i 0;
       live = λ i. get_or m.live.places i false;
       staying = λ i. get_or m.staying.places i false;
     }
 
 abbrev pub lines_of : Frame → Lines
-lines_of f = record { columns = f.columns; rows = f.rows; du = f.steps.now.du; dv = f.steps.now.dv }
+lines_of f = record { columns = f.columns; rows = f.rows; du = f.steps.du; dv = f.steps.dv }
 
 abbrev pub ground_of : Frame → Ground
 ground_of f = record { lines = lines_of f; spaces = f.setting.spaces.now; lights = [] }
@@ -84,7 +84,7 @@ pub record Full (r : Registers) : Type 0 where
 pub record Whole (m : Machine) : Type 0 where
   pub full : Full m.registers
   pub scratch : (s : Shape) → size m.scratch s ≡ m.registers.frame.now.places
-  pub own : length m.own.items ≡ m.registers.frame.now.places
+  pub own : length m.own ≡ 289
 
 -- what a step keeps
 pub record Kept (m k : Machine) : Type 0 where

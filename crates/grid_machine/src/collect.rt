@@ -12,9 +12,8 @@ use sl_ast::Value;
 fn collect_value<'a>(value: &'a Value, texts: &mut Vec<&'a Text, &'a Bump>) -> Result<(), NoMemory>
     ensures { OnOk result (map (λ t. t.now) texts.new.items ≡ map (λ t. t.now) texts.old.items ++ spec.texts_of value.now) }
 {
-    match value {
-        Value::Word(w) => texts.push(w)?,
-        Value::Number(_) | Value::Triple(_) => (),
+    if let Value::Word(w) = value {
+        texts.push(w)?;
     }
     Ok(())
 }
@@ -30,6 +29,19 @@ fn collect_values<'a>(
         collect_value(value, texts)?;
     }
     Ok(())
+}
+
+// Adds the text of a constant.
+fn collect_source<'a>(
+    source: &'a Source,
+    texts: &mut Vec<&'a Text, &'a Bump>,
+) -> Result<(), NoMemory>
+    ensures { OnOk result (map (λ t. t.now) texts.new.items ≡ map (λ t. t.now) texts.old.items ++ spec.texts_of_source source.now) }
+{
+    match source {
+        Source::Constant(value) => collect_value(value, texts),
+        Source::Copy(_) | Source::Into(_, _) | Source::Apply(_, _) => Ok(()),
+    }
 }
 
 // Adds the texts of the constants of a block.
@@ -48,18 +60,14 @@ fn collect_node<'a>(node: &'a Node, texts: &mut Vec<&'a Text, &'a Bump>) -> Resu
     ensures { OnOk result (map (λ t. t.now) texts.new.items ≡ map (λ t. t.now) texts.old.items ++ spec.texts_in (with_node node.now end)) }
 {
     match node {
-        Node::Put { source, .. } => {
-            if let Source::Constant(value) = source {
-                collect_value(value, texts)?;
-            }
-        }
+        Node::Put { source, .. } => collect_source(source, texts),
         Node::If {
             then,
             otherwise,
             ..
         } => {
             collect(then.as_slice(), texts)?;
-            collect(otherwise.as_slice(), texts)?;
+            collect(otherwise.as_slice(), texts)
         }
         Node::Loop {
             ask,
@@ -69,12 +77,11 @@ fn collect_node<'a>(node: &'a Node, texts: &mut Vec<&'a Text, &'a Bump>) -> Resu
         } => {
             collect(ask.as_slice(), texts)?;
             collect(step.as_slice(), texts)?;
-            collect(body.as_slice(), texts)?;
+            collect(body.as_slice(), texts)
         }
-        Node::Lights { body, .. } => collect(body.as_slice(), texts)?,
-        Node::Differ { .. } | Node::Sum { .. } | Node::Break | Node::Continue => (),
+        Node::Lights { body, .. } => collect(body.as_slice(), texts),
+        Node::Differ { .. } | Node::Sum { .. } | Node::Break | Node::Continue => Ok(()),
     }
-    Ok(())
 }
 
 /// The texts of values and of the constants of code.

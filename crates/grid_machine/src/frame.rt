@@ -3,10 +3,14 @@ ghost use Rattle.std.specs.Prelude.{◌≡◌, ◌*◌, ◌≤◌, IfOk};
 ghost use Rattle.grid_code.specs.Uses.{rows_in};
 
 use crate::cell::Setting;
+use crate::collect::gather;
 use bumpalo::Bump;
 use bumpalo::collections::into_bump_slice;
 use fixed_math::{NoMemory, Num};
-use grid_code::RegisterSet;
+use grid_code::{Code, RegisterSet};
+use sl_ast::Value;
+use std::slice::from_ref;
+use transforms::Spaces;
 
 /// The steps of u and v between neighbours of a grid.
 #[derive(Clone, Copy)]
@@ -16,12 +20,12 @@ pub struct Steps {
 }
 
 /// The lines of a grid with the steps of its parameters, what values stand in, and the registers of the code.
-#[derive(Drop)]
+#[derive(Clone, Copy)]
 pub struct Frame<'a> {
     pub columns: usize,
     pub rows: usize,
     pub places: usize,
-    pub steps: &'a Steps,
+    pub steps: Steps,
     pub setting: Setting<'a>,
     pub varying: &'a RegisterSet,
     pub uniform: &'a RegisterSet,
@@ -36,12 +40,40 @@ pub struct Frame<'a> {
 }
 
 impl<'a> Frame<'a> {
-    /// The same frame for as long as an arena lives, or want of memory.
-    pub fn keep(self, arena: &'a Bump) -> Result<&'a Frame<'a>, NoMemory>
-        ensures { IfOk result (λ kept. kept.now ≡ self.entry) }
+    ghost use Rattle.grid_machine.specs.Fits.{OfCode};
+    ghost use Rattle.grid_machine.specs.State.{lines_of};
+
+    /// The same grid for other code with its values and its spaces, or want of memory.
+    pub fn for_code(
+        &self,
+        arena: &'a Bump,
+        code: &'a Code,
+        values: &'a [Value],
+        spaces: &'a Spaces,
+    ) -> Result<&'a Frame<'a>, NoMemory>
+        ensures code { IfOk result (λ f. OfCode f.now code.now values.now) }
+        ensures lines { IfOk result (λ f. lines_of f.now ≡ lines_of self.now) }
+        ensures places { IfOk result (λ f. f.now.places ≡ self.now.places) }
+        ensures spaces { IfOk result (λ f. f.now.setting.spaces.now ≡ spaces.now) }
     {
-        let mut kept = Vec::new(arena);
-        kept.push(self)?;
-        Ok(&into_bump_slice(kept)[0])
+        let texts = into_bump_slice(gather(arena, values, code)?);
+        let frame = Frame {
+            columns: self.columns,
+            rows: self.rows,
+            places: self.places,
+            steps: self.steps,
+            setting: Setting { texts, spaces },
+            varying: &code.varying,
+            uniform: &code.uniform,
+        };
+        frame.keep(arena)
+    }
+
+    /// The same frame for as long as an arena lives, or want of memory.
+    pub fn keep(&self, arena: &'a Bump) -> Result<&'a Frame<'a>, NoMemory>
+        ensures { IfOk result (λ kept. kept.now ≡ self.now) }
+    {
+        let kept: &[Frame<'a>] = arena.try_alloc_slice_copy(from_ref(self))?;
+        Ok(&kept[0])
     }
 }

@@ -1,7 +1,9 @@
 // Machines before a run.
-ghost use Rattle.std.specs.Prelude.{◌≡◌, ℕ, ◌<◌, true, get_or, false, replicate, IfOk};
+ghost use Rattle.std.specs.Prelude.{◌≡◌, ℕ, ◌<◌, true, get_or, false, IfOk};
+ghost use Rattle.builtins.specs.declared.shape.Shape.{Shape as AnyShape};
+ghost use Rattle.grid_machine.specs.Banks.{held, zero_cell};
 ghost use Rattle.grid_machine.specs.Run.{fresh};
-ghost use Rattle.grid_machine.specs.State.{state_of, NearIn, Whole};
+ghost use Rattle.grid_machine.specs.State.{state_of, NearIn, Full, Whole};
 
 use crate::bank::Bank;
 use crate::frame::Frame;
@@ -9,13 +11,6 @@ use crate::machine::{Machine, Registers};
 use crate::mask::Mask;
 use bumpalo::Bump;
 use fixed_math::NoMemory;
-
-// A whole budget for each place.
-fn budgets<'a>(arena: &'a Bump, places: usize) -> Result<Vec<u32, &'a Bump>, NoMemory>
-    ensures { IfOk result (λ v. v.items ≡ replicate places 65536) }
-{
-    Ok(vec![in arena; 65536; places]?)
-}
 
 impl Mask {
     /// All places.
@@ -28,12 +23,13 @@ impl Mask {
     }
 }
 
-impl<'a> Machine<'a> {
-    /// A machine whose registers are 0, with whole budgets, all places live; or want of memory.
-    pub fn fresh(arena: &'a Bump, frame: &'a Frame<'a>) -> Result<Machine<'a>, NoMemory>
-        ensures whole { IfOk result (λ m. Whole m) }
-        ensures frame { IfOk result (λ m. m.registers.frame.now ≡ frame.now) }
-        ensures near { IfOk result (λ m. NearIn m fresh (state_of m)) }
+impl<'a> Registers<'a> {
+    // Registers that are 0; or want of memory.
+    fn zeros(arena: &'a Bump, frame: &'a Frame<'a>) -> Result<Registers<'a>, NoMemory>
+        ensures full { IfOk result (λ r. Full r) }
+        ensures frame { IfOk result (λ r. r.frame.now ≡ frame.now) }
+        ensures rows { IfOk result (λ r. (s : AnyShape) (k : ℕ) → held r.rows s k ≡ zero_cell s) }
+        ensures shared { IfOk result (λ r. (s : AnyShape) (k : ℕ) → held r.shared s k ≡ zero_cell s) }
     {
         let (varying, uniform, places) = (frame.varying, frame.uniform, frame.places);
         let rows = Bank::zeros(
@@ -48,17 +44,29 @@ impl<'a> Machine<'a> {
             uniform.triples.len(),
             uniform.words.len(),
         )?;
+        Ok(Registers {
+            frame,
+            rows,
+            shared,
+        })
+    }
+}
+
+impl<'a> Machine<'a> {
+    /// A machine whose registers are 0, with whole budgets, all places live; or want of memory.
+    pub fn fresh(arena: &'a Bump, frame: &'a Frame<'a>) -> Result<Machine<'a>, NoMemory>
+        ensures whole { IfOk result (λ m. Whole m) }
+        ensures frame { IfOk result (λ m. m.registers.frame.now ≡ frame.now) }
+        ensures near { IfOk result (λ m. NearIn m fresh (state_of m)) }
+    {
+        let places = frame.places;
+        let registers = Registers::zeros(arena, frame)?;
         let scratch = Bank::zeros(arena, places, places, places)?;
-        let own = budgets(arena, places)?;
         Ok(Machine {
-            registers: Registers {
-                frame,
-                rows,
-                shared,
-            },
+            registers,
             scratch,
             turns: 65536,
-            own,
+            own: [65536; 289],
             live: Mask::full(),
             staying: Mask::full(),
         })

@@ -1,11 +1,13 @@
 // The registers that a run gives values.
-ghost use Rattle.std.specs.Prelude.{◌≡◌, ◌++◌, IfOk};
+ghost use Rattle.std.specs.Prelude.{◌≡◌, ◌+◌, ◌<◌, ◌++◌, IfOk, OnOk};
+ghost use Rattle.builtins.specs.Values.{shape_of};
 ghost use Rattle.grid_code.specs.Names.{reg, first_free};
 ghost use Rattle.grid_code.specs.Uses.{registers_from};
 ghost use Rattle.grid_machine.specs.Run as spec;
 
 use builtins::{Shape, shape_of};
 use bumpalo::Bump;
+use bumpalo::collections::into_bump_slice;
 use fixed_math::NoMemory;
 use grid_code::{Register, Slot};
 use sl_ast::SlKind;
@@ -82,39 +84,63 @@ fn is_same(a: bool, b: bool) -> bool
     a == b
 }
 
+// The register of a parameter by its place; no place too far to be numbered.
+fn register_of(n: usize, slot: &Slot) -> Result<Register, NoMemory>
+    requires { n + 22 < usize.MAX }
+    ensures { IfOk result (λ r. r ≡ reg slot.now.uniform (shape_of slot.now.kind) (n + 22)) }
+{
+    match u32::try_from(n + 22) {
+        Ok(number) => Ok(register(slot.uniform, shape_of(slot.kind), number)),
+        Err(_) => Err(NoMemory),
+    }
+}
+
+// Adds the registers of the parameters of a class.
+fn add_inputs(
+    registers: &mut Vec<Register, &Bump>,
+    params: &[Slot],
+    uniform: bool,
+) -> Result<(), NoMemory>
+    ensures { OnOk result (registers.new.items ≡ registers.old.items ++ spec.params_of uniform first_free params.now) }
+{
+    for n in 0..params.len() {
+        if is_same(params[n].uniform, uniform) {
+            registers.push(register_of(n, &params[n])?)?;
+        }
+    }
+    Ok(())
+}
+
+// Adds the registers of all parameters.
+fn add_parameters(registers: &mut Vec<Register, &Bump>, params: &[Slot]) -> Result<(), NoMemory>
+    ensures { OnOk result (registers.new.items ≡ registers.old.items ++ registers_from first_free params.now) }
+{
+    for n in 0..params.len() {
+        registers.push(register_of(n, &params[n])?)?;
+    }
+    Ok(())
+}
+
 /// The registers of the parameters of a class, and then others. More parameters than registers can be numbered are want of memory.
 pub fn inputs<'a>(
     arena: &'a Bump,
     params: &[Slot],
     uniform: bool,
     others: &[Register],
-) -> Result<Vec<Register, &'a Bump>, NoMemory>
-    ensures { IfOk result (λ v. v.items ≡ spec.params_of uniform first_free params.now ++ others.now) }
+) -> Result<&'a [Register], NoMemory>
+    ensures { IfOk result (λ v. v.now ≡ spec.params_of uniform first_free params.now ++ others.now) }
 {
     let mut registers = Vec::new(arena);
-    for n in 0..params.len() {
-        if is_same(params[n].uniform, uniform) {
-            let Ok(number) = u32::try_from(n + 22) else {
-                return Err(NoMemory);
-            };
-            registers.push(register(uniform, shape_of(params[n].kind), number))?;
-        }
-    }
+    add_inputs(&mut registers, params, uniform)?;
     registers.extend_from_slice(others)?;
-    Ok(registers)
+    Ok(into_bump_slice(registers))
 }
 
 /// The registers of all parameters in order. More parameters than registers can be numbered are want of memory.
-pub fn parameters<'a>(arena: &'a Bump, params: &[Slot]) -> Result<Vec<Register, &'a Bump>, NoMemory>
-    ensures { IfOk result (λ v. v.items ≡ registers_from first_free params.now) }
+pub fn parameters<'a>(arena: &'a Bump, params: &[Slot]) -> Result<&'a [Register], NoMemory>
+    ensures { IfOk result (λ v. v.now ≡ registers_from first_free params.now) }
 {
     let mut registers = Vec::new(arena);
-    for n in 0..params.len() {
-        let Ok(number) = u32::try_from(n + 22) else {
-            return Err(NoMemory);
-        };
-        let slot = &params[n];
-        registers.push(register(slot.uniform, shape_of(slot.kind), number))?;
-    }
-    Ok(registers)
+    add_parameters(&mut registers, params)?;
+    Ok(into_bump_slice(registers))
 }

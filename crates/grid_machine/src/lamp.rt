@@ -3,14 +3,11 @@ ghost use Rattle.grid_machine.specs.Fits.{Fits};
 ghost use Rattle.grid_machine.specs.State.{Whole};
 
 use crate::answers::Answers;
-use crate::cell::Setting;
-use crate::collect::gather;
 use crate::frame::Frame;
 use crate::given::parameters;
 use crate::machine::Machine;
 use crate::points::Points;
 use bumpalo::Bump;
-use bumpalo::collections::into_bump_slice;
 use fixed_math::NoMemory;
 use grid_code::{Code, Register};
 use sl_ast::Value;
@@ -50,22 +47,11 @@ impl<'a> Lamp<'a> {
         ensures asked { IfOk result (λ lamp. asked_by lamp ≡ asked (lines_of grid.now) grid.now.places spaces.now code.now values.now) }
     {
         let registers = parameters(arena, code.params.as_slice())?;
-        let frame = Frame {
-            columns: grid.columns,
-            rows: grid.rows,
-            places: grid.places,
-            steps: grid.steps,
-            setting: Setting {
-                texts: into_bump_slice(gather(arena, values, code)?),
-                spaces,
-            },
-            varying: &code.varying,
-            uniform: &code.uniform,
-        };
-        let machine = Machine::fresh(arena, frame.keep(arena)?)?;
+        let frame = grid.for_code(arena, code, values, spaces)?;
+        let machine = Machine::fresh(arena, frame)?;
         Ok(Lamp {
             code,
-            registers: into_bump_slice(registers),
+            registers,
             values,
             machine,
         })

@@ -21,32 +21,32 @@ pub struct Lamps<'a> {
 }
 
 impl<'a> Lamps<'a> {
-    ghost use Rattle.std.specs.Prelude.{ℕ, ◌<◌, IfOk};
-    ghost use Rattle.grid_machine.specs.Asked.{IsLight, asked_all};
+    ghost use Rattle.std.specs.Prelude.{ℕ, ◌<◌, [], ◌∷◌, ◌++◌, IfOk, OnOk};
+    ghost use Rattle.grid_machine.specs.Asked.{IsLight, asked, asked_all};
     ghost use Rattle.grid_machine.specs.State.{lines_of};
 
-    // A machine for each light.
-    fn lay_out<L: Lights>(
+    // Adds a machine for a light.
+    fn add<L: Lights>(
+        lamps: &mut Vec<Lamp<'a>, &'a Bump>,
         arena: &'a Bump,
         grid: &Frame<'a>,
         lights: &'a L,
-    ) -> Result<Vec<Lamp<'a>, &'a Bump>, NoMemory>
-        requires lights { (n : ℕ) → n < L.many lights.now → IsLight (L.codes lights.now n) (L.params lights.now n) }
-        ensures level { IfOk result (λ v. list_all (λ p. p == grid.now.places) (map places_by v.items) ≡ true) }
-        ensures lights { IfOk result (λ v. map asked_by v.items ≡ asked_all (lines_of grid.now) grid.now.places (L.many lights.now) (L.places lights.now) (L.codes lights.now) (L.params lights.now)) }
+        n: usize,
+    ) -> Result<(), NoMemory>
+        requires many { n < L.many lights.now }
+        requires light { IsLight (L.codes lights.now n) (L.params lights.now n) }
+        ensures places { OnOk result (map places_by lamps.new.items ≡ map places_by lamps.old.items ++ (grid.now.places ∷ [])) }
+        ensures asked { OnOk result (map asked_by lamps.new.items ≡ map asked_by lamps.old.items ++ (asked (lines_of grid.now) grid.now.places (L.places lights.now n) (L.codes lights.now n) (L.params lights.now n) ∷ [])) }
     {
-        let mut lamps = Vec::new(arena);
-        for n in 0..lights.count() {
-            let lamp = Lamp::new(
-                arena,
-                grid,
-                lights.code(n),
-                lights.values(n),
-                lights.spaces(n),
-            )?;
-            lamps.push(lamp)?;
-        }
-        Ok(lamps)
+        let lamp = Lamp::new(
+            arena,
+            grid,
+            lights.code(n),
+            lights.values(n),
+            lights.spaces(n),
+        )?;
+        lamps.push(lamp)?;
+        Ok(())
     }
 
     /// Lights on a grid, each with a machine of its own; or want of memory.
@@ -59,9 +59,13 @@ impl<'a> Lamps<'a> {
         ensures places { IfOk result (λ l. l.places ≡ grid.now.places) }
         ensures lights { IfOk result (λ l. map asked_by l.lamps.items ≡ asked_all (lines_of grid.now) grid.now.places (L.many lights.now) (L.places lights.now) (L.codes lights.now) (L.params lights.now)) }
     {
+        let mut lamps = Vec::new(arena);
+        for n in 0..lights.count() {
+            Lamps::add(&mut lamps, arena, grid, lights, n)?;
+        }
         Ok(Lamps {
             places: grid.places,
-            lamps: Lamps::lay_out(arena, grid, lights)?,
+            lamps,
         })
     }
 }

@@ -69,7 +69,6 @@ impl Points {
 
 impl Machine<'_> {
     /// The triples that a register holds.
-    #[tactic(auto, using(crate::proofs::Shapes::read_held))]
     pub fn points(&self, register: Register) -> Points
         requires whole { Whole self.now }
         requires has { HasRegister self.now register }
@@ -85,7 +84,6 @@ impl Machine<'_> {
     }
 
     /// The numbers that a register holds.
-    #[tactic(auto, using(crate::proofs::Shapes::read_held))]
     pub fn numbers(&self, register: Register) -> Numbers
         requires whole { Whole self.now }
         requires has { HasRegister self.now register }

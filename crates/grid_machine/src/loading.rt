@@ -4,6 +4,8 @@ ghost use Rattle.std.specs.List.{list_all};
 ghost use Rattle.fixed_math.specs.Fixed.{IsRaw};
 ghost use Rattle.builtins.specs.Shapes.{shape as shape_of_value};
 ghost use Rattle.builtins.specs.declared.shape.Shape.{Shape as AnyShape};
+ghost use Rattle.builtins.specs.declared.shape.Shape.TheVariants as shapes;
+ghost use Rattle.sl_ast.specs.declared.typed.Value.TheVariants as values;
 ghost use Rattle.grid_code.specs.Masked.{write, State as Grid};
 ghost use Rattle.grid_code.specs.Shapes.{register_shape};
 ghost use Rattle.grid_machine.specs.Banks.{size, held};
@@ -50,6 +52,19 @@ pub fn height_of(shape: Shape) -> usize
     }
 }
 
+// The triple at an element of each of three rows.
+fn triple_in(rows: &[i64], width: usize, at: usize) -> Vec3
+    requires raws { (k : ℕ) → IsRaw (get_or rows.now k (pos 0)) }
+    requires room { at + 2 * width < length rows.now }
+    ensures { values.Triple result ≡ value_in shapes.Triple rows.now width at }
+{
+    Vec3 {
+        x: number(rows[at]),
+        y: number(rows[at + width]),
+        z: number(rows[at + 2 * width]),
+    }
+}
+
 impl Setting<'_> {
     // The value of a shape at an element of rows.
     fn loaded(&self, shape: Shape, rows: &[i64], width: usize, at: usize) -> Cell
@@ -59,11 +74,7 @@ impl Setting<'_> {
     {
         match shape {
             Shape::Number => Cell::Number(number(rows[at])),
-            Shape::Triple => Cell::Triple(Vec3 {
-                x: number(rows[at]),
-                y: number(rows[at + width]),
-                z: number(rows[at + 2 * width]),
-            }),
+            Shape::Triple => Cell::Triple(triple_in(rows, width, at)),
             Shape::Word => Cell::Word(0),
         }
     }

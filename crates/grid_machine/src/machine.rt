@@ -18,7 +18,7 @@ pub struct Machine<'a> {
     pub registers: Registers<'a>,
     pub scratch: Bank<'a>,
     pub turns: u32,
-    pub own: Vec<u32, &'a Bump>,
+    pub own: [u32; 289],
     pub live: Mask,
     pub staying: Mask,
 }

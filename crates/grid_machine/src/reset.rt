@@ -41,7 +41,7 @@ impl Machine<'_> {
     {
         self.registers.rows.clear();
         self.registers.shared.clear();
-        make_all(&mut self.own, 65536);
+        self.own = [65536; 289];
         self.turns = 65536;
         self.live = Mask::full();
         self.staying = Mask::full();

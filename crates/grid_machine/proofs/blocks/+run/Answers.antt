@@ -4,7 +4,7 @@ use Rattle.grid_code.specs.Code.{end, branch, sum, lights}
 use Rattle.std.specs.Prelude.{◌||◌, Option, is_some}
 use Rattle.fixed_math.specs.declared.vec3.Vec3.{Vec3}
 use Rattle.fixed_math.specs.Axes.{origin}
-use Rattle.sl_ast.specs.declared.kinds.LightStmt.TheVariants.{Illuminate, Solar}
+use Rattle.sl_ast.specs.declared.kinds.LightStmt.TheVariants.{Illuminance, Illuminate, Solar}
 use Rattle.sl_ast.specs.declared.kinds.Predefined.TheVariants as names
 use Rattle.builtins.specs.Lights.{is_in_cone}
 use Rattle.builtins.specs.Values.{triple_of}
@@ -21,7 +21,7 @@ use Rattle.grid_code.specs.View.{with_node, block_of}
 use Rattle.grid_machine.specs.State.{state_of, Near, ground_of, lit_ground, lights_registers, ReadyIn, Runs, RunsTurns}
 use Rattle.grid_machine.proofs.Kept.{NearBy, has_kept, places_kept, kept_on, kept_live, ready_kept, runs_kept, begin_kept, any_kept}
 use Rattle.grid_machine.proofs.Nodes.{running_ready, running_small, running_next, running_end, put_steps, differ_steps, branch_is, loop_is, lights_is, block_size}
-use Rattle.grid_machine.proofs.Masks.{Turning, turning_step, turning_stop, turning_end, looped_steps}
+use Rattle.grid_machine.proofs.Masks.{Turning, one_at, parts_at, turning_step, turning_stop, turning_end, looped_steps}
 use Rattle.grid_machine.proofs.blocks.+run.Goals as goal
 
 pub run_block-run_node-requires : goal.run_block-run_node-requires
@@ -357,3 +357,280 @@ run_lights-returns-in-Solar-clause-masked g t c =
     subst (λ w. Runs ls c.args.most (lights w c.args.args.now body end) m m1) (sym c.in-Solar.is) (subst (λ x. Runs ls c.args.most (lights Solar x body end) m m1) (sym e) (λ s near.
     c.run_lit-in-Solar.ensures.near s (λ i. true) (λ i. triple_of (read s axis i)) near (λ i l. sym (c.full.ensures i (omega arith)))
     (λ i l. ap triple_of (read_near r.places v u s (state_of m) axis i near hp l) ∙ sym (c.points-directions.ensures i l))))
+
+pub run_branch-run_block-requires : goal.run_branch-run_block-requires
+run_branch-run_block-requires g t c = λ κs lives. (omega (arith, c.decreases), (lives, (c.requires.whole, (c.requires.then, c.requires.places))))
+
+pub run_branch-run_block-requires-else-holds : goal.run_branch-run_block-requires-else-holds
+run_branch-run_block-requires-else-holds g t c = λ κs lives. (omega (arith, c.decreases), (lives, (c.requires.whole, (c.requires.otherwise, c.requires.places))))
+
+pub run_branch-run_block-requires-in-Varying : goal.run_branch-run_block-requires-in-Varying
+run_branch-run_block-requires-in-Varying g t c =
+    let m = c.args.m.now in
+    let k1 = kept_live m m c.and-m.result record { frame = refl; whole = c.requires.whole } in
+    λ κs lives. (omega (arith, c.decreases), (lives, (k1.whole, (c.requires.then, c.requires.places))))
+
+pub run_branch-run_block-requires-in-Varying-2 : goal.run_branch-run_block-requires-in-Varying-2
+run_branch-run_block-requires-in-Varying-2 g t c =
+    let m = c.args.m.now in
+    let m2 = c.run_block-in-Varying.new.m in
+    let k1 = kept_live m m c.and-m.result record { frame = refl; whole = c.requires.whole } in
+    let k3 = kept_live m m2 c.without-m.result (kept_on m record m { live = c.and-m.result } m2 k1 c.run_block-in-Varying.ensures.kept) in
+    λ κs lives. (
+      omega (arith, c.decreases),
+      (
+        lives,
+        (
+          k3.whole,
+          (
+            ready_kept m record m2 { live = c.without-m.result } (block_of c.args.otherwise.now) k3 c.requires.otherwise,
+            places_kept m record m2 { live = c.without-m.result } (g.L.Illumination.lighting c.args.lights.now) (g.L.Illumination.lighting c.run_block-in-Varying.new.lights) k3 c.run_block-in-Varying.ensures.same c.requires.places,
+          ),
+        ),
+      ),
+    )
+
+pub run_branch-returns-then-holds-clause-masked : goal.run_branch-returns-then-holds-clause-masked
+run_branch-returns-then-holds-clause-masked g t c =
+    let ls = (g.L.Illumination.lighting c.args.lights.now).lights in
+    let m = c.args.m.now in
+    let r = m.registers.frame.now in
+    one_at (lit_ground ls r) r.places r.varying.now r.uniform.now c.args.most c.args.test c.in-Uniform.field-0 c.in-Uniform.field-1 true (block_of c.args.then.now) (block_of c.args.otherwise.now) (state_of m) (state_of c.run_block.new.m) c.in-Uniform.is c.requires.has
+    (sym c.holds.ensures ∙ c.if-holds.true) c.run_block.ensures.masked
+
+pub run_branch-returns-else-holds-clause-masked : goal.run_branch-returns-else-holds-clause-masked
+run_branch-returns-else-holds-clause-masked g t c =
+    let ls = (g.L.Illumination.lighting c.args.lights.now).lights in
+    let m = c.args.m.now in
+    let r = m.registers.frame.now in
+    one_at (lit_ground ls r) r.places r.varying.now r.uniform.now c.args.most c.args.test c.in-Uniform.field-0 c.in-Uniform.field-1 false (block_of c.args.then.now) (block_of c.args.otherwise.now) (state_of m) (state_of c.run_block-else-holds.new.m) c.in-Uniform.is c.requires.has
+    (sym c.holds.ensures ∙ c.if-holds.false) c.run_block-else-holds.ensures.masked
+
+pub run_branch-returns-in-Varying-clause-kept : goal.run_branch-returns-in-Varying-clause-kept
+run_branch-returns-in-Varying-clause-kept g t c =
+    let m = c.args.m.now in
+    let m2 = c.run_block-in-Varying.new.m in
+    let m4 = c.run_block-in-Varying-2.new.m in
+    let k1 = kept_live m m c.and-m.result record { frame = refl; whole = c.requires.whole } in
+    let k3 = kept_live m m2 c.without-m.result (kept_on m record m { live = c.and-m.result } m2 k1 c.run_block-in-Varying.ensures.kept) in
+    kept_live m m4 c.or-m.result (kept_on m record m2 { live = c.without-m.result } m4 k3 c.run_block-in-Varying-2.ensures.kept)
+
+pub run_branch-returns-in-Varying-clause-masked : goal.run_branch-returns-in-Varying-clause-masked
+run_branch-returns-in-Varying-clause-masked g t c =
+    let ls = (g.L.Illumination.lighting c.args.lights.now).lights in
+    let m = c.args.m.now in
+    let r = m.registers.frame.now in
+    let m1 = record m { live = c.and-m.result } in
+    let m2 = c.run_block-in-Varying.new.m in
+    let m3 = record m2 { live = c.without-m.result } in
+    let m4 = c.run_block-in-Varying-2.new.m in
+    let n = c.args.most in
+    let k1 = kept_live m m c.and-m.result record { frame = refl; whole = c.requires.whole } in
+    let k3 = kept_live m m2 c.without-m.result (kept_on m m1 m2 k1 c.run_block-in-Varying.ensures.kept) in
+    parts_at (lit_ground ls r) r.places r.varying.now r.uniform.now n c.args.test c.in-Varying.field-0 c.in-Varying.field-1 (block_of c.args.then.now) (block_of c.args.otherwise.now) (state_of m) (state_of m2) (state_of m4)
+    (λ i. get_or c.tests-set.result.places i false) (λ i. get_or c.and-m.result.places i false) (λ i. get_or c.without-m.result.places i false) (λ i. get_or c.or-m.result.places i false) c.in-Varying.is c.requires.has c.tests-set.ensures
+    c.and-m.ensures c.run_block-in-Varying.ensures.masked c.without-m.ensures
+    (runs_kept ls (g.L.Illumination.lighting c.run_block-in-Varying.new.lights).lights m m3 m4 n (block_of c.args.otherwise.now) k3 (ap (λ s. s.lights) c.run_block-in-Varying.ensures.same) c.run_block-in-Varying-2.ensures.masked) c.or-m.ensures
+
+pub run_loop-run_block-requires : goal.run_loop-run_block-requires
+run_loop-run_block-requires g t c =
+    let m = c.args.m.now in
+    let inv = c.loop-turn.invariant in
+    λ κs lives. (
+      omega (arith, c.decreases),
+      (
+        lives,
+        (
+          inv.0.0.whole,
+          (
+            ready_kept m c.loop-turn.m (block_of c.args.ask.now) inv.0.0 c.requires.ask,
+            places_kept m c.loop-turn.m (g.L.Illumination.lighting c.args.lights.now) (g.L.Illumination.lighting c.loop-turn.lights) inv.0.0 inv.0.1 c.requires.places,
+          ),
+        ),
+      ),
+    )
+
+pub run_loop-run_block-requires-in-loop-turn : goal.run_loop-run_block-requires-in-loop-turn
+run_loop-run_block-requires-in-loop-turn g t c =
+    let m = c.args.m.now in
+    let m2 = c.begin_turn.new.self in
+    let inv = c.loop-turn.invariant in
+    let k2 = kept_on m c.run_block.new.m m2 (kept_on m c.loop-turn.m c.run_block.new.m inv.0.0 c.run_block.ensures.kept) c.begin_turn.ensures.kept in
+    λ κs lives. (
+      omega (arith, c.decreases),
+      (
+        lives,
+        (
+          k2.whole,
+          (
+            ready_kept m m2 (block_of c.args.body.now) k2 c.requires.body,
+            places_kept m m2 (g.L.Illumination.lighting c.args.lights.now) (g.L.Illumination.lighting c.run_block.new.lights) k2 (c.run_block.ensures.same ∙ inv.0.1) c.requires.places,
+          ),
+        ),
+      ),
+    )
+
+pub run_loop-run_block-requires-in-loop-turn-2 : goal.run_loop-run_block-requires-in-loop-turn-2
+run_loop-run_block-requires-in-loop-turn-2 g t c =
+    let m = c.args.m.now in
+    let m2 = c.begin_turn.new.self in
+    let m3 = c.run_block-in-loop-turn.new.m in
+    let inv = c.loop-turn.invariant in
+    let k2 = kept_on m c.run_block.new.m m2 (kept_on m c.loop-turn.m c.run_block.new.m inv.0.0 c.run_block.ensures.kept) c.begin_turn.ensures.kept in
+    let k3 = kept_live m m3 m3.staying (kept_on m m2 m3 k2 c.run_block-in-loop-turn.ensures.kept) in
+    λ κs lives. (
+      omega (arith, c.decreases),
+      (
+        lives,
+        (
+          k3.whole,
+          (
+            ready_kept m record m3 { live = m3.staying } (block_of c.args.step.now) k3 c.requires.step,
+            places_kept m record m3 { live = m3.staying } (g.L.Illumination.lighting c.args.lights.now) (g.L.Illumination.lighting c.run_block-in-loop-turn.new.lights) k3 (c.run_block-in-loop-turn.ensures.same ∙ c.run_block.ensures.same ∙ inv.0.1) c.requires.places,
+          ),
+        ),
+      ),
+    )
+
+pub run_loop-run_block-requires-2 : goal.run_loop-run_block-requires-2
+run_loop-run_block-requires-2 g t c =
+    let m = c.args.m.now in
+    let inv = c.loop-turn.invariant in
+    λ κs lives. (
+      omega (arith, c.decreases),
+      (
+        lives,
+        (
+          inv.0.0.whole,
+          (
+            ready_kept m c.loop-turn.m (block_of c.args.ask.now) inv.0.0 c.requires.ask,
+            places_kept m c.loop-turn.m (g.L.Illumination.lighting c.args.lights.now) (g.L.Illumination.lighting c.loop-turn.lights) inv.0.0 inv.0.1 c.requires.places,
+          ),
+        ),
+      ),
+    )
+
+pub run_lit-run_block-requires : goal.run_lit-run_block-requires
+run_lit-run_block-requires g t c =
+    let m = c.args.m.now in
+    let m2 = c.kindle.new.self in
+    let k1 = kept_live m m c.and-m.result record { frame = refl; whole = c.requires.whole } in
+    let k2 = kept_on m record m { live = c.and-m.result } m2 k1 c.kindle.ensures.kept in
+    λ κs lives. (
+      omega (arith, c.decreases),
+      (
+        lives,
+        (
+          k2.whole,
+          (
+            ready_kept m m2 (block_of c.args.body.now) k2 c.requires.body,
+            places_kept m m2 (g.L.Illumination.lighting c.args.lights.now) (g.L.Illumination.lighting c.args.lights.now) k2 refl c.requires.places,
+          ),
+        ),
+      ),
+    )
+
+pub run_lights-run_seen-requires : goal.run_lights-run_seen-requires
+run_lights-run_seen-requires g t c =
+    let r = c.args.m.now.registers.frame.now in
+    let v = r.varying.now in
+    let u = r.uniform.now in
+    let h = subst (λ x. list_all (has v u) x ≡ true) c.in-Some.ensures.cases.0 c.requires.args in
+    let given = subst (λ w. list_all (has v u) (lights_registers w) ≡ true) c.in-Illuminance.is c.requires.has in
+    let direction = has v u (name_at names.L) in
+    λ κs lives. (
+      omega (arith, c.decreases),
+      (
+        lives,
+        (
+          c.requires.whole,
+          (
+            left (has v u c.in-Some.place.now) _ h,
+            (right (has v u c.in-Some.place.now) _ h, (left direction _ given, (left (has v u (name_at names.Cl)) _ (right direction _ given), (c.requires.body, c.requires.places)))),
+          ),
+        ),
+      ),
+    )
+
+pub run_lights-run_lit-requires : goal.run_lights-run_lit-requires
+run_lights-run_lit-requires g t c =
+    let r = c.args.m.now.registers.frame.now in
+    let v = r.varying.now in
+    let u = r.uniform.now in
+    let given = subst (λ w. list_all (has v u) (lights_registers w) ≡ true) c.in-Illuminate.is c.requires.has in
+    let direction = has v u (name_at names.L) in
+    λ κs lives. (
+      omega (arith, c.decreases),
+      (lives, (c.requires.whole, (left direction _ given, (left (has v u lit_at) _ (right direction _ given), (c.requires.body, c.requires.places))))),
+    )
+
+pub run_lights-run_lit-requires-in-Solar : goal.run_lights-run_lit-requires-in-Solar
+run_lights-run_lit-requires-in-Solar g t c =
+    let r = c.args.m.now.registers.frame.now in
+    let v = r.varying.now in
+    let u = r.uniform.now in
+    let given = subst (λ w. list_all (has v u) (lights_registers w) ≡ true) c.in-Solar.is c.requires.has in
+    let direction = has v u (name_at names.L) in
+    λ κs lives. (
+      omega (arith, c.decreases),
+      (lives, (c.requires.whole, (left direction _ given, (left (has v u lit_at) _ (right direction _ given), (c.requires.body, c.requires.places))))),
+    )
+
+pub run_node-put-requires : goal.run_node-put-requires
+run_node-put-requires g t c =
+    let f = subst (λ x. ReadyIn c.args.m.now (with_node x end)) c.in-Put.is c.requires.ready in
+    record { whole = c.requires.whole; has = f.0; ready = f.1.0; shape = f.1.1.0 }
+
+pub run_node-differ-requires : goal.run_node-differ-requires
+run_node-differ-requires g t c =
+    let f = subst (λ x. ReadyIn c.args.m.now (with_node x end)) c.in-Differ.is c.requires.ready in
+    record { whole = c.requires.whole; has = f.0; of = f.1.0; shape = f.1.1.0 }
+
+pub run_lights-from_light-directions-requires : goal.run_lights-from_light-directions-requires
+run_lights-from_light-directions-requires g t c =
+    let r = c.args.m.now.registers.frame.now in
+    let v = r.varying.now in
+    let u = r.uniform.now in
+    let h = subst (λ x. list_all (has v u) x ≡ true) c.in-Some.ensures.cases.0 c.requires.args in
+    let given = subst (λ w. list_all (has v u) (lights_registers w) ≡ true) c.in-Illuminate.is c.requires.has in
+    record { whole = c.requires.whole; has = left (has v u c.in-Some.place.now) _ h; points = left (has v u (name_at names.Ps)) _ (right (has v u lit_at) _ (right (has v u (name_at names.L)) _ given)) }
+
+pub run_lights-cone-requires : goal.run_lights-cone-requires
+run_lights-cone-requires g t c =
+    let r = c.args.m.now.registers.frame.now in
+    let v = r.varying.now in
+    let u = r.uniform.now in
+    record { whole = c.requires.whole; has = right (has v u c.in-Some.place.now) _ (subst (λ x. list_all (has v u) x ≡ true) c.in-Some.ensures.cases.0 c.requires.args) }
+
+pub run_lights-points-directions-requires : goal.run_lights-points-directions-requires
+run_lights-points-directions-requires g t c =
+    let r = c.args.m.now.registers.frame.now in
+    let v = r.varying.now in
+    let u = r.uniform.now in
+    record { whole = c.requires.whole; has = left (has v u c.in-Some.place.now) _ (subst (λ x. list_all (has v u) x ≡ true) c.in-Some.ensures.cases.0 c.requires.args) }
+
+pub run_seen-points-points-requires : goal.run_seen-points-points-requires
+run_seen-points-points-requires g t c = record { whole = c.requires.whole; has = c.requires.place }
+
+pub run_seen-cone-cone-requires : goal.run_seen-cone-cone-requires
+run_seen-cone-cone-requires g t c = record { whole = c.requires.whole; has = c.requires.args }
+
+pub run_lit-kindle-requires : goal.run_lit-kindle-requires
+run_lit-kindle-requires g t c =
+    let m = c.args.m.now in
+    let k1 = kept_live m m c.and-m.result record { frame = refl; whole = c.requires.whole } in
+    record { whole = k1.whole; direction = c.requires.direction; lit = c.requires.lit }
+
+pub run_loop-going-going-requires : goal.run_loop-going-going-requires
+run_loop-going-going-requires g t c =
+    let m = c.args.m.now in
+    let k1 = kept_on m c.loop-turn.m c.run_block.new.m c.loop-turn.invariant.0.0 c.run_block.ensures.kept in
+    record { whole = k1.whole; has = has_kept m c.run_block.new.m c.args.test k1 c.requires.has }
+
+pub run_lights-returns-in-Illuminance-clause-masked : goal.run_lights-returns-in-Illuminance-clause-masked
+run_lights-returns-in-Illuminance-clause-masked g t c =
+    let ls = (g.L.Illumination.lighting c.args.lights.now).lights in
+    let m = c.args.m.now in
+    let m1 = c.run_seen.new.m in
+    let body = block_of c.args.body.now in
+    subst (λ w. Runs ls c.args.most (lights w c.args.args.now body end) m m1) (sym c.in-Illuminance.is) (subst (λ x. Runs ls c.args.most (lights Illuminance x body end) m m1) (sym c.in-Some.ensures.cases.0) c.run_seen.ensures.masked)

@@ -3,7 +3,7 @@ use Rattle.grid_code.specs.Code.{end, branch, loops, lights}
 use Rattle.grid_code.specs.View.{block_of}
 use Rattle.grid_machine.specs.Texts.{texts_in}
 use Rattle.grid_machine.proofs.Nodes.{block_size, branch_is, loop_is, lights_is}
-use Rattle.grid_machine.proofs.Gathered.{gathering_small, gathering_next, one_gathered, two_gathered, three_gathered}
+use Rattle.grid_machine.proofs.Gathered.{gathering_small, gathering_next, one_gathered, two_gathered, three_gathered, follows}
 use Rattle.grid_machine.proofs.collect.+collect.Goals as goal
 
 pub collect-collect_node-requires : goal.collect-collect_node-requires
@@ -50,16 +50,15 @@ collect_node-collect-requires-in-Lights t c =
     let d = ap (λ l. block_size (block_of l)) c.as_slice-in-Lights.ensures in
     omega (arith, c.decreases, s, d)
 
-pub collect_node-returns-in_ok-collect-in-If-2 : goal.collect_node-returns-in_ok-collect-in-If-2
-collect_node-returns-in_ok-collect-in-If-2 t c =
+pub collect_node-returns-in_ok-collect-in-If : goal.collect_node-returns-in_ok-collect-in-If
+collect_node-returns-in_ok-collect-in-If t c =
     let q = branch_is c.args.node.now c.in-If.test c.in-If.then c.in-If.otherwise end c.in-If.is
     ∙ ap (λ l. branch c.in-If.test (block_of l) (block_of c.in-If.otherwise) end) (sym c.as_slice.ensures)
     ∙ ap (λ l. branch c.in-If.test (block_of c.as_slice.result.now) (block_of l) end) (sym c.as_slice-in-If.ensures) in
-    two_gathered _ _ _ (texts_in (block_of c.as_slice.result.now)) (texts_in (block_of c.as_slice-in-If.result.now)) c.in_ok-collect-in-If.ensures c.in_ok-collect-in-If-2.ensures
-    ∙ ap (λ x. map (λ t. t.now) c.args.texts.now.items ++ texts_in x) (sym q)
+    follows c.collect-in-If.result (λ h. two_gathered _ _ _ (texts_in (block_of c.as_slice.result.now)) (texts_in (block_of c.as_slice-in-If.result.now)) c.in_ok-collect-in-If.ensures h ∙ ap (λ x. map (λ t. t.now) c.args.texts.now.items ++ texts_in x) (sym q)) c.collect-in-If.ensures
 
-pub collect_node-returns-in_ok-collect-in-Loop-3 : goal.collect_node-returns-in_ok-collect-in-Loop-3
-collect_node-returns-in_ok-collect-in-Loop-3 t c =
+pub collect_node-returns-in_ok-collect-in-Loop-2 : goal.collect_node-returns-in_ok-collect-in-Loop-2
+collect_node-returns-in_ok-collect-in-Loop-2 t c =
     let u = c.in-Loop.uniform in
     let test = c.in-Loop.test in
     let ask = c.as_slice-in-Loop.result.now in
@@ -69,12 +68,10 @@ collect_node-returns-in_ok-collect-in-Loop-3 t c =
     ∙ ap (λ l. loops u (block_of l) test (block_of c.in-Loop.step) (block_of c.in-Loop.body) end) (sym c.as_slice-in-Loop.ensures)
     ∙ ap (λ l. loops u (block_of ask) test (block_of l) (block_of c.in-Loop.body) end) (sym c.as_slice-in-Loop-2.ensures)
     ∙ ap (λ l. loops u (block_of ask) test (block_of step) (block_of l) end) (sym c.as_slice-in-Loop-3.ensures) in
-    three_gathered _ _ _ _ (texts_in (block_of ask)) (texts_in (block_of step)) (texts_in (block_of body)) c.in_ok-collect-in-Loop.ensures c.in_ok-collect-in-Loop-2.ensures c.in_ok-collect-in-Loop-3.ensures
-    ∙ ap (λ x. map (λ t. t.now) c.args.texts.now.items ++ texts_in x) (sym q)
+    follows c.collect-in-Loop-3.result (λ h. three_gathered _ _ _ _ (texts_in (block_of ask)) (texts_in (block_of step)) (texts_in (block_of body)) c.in_ok-collect-in-Loop.ensures c.in_ok-collect-in-Loop-2.ensures h ∙ ap (λ x. map (λ t. t.now) c.args.texts.now.items ++ texts_in x) (sym q)) c.collect-in-Loop-3.ensures
 
-pub collect_node-returns-in_ok-collect-in-Lights : goal.collect_node-returns-in_ok-collect-in-Lights
-collect_node-returns-in_ok-collect-in-Lights t c =
+pub collect_node-returns-in-Lights : goal.collect_node-returns-in-Lights
+collect_node-returns-in-Lights t c =
     let q = lights_is c.args.node.now c.in-Lights.over c.in-Lights.args c.in-Lights.body end c.in-Lights.is
     ∙ ap (λ l. lights c.in-Lights.over c.in-Lights.args (block_of l) end) (sym c.as_slice-in-Lights.ensures) in
-    one_gathered _ _ (texts_in (block_of c.as_slice-in-Lights.result.now)) c.in_ok-collect-in-Lights.ensures
-    ∙ ap (λ x. map (λ t. t.now) c.args.texts.now.items ++ texts_in x) (sym q)
+    follows c.collect-in-Lights.result (λ h. one_gathered _ _ (texts_in (block_of c.as_slice-in-Lights.result.now)) h ∙ ap (λ x. map (λ t. t.now) c.args.texts.now.items ++ texts_in x) (sym q)) c.collect-in-Lights.ensures

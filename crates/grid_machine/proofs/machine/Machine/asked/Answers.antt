@@ -1,20 +1,64 @@
-use Rattle.std.proofs.Common.{◌≡◌, ℕ, ◌<◌, [], get_or, refl, sym, ap, ◌∙◌, subst}
+use Rattle.std.proofs.Common.{◌≡◌, ℕ, ◌<◌, true, [], get_or, map, refl, sym, ap, ◌∙◌, subst}
+use Rattle.std.specs.List.{list_all}
 use Rattle.std.specs.Prelude.{not}
 use Rattle.fixed_math.specs.Axes.{origin}
 use Rattle.sl_ast.specs.declared.kinds.Predefined.TheVariants as names
 use Rattle.sl_ast.specs.declared.typed.Value.{Value}
 use Rattle.sl_ast.specs.declared.typed.Value.TheVariants.{Triple}
 use Rattle.grid_code.specs.Masked.{State, write, masked}
-use Rattle.grid_code.specs.Names.{name_at, first_free}
-use Rattle.grid_code.specs.Uses.{registers_from}
+use Rattle.grid_code.specs.Names.{name_at, lit_at, first_free}
+use Rattle.grid_code.specs.Shapes.{register_shape}
+use Rattle.grid_code.specs.Uses.{has, registers_from}
 use Rattle.grid_code.specs.View.{block_of}
 use Rattle.grid_machine.specs.Asked.{begun_at, answer_at}
 use Rattle.grid_machine.specs.Run.{assigned, fresh}
-use Rattle.grid_machine.specs.State.{state_of, lit_ground}
+use Rattle.grid_machine.specs.State.{state_of, lit_ground, is_known, ReadyIn}
 use Rattle.grid_machine.proofs.Answering.{answer_near, class_is}
-use Rattle.grid_machine.proofs.Kept.{kept_on, runs_kept, NearBy, StepsBy}
+use Rattle.grid_machine.proofs.Kept.{kept_on, has_kept, ready_kept, runs_kept, NearBy, StepsBy}
 use Rattle.grid_machine.proofs.Validity.{light_registers_pass}
 use Rattle.grid_machine.proofs.machine.Machine.asked.Goals as goal
+
+pub assign_all-requires : goal.assign_all-requires
+assign_all-requires c =
+    let k1 = c.reset.ensures.kept in
+    record {
+      whole = k1.whole;
+      has = subst (λ f. list_all (has f.now.varying.now f.now.uniform.now) c.args.registers.now ≡ true) (sym k1.frame) c.requires.has;
+      known = subst (λ f. list_all (is_known f.now.setting.texts.now) c.args.values.now ≡ true) (sym k1.frame) c.requires.known;
+      shapes = c.requires.light.shapes ∙ ap (map register_shape) (sym c.requires.registers);
+    }
+
+pub set_triples-requires : goal.set_triples-requires
+set_triples-requires c =
+    let m0 = c.args.self.now in
+    let m2 = c.assign_all.new.self in
+    let k2 = kept_on m0 c.reset.new.self m2 c.reset.ensures.kept c.assign_all.ensures.kept in
+    record { whole = k2.whole; has = has_kept m0 m2 (name_at names.Ps) k2 (light_registers_pass _ c.args.code.now.kind c.requires.light.kind c.requires.names).1.1.1 }
+
+pub run_block-requires-clause-ready : goal.run_block-requires-clause-ready
+run_block-requires-clause-ready c =
+    let m0 = c.args.self.now in
+    let k2 = kept_on m0 c.reset.new.self c.assign_all.new.self c.reset.ensures.kept c.assign_all.ensures.kept in
+    let k4 = kept_on m0 c.assign_all.new.self c.set_triples.new.self k2 c.set_triples.ensures.kept in
+    ready_kept m0 c.set_triples.new.self (block_of c.as_slice.result.now) k4 (subst (λ ns. ReadyIn m0 (block_of ns)) (sym c.as_slice.ensures) c.requires.ready)
+
+pub left-requires : goal.left-requires
+left-requires c =
+    let m0 = c.args.self.now in
+    let m2 = c.assign_all.new.self in
+    let m4 = c.set_triples.new.self in
+    let m5 = c.run_block.new.m in
+    let k4 = kept_on m0 m2 m4 (kept_on m0 c.reset.new.self m2 c.reset.ensures.kept c.assign_all.ensures.kept) c.set_triples.ensures.kept in
+    let k5 = kept_on m0 m4 m5 k4 c.run_block.ensures.kept in
+    let all = light_registers_pass _ c.args.code.now.kind c.requires.light.kind c.requires.names in
+    record { whole = k5.whole; direction = has_kept m0 m5 (name_at names.L) k5 all.0; colour = has_kept m0 m5 (name_at names.Cl) k5 all.1.0; lit = has_kept m0 m5 lit_at k5 all.1.1.0 }
+
+pub returns-clause-kept : goal.returns-clause-kept
+returns-clause-kept c =
+    let m0 = c.args.self.now in
+    let m2 = c.assign_all.new.self in
+    let m4 = c.set_triples.new.self in
+    kept_on m0 m4 c.run_block.new.m (kept_on m0 m2 m4 (kept_on m0 c.reset.new.self m2 c.reset.ensures.kept c.assign_all.ensures.kept) c.set_triples.ensures.kept) c.run_block.ensures.kept
 
 pub returns-clause-each : goal.returns-clause-each
 returns-clause-each c q e i l =

@@ -1,4 +1,4 @@
-use Rattle.std.proofs.Common.{◌+◌, ◌*◌, get_or, refl, sym, ap, ◌∙◌, arith}
+use Rattle.std.proofs.Common.{◌+◌, ◌*◌, refl, sym, ap, ◌∙◌, arith}
 use Rattle.std.proofs.lemmas.List.{get_or-replicate}
 use Rattle.grid_code.specs.Uses.{numbers_of}
 use Rattle.grid_machine.specs.Cells.{value_of}
@@ -8,14 +8,15 @@ use Rattle.grid_machine.proofs.machine.Machine.fresh.Goals as goal
 
 pub returns-clause-near : goal.returns-clause-near
 returns-clause-near c =
-    let f = c.args.frame.now in
+    let r = c.in_ok-registers in
+    let f = r.registers.frame.now in
     let ts = f.setting.texts.now in
     let few = f.few in
     record {
-      rows = λ s k i h l. zero_is ts s ∙ ap (value_of ts) (sym (c.in_ok-rows.ensures.zero s (rank (numbers_of f.varying.now s) k * f.places + i)));
-      shared = λ s k h. zero_is ts s ∙ ap (value_of ts) (sym (c.in_ok-shared.ensures.zero s (rank (numbers_of f.uniform.now s) k)));
+      rows = λ s k i h l. zero_is ts s ∙ ap (value_of ts) (sym (r.ensures.rows s (rank (numbers_of f.varying.now s) k * f.places + i)));
+      shared = λ s k h. zero_is ts s ∙ ap (value_of ts) (sym (r.ensures.shared s (rank (numbers_of f.uniform.now s) k)));
       turns = refl;
-      own = λ i l. sym (ap (λ xs. get_or xs i 0) c.in_ok-own.ensures ∙ get_or-replicate f.places i 65536 0 l);
+      own = λ i l. sym (get_or-replicate 289 i 65536 0 (omega arith));
       live = λ i l. sym (c.full.ensures i (omega arith));
       staying = λ i l. sym (c.full-2.ensures i (omega arith));
     }

@@ -1,9 +1,25 @@
-use Rattle.std.proofs.Common.{sym, length}
+use Rattle.std.proofs.Common.{sym, length, arith}
 use Rattle.std.proofs.lemmas.Bool.{ltb-true, ltb-false}
+use Rattle.builtins.specs.declared.shape.Shape.TheVariants as shapes
+use Rattle.grid_code.specs.declared.code.Register.TheVariants.{Uniform}
+use Rattle.grid_code.specs.Uses.{has}
 use Rattle.grid_machine.specs.State.{state_of}
-use Rattle.grid_machine.proofs.Totals.{few_specular, many_specular}
+use Rattle.grid_machine.proofs.Loads.{item_passes}
+use Rattle.grid_machine.proofs.Totals.{specular_is, few_specular, many_specular}
 use Rattle.grid_machine.proofs.machine.Machine.specular.Goals.{in_default-via-then-args-lt3, in_default-via-else-args-lt3+else-args-lt4}
 use Rattle.grid_machine.proofs.machine.Machine.specular.Goals as goal
+
+pub points-requires-clause-has : goal.points-requires-clause-has
+points-requires-clause-has c = let f = c.args.self.now.registers.frame.now in item_passes (has f.varying.now f.uniform.now) c.args.args.now 0 (Uniform shapes.Number 0) (let l = c.in-len3.len_at_least in omega arith) c.requires.has
+
+pub points-requires-in-len3-clause-has : goal.points-requires-in-len3-clause-has
+points-requires-in-len3-clause-has c = let f = c.args.self.now.registers.frame.now in item_passes (has f.varying.now f.uniform.now) c.args.args.now 1 (Uniform shapes.Number 0) (let l = c.in-len3.len_at_least in omega arith) c.requires.has
+
+pub numbers-requires-clause-has : goal.numbers-requires-clause-has
+numbers-requires-clause-has c = let f = c.args.self.now.registers.frame.now in item_passes (has f.varying.now f.uniform.now) c.args.args.now 2 (Uniform shapes.Number 0) (let l = c.in-len3.len_at_least in omega arith) c.requires.has
+
+pub returns-in-len3 : goal.returns-in-len3
+returns-in-len3 c i l b = specular_is (state_of c.args.self.now) c.args.args.now i l _ _ _ (let a = c.in-len3.len_at_least in let b = c.in-len3.len_below in omega arith) (c.points.ensures i b) (c.points-in-len3.ensures i b) (c.numbers.ensures i b)
 
 pub returns-in_default : goal.returns-in_default
 returns-in_default c =

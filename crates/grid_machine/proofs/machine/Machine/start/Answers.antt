@@ -1,4 +1,4 @@
-use Rattle.std.proofs.Common.{◌≡◌, ◌<◌, true, sym, subst, arith, ⊎_elim}
+use Rattle.std.proofs.Common.{◌≡◌, ◌<◌, true, refl, sym, subst, arith, ⊎_elim}
 use Rattle.std.specs.List.{list_all}
 use Rattle.sl_ast.specs.Variables.{variables}
 use Rattle.sl_ast.specs.declared.kinds.SlKind.{SlKind}
@@ -9,10 +9,31 @@ use Rattle.grid_code.specs.Names.{name_at}
 use Rattle.grid_code.specs.Uses.{has, names_at}
 use Rattle.grid_machine.specs.Run.{started}
 use Rattle.grid_machine.specs.State.{state_of, NearIn}
-use Rattle.grid_machine.proofs.Kept.{written_kept}
+use Rattle.grid_machine.proofs.Kept.{has_kept, written_kept}
 use Rattle.grid_machine.proofs.Loads.{item_passes}
 use Rattle.grid_machine.proofs.Starts.{copy_written}
 use Rattle.grid_machine.proofs.machine.Machine.start.Goals as goal
+
+pub copy-requires : goal.copy-requires
+copy-requires c =
+    let f = c.args.self.now.registers.frame.now in
+    let p = has f.varying.now f.uniform.now in
+    let h = subst (λ k. list_all p (names_at k) ≡ true) c.in-Surface.is c.requires.has in
+    record { whole = c.requires.whole; to = item_passes p (names_at Surface) 18 (name_at names.Pi) (omega arith) h; from = item_passes p (names_at Surface) 12 (name_at names.Pi) (omega arith) h; shape = refl }
+
+pub copy-requires-in-Surface : goal.copy-requires-in-Surface
+copy-requires-in-Surface c =
+    let m = c.args.self.now in
+    let f = m.registers.frame.now in
+    let p = has f.varying.now f.uniform.now in
+    let h = subst (λ k. list_all p (names_at k) ≡ true) c.in-Surface.is c.requires.has in
+    let k1 = c.copy.ensures.kept in
+    record {
+      whole = k1.whole;
+      to = has_kept m c.copy.new.self (name_at names.Oi) k1 (item_passes p (names_at Surface) 19 (name_at names.Pi) (omega arith) h);
+      from = has_kept m c.copy.new.self (name_at names.Os) k1 (item_passes p (names_at Surface) 13 (name_at names.Pi) (omega arith) h);
+      shape = refl;
+    }
 
 pub returns-in-Surface-clause-near : goal.returns-in-Surface-clause-near
 returns-in-Surface-clause-near c g near =

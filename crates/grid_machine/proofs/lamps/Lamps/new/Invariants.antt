@@ -4,7 +4,7 @@ use Rattle.std.specs.List.{list_all}
 use Rattle.grid_machine.specs.Asked.{asked_all}
 use Rattle.grid_machine.specs.Lamps.{places_by, asked_by}
 use Rattle.grid_machine.specs.State.{lines_of}
-use Rattle.grid_machine.proofs.lamps.Lamps.lay_out.Given as goal
+use Rattle.grid_machine.proofs.lamps.Lamps.new.Given as goal
 
 abbrev pub invariant-loop-n : goal.invariant-loop-n
 invariant-loop-n g l =

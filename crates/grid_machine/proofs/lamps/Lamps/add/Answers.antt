@@ -1,0 +1,26 @@
+use Rattle.std.proofs.Common.{◌++◌, ◌∷◌, [], map, ap, ◌∙◌}
+use Rattle.std.proofs.lemmas.List.{map-append}
+use Rattle.grid_machine.specs.Asked.{asked}
+use Rattle.grid_machine.specs.Lamps.{places_by, asked_by}
+use Rattle.grid_machine.specs.State.{lines_of}
+use Rattle.grid_machine.proofs.lamps.Lamps.add.Goals as goal
+
+pub returns-clause-places : goal.returns-clause-places
+returns-clause-places g c =
+    let xs = c.args.lamps.now.items in
+    ap (map places_by) c.in_ok-push.ensures.items ∙ map-append places_by xs (c.in_ok-lamp.lamp ∷ []) ∙ ap (λ p. map places_by xs ++ p ∷ []) c.in_ok-lamp.ensures.places
+
+pub returns-clause-asked : goal.returns-clause-asked
+returns-clause-asked g c =
+    let xs = c.args.lamps.now.items in
+    let grid = c.args.grid.now in
+    let lines = lines_of grid in
+    let n = c.args.n in
+    let spaces = g.L.Lights.places c.args.lights.now in
+    let codes = g.L.Lights.codes c.args.lights.now in
+    ap (map asked_by) c.in_ok-push.ensures.items ∙ map-append asked_by xs (c.in_ok-lamp.lamp ∷ [])
+    ∙ ap (λ f. map asked_by xs ++ f ∷ [])
+    (c.in_ok-lamp.ensures.asked
+    ∙ ap (λ s. asked lines grid.places s c.code.result.now c.values.result.now) c.spaces.ensures
+    ∙ ap (λ k. asked lines grid.places (spaces n) k c.values.result.now) c.code.ensures
+    ∙ ap (λ vs. asked lines grid.places (spaces n) (codes n) vs) c.values.ensures)
