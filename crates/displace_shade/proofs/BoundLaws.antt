@@ -36,10 +36,10 @@ use Rattle.displace_shade.specs.Shaded.{bound_with}
 use Rattle.displace_shade.specs.Points.{Leaf, normal_of, u_at, v_at, dpdu, dpdv}
 use Rattle.displace_shade.specs.Variables.{s_at, t_at, cs_at, os_at, values_at}
 use Rattle.displace_shade.specs.Bindings.{FitVariables}
-use Rattle.grid_machine.specs.Run.{begun, lines_given, Leaves}
+use Rattle.grid_machine.specs.Run.{row_length, begun, lines_given, Leaves}
 use Rattle.displace_shade.specs.Rows.{AreRows, AreRowable, values_of, slot_of}
 use Rattle.displace_shade.specs.Given.{param_rows}
-use Rattle.displace_shade.specs.Diced.{point_count, over, ArePlaces}
+use Rattle.displace_shade.specs.Diced.{point_count, over, ArePlaces, AreLong}
 use Rattle.displace_shade.specs.Lamps.{lamp_asked}
 use Rattle.displace_shade.specs.Shop.{Runs}
 use Rattle.displace_shade.specs.declared.bound.BoundShader.{BoundShader}
@@ -117,17 +117,6 @@ module _ (b : BoundShader) (r : Runs b) where
   bound_names = names_count
 
 -- the lengths of what doesn't change
-pub record AreLong (c : ℕ) (f : Places) : Type 0 where
-  pub normals : length f.normals.now ≡ c
-  pub u : length f.u.now ≡ c
-  pub v : length f.v.now ≡ c
-  pub s : length f.s.now ≡ c
-  pub t : length f.t.now ≡ c
-  pub cs : length f.cs.now ≡ c
-  pub os : length f.os.now ≡ c
-  pub dpdu : length f.dpdu.now ≡ c
-  pub dpdv : length f.dpdv.now ≡ c
-
 pub places_long : (l : Leaf) (f : Places) (c : ℕ) → ArePlaces l f → c ≡ point_count l → AreLong c f
 places_long l f c h e =
     record {
@@ -148,6 +137,11 @@ places_long l f c h e =
 -- the rows that are written back to where they were
 pub written_back : (n : ℕ) (new items : List ℤ) → length new ≡ n → take n (new ++ drop (length new) items) ≡ new
 written_back n new items e = take_at new (drop (length new) items) n e
+
+-- lengths by the code and the grid that are read are those by the ones that are given
+pub read_long : (height : Code → ℕ) (k k' : Code) (m m' w w' n : ℕ) → k ≡ k' → m ≡ m' → w ≡ w' → n ≡ height k' * row_length (m' * w') → n ≡ height k * row_length (m * w)
+read_long height k k' m m' w w' n ek em ew e =
+    e ∙ ap (λ q. height q * row_length (m' * w')) (sym ek) ∙ ap (λ q. height k * row_length (q * w')) (sym em) ∙ ap (λ q. height k * row_length (m * q)) (sym ew)
 
 abbrev Left : Code → List Value → ℕ → ℕ → List ℤ → List ℤ → Spaces → List Lamp → Type 0
 Left k us m w vr out sp lamps =

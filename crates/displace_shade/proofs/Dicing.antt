@@ -12,10 +12,9 @@ use Rattle.dice.proofs.Grids.{diced_at, length-diced_points}
 use Rattle.sl_ast.specs.declared.kinds.Predefined.{Predefined}
 use Rattle.sl_ast.specs.declared.kinds.Predefined.TheVariants as names
 use Rattle.sl_ast.specs.declared.typed.Value.TheVariants.{Triple}
-use Rattle.displace_shade.specs.Points.{Leaf, columns, rows, own_u, own_v, point_at, normal_of, sight, turned, flat_or, u_at, v_at, dpdu, dpdv}
-use Rattle.displace_shade.specs.Variables.{n_at, s_at, t_at, cs_at, os_at, diced_names}
-use Rattle.displace_shade.specs.Diced.{point_count, over, names_of, Hold, IsSized, ArePlaces}
-use Rattle.displace_shade.specs.declared.places.Places.{Places}
+use Rattle.displace_shade.specs.Points.{Leaf, columns, rows, own_u, own_v, point_at, normal_of, sight, turned, flat_or}
+use Rattle.displace_shade.specs.Variables.{n_at, diced_names}
+use Rattle.displace_shade.specs.Diced.{point_count, over, names_of, Hold, IsSized}
 use Rattle.displace_shade.specs.declared.variables.Variables.{Variables}
 use Rattle.displace_shade.proofs.Over.{over_all, over_at, over_long}
 
@@ -68,7 +67,3 @@ first_sized l d ps e ep en es =
       normals = ap (λ xs. length xs) en ∙ over_long (n_at l) (point_count l);
       sights = ap (λ xs. length xs) es ∙ length-map ps (sight l.camera) ∙ long;
     }
-
-pub first_places : (l : Leaf) (f : Places) → f.normals.now ≡ over (point_count l) (normal_of l) → f.u.now ≡ over (point_count l) (u_at l) → f.v.now ≡ over (point_count l) (v_at l) → f.s.now ≡ over (point_count l) (s_at l) → f.t.now ≡ over (point_count l) (t_at l) →
-    f.cs.now ≡ over (point_count l) (cs_at l) → f.os.now ≡ over (point_count l) (os_at l) → f.dpdu.now ≡ over (point_count l) (dpdu l) → f.dpdv.now ≡ over (point_count l) (dpdv l) → ArePlaces l f
-first_places l f en eu ev es et ecs eos edu edv = record { normals = en; u = eu; v = ev; s = es; t = et; cs = ecs; os = eos; dpdu = edu; dpdv = edv }

@@ -1,6 +1,6 @@
 -- Rows that hold values, and one value more.
 use Rattle.std.proofs.Common.{◌≡◌, ℕ, ◌+◌, ◌-◌, ◌*◌, ◌<◌, ◌≤◌, ℤ, pos, List, [], ◌∷◌, ◌++◌, length, map, get_or, take, replicate, refl, sym, ap, ◌∙◌, subst, arith, append_assoc, length-append}
-use Rattle.std.proofs.lemmas.List.{get_or_append_left, get_or-append-add, length-map, length-replicate, get_or-replicate, get_or-map, replicate_more, map_more}
+use Rattle.std.proofs.lemmas.List.{get_or_append_left, get_or-append-add, length-map, length-replicate, get_or-replicate, get_or-map, replicate_more, map_more, take_more}
 use Rattle.std.proofs.lemmas.Nat.{mul-le, div-add-mod'}
 use Rattle.std.proofs.Math.Nat.{mod-lt}
 use Rattle.fixed_math.specs.Axes.{part_of, origin}
@@ -19,6 +19,10 @@ use Rattle.displace_shade.specs.Rows.{value_in, HoldList, heights, AreRows, row_
 pub filled_more : (old items new : List ℤ) (n : ℕ) (x y : ℤ) → new ≡ items ++ y ∷ [] → y ≡ x → items ≡ old ++ replicate n x → new ≡ old ++ replicate (n + 1) x
 filled_more old items new n x y e f h =
     e ∙ ap (λ z. items ++ z ∷ []) f ∙ ap (λ zs. zs ++ x ∷ []) h ∙ append_assoc old (replicate n x) (x ∷ []) ∙ ap (λ zs. old ++ zs) (replicate_more n x)
+
+pub numbers_more : (xs : List ℤ) (i : ℕ) (old items new : List ℤ) (y : ℤ) → i < length xs → new ≡ items ++ y ∷ [] → y ≡ get_or xs i (pos 0) → items ≡ old ++ take i xs → new ≡ old ++ take (i + 1) xs
+numbers_more xs i old items new y l e p h =
+    e ∙ ap (λ z. items ++ z ∷ []) p ∙ ap (λ zs. zs ++ get_or xs i (pos 0) ∷ []) h ∙ append_assoc old (take i xs) (get_or xs i (pos 0) ∷ []) ∙ ap (λ zs. old ++ zs) (sym (take_more xs i (pos 0) l))
 
 pub parts_more : (f : Vec3 → ℤ) (xs : List Vec3) (i : ℕ) (old items new : List ℤ) (y : ℤ) (d : Vec3) → i < length xs → new ≡ items ++ y ∷ [] → y ≡ f (get_or xs i d) → items ≡ old ++ map f (take i xs) → new ≡ old ++ map f (take (i + 1) xs)
 parts_more f xs i old items new y d l e p h =

@@ -1,6 +1,6 @@
 -- Lists of what a function gives at the first places.
-use Rattle.std.proofs.Common.{◌≡◌, ℕ, ◌+◌, ◌<◌, List, [], ◌∷◌, ◌++◌, length, map, get_or, sym, ap, ◌∙◌, arith}
-use Rattle.std.proofs.lemmas.List.{get_or-map, length-map}
+use Rattle.std.proofs.Common.{◌≡◌, ℕ, ◌+◌, ◌<◌, List, [], ◌∷◌, ◌++◌, length, map, get_or, take, sym, ap, ◌∙◌, arith}
+use Rattle.std.proofs.lemmas.List.{get_or-map, length-map, map_more}
 use Rattle.std.proofs.lemmas.List.FromFn.{length-map-range_with_len, get_or-map-range_with_len, map-range_with_len_more, fill_by_all}
 use Rattle.displace_shade.specs.Diced.{over}
 
@@ -20,3 +20,7 @@ over_all f xs c d e h = fill_by_all f xs c d e h
 pub over_map : {A B : Type 0} (h : A → B) (f : ℕ → A) (g : ℕ → B) (c : ℕ) (d : A) (e : B) → ((i : ℕ) → h (f i) ≡ g i) → map h (over c f) ≡ over c g
 over_map h f g c d e k =
     over_all g (map h (over c f)) c e (length-map (over c f) h ∙ over_long f c) (λ i l. get_or-map h (over c f) i d e (let m = over_long f c in omega (arith, m, l)) ∙ ap h (over_at f c i d l) ∙ k i)
+
+-- what a function makes of the first elements, and of one more
+pub taken_more : {A B : Type 0} (f : A → B) (xs : List A) (i : ℕ) (items new : List B) (y : B) (d : A) → i < length xs → new ≡ items ++ y ∷ [] → y ≡ f (get_or xs i d) → items ≡ map f (take i xs) → new ≡ map f (take (i + 1) xs)
+taken_more f xs i items new y d l e p h = e ∙ ap (λ z. items ++ z ∷ []) p ∙ ap (λ zs. zs ++ f (get_or xs i d) ∷ []) h ∙ sym (map_more f xs i d l)

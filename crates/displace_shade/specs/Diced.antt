@@ -70,6 +70,18 @@ pub record ArePlaces (l : Leaf) (f : Places) : Type 0 where
   pub dpdu : f.dpdu.now ≡ over (point_count l) (dpdu l)
   pub dpdv : f.dpdv.now ≡ over (point_count l) (dpdv l)
 
+-- one of each for each of c places
+pub record AreLong (c : ℕ) (f : Places) : Type 0 where
+  pub normals : length f.normals.now ≡ c
+  pub u : length f.u.now ≡ c
+  pub v : length f.v.now ≡ c
+  pub s : length f.s.now ≡ c
+  pub t : length f.t.now ≡ c
+  pub cs : length f.cs.now ≡ c
+  pub os : length f.os.now ≡ c
+  pub dpdu : length f.dpdu.now ≡ c
+  pub dpdv : length f.dpdv.now ≡ c
+
 -- the grid that they make, with opacities put into their range
 abbrev pub grid_value : GridRef → GridValue
 grid_value g = record { columns = g.columns; rows = g.rows; points = g.p.now; colours = g.ci.now; opacities = g.oi.now }

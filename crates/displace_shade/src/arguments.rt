@@ -69,13 +69,12 @@ fn first_of(leaf: &Leaf, variable: &Variable) -> Vec3
 fn value_at(alloc: Global, leaf: &Leaf, variable: &Variable) -> Result<Value, NoMemory>
     ensures { IfOk result (λ v. v ≡ value_in leaf.now variable.now 0) }
 {
-    let value = value_by(
+    value_by(
         alloc,
         kind_of(variable),
         held_by(variable),
         first_of(leaf, variable),
-    )?;
-    Ok(value)
+    )
 }
 
 /// A parameter's value at the first point.
@@ -115,8 +114,7 @@ fn push_variable<A: Allocator>(
 {
     let _points = leaf.point_count();
     let numbers = spread(arena, leaf, variable, false)?;
-    push_by(rows, kind_of(variable), numbers)?;
-    Ok(())
+    push_by(rows, kind_of(variable), numbers)
 }
 
 /// Appends the rows of a parameter's value at all points.

@@ -3,10 +3,10 @@ ghost use Rattle.std.specs.Prelude.{◌≡◌, ◌≤◌, [], length, map, IfOk}
 ghost use Rattle.patches.specs.Patches.{patch_point, patch_du, patch_dv};
 ghost use Rattle.dice.specs.Grids.{diced_points};
 ghost use Rattle.dice.specs.Normals.{normal};
-ghost use Rattle.displace_shade.specs.Points.{columns as column_count, rows as row_count, normal_of, sight, u_at, v_at, dpdu, dpdv};
-ghost use Rattle.displace_shade.specs.Variables.{n_at, s_at, t_at, cs_at, os_at};
+ghost use Rattle.displace_shade.specs.Points.{columns as column_count, rows as row_count, normal_of, sight};
+ghost use Rattle.displace_shade.specs.Variables.{n_at};
 ghost use Rattle.displace_shade.specs.Shaded.{opacity};
-ghost use Rattle.displace_shade.specs.Diced.{point_count, over};
+ghost use Rattle.displace_shade.specs.Diced.{point_count, over, ArePlaces};
 
 use crate::leaf::{Along, Leaf};
 use crate::moves::{kept_opacities, primitive_normals, sights};
@@ -43,8 +43,7 @@ pub(crate) fn geometric_normals<'a>(
     requires { units.now ≡ diced_points (normal (patch_du leaf.now.prim.patch) (patch_dv leaf.now.prim.patch)) leaf.now.part leaf.now.p leaf.now.q }
     ensures { IfOk result (λ ns. ns.now ≡ over (point_count leaf.now) (normal_of leaf.now)) }
 {
-    let normals = primitive_normals(arena, leaf.flat(), leaf.flip(), units)?;
-    Ok(normals)
+    primitive_normals(arena, leaf.flat(), leaf.flip(), units)
 }
 
 /// The variables of the points of a leaf before any shader runs, from its points and geometric normals.
@@ -62,12 +61,15 @@ pub(crate) fn first_variables<'a>(
     ensures opacities { IfOk result (λ d. d.opacities.now ≡ []) }
 {
     let camera = leaf.camera;
+    let normals = normals_or(arena, leaf, geometric)?;
+    let directions = sights(arena, camera.view(), points)?;
+    let none = none(arena);
     Ok(Variables {
         points,
-        normals: normals_or(arena, leaf, geometric)?,
-        sights: sights(arena, camera.view(), points)?,
-        colours: none(arena),
-        opacities: none(arena),
+        normals,
+        sights: directions,
+        colours: none,
+        opacities: none,
     })
 }
 
@@ -77,26 +79,27 @@ pub(crate) fn places_of<'a>(
     leaf: &Leaf,
     normals: &'a [Vec3],
 ) -> Result<Places<'a>, NoMemory>
-    ensures normals { IfOk result (λ f. f.normals.now ≡ normals.now) }
-    ensures u { IfOk result (λ f. f.u.now ≡ over (point_count leaf.now) (u_at leaf.now)) }
-    ensures v { IfOk result (λ f. f.v.now ≡ over (point_count leaf.now) (v_at leaf.now)) }
-    ensures s { IfOk result (λ f. f.s.now ≡ over (point_count leaf.now) (s_at leaf.now)) }
-    ensures t { IfOk result (λ f. f.t.now ≡ over (point_count leaf.now) (t_at leaf.now)) }
-    ensures cs { IfOk result (λ f. f.cs.now ≡ over (point_count leaf.now) (cs_at leaf.now)) }
-    ensures os { IfOk result (λ f. f.os.now ≡ over (point_count leaf.now) (os_at leaf.now)) }
-    ensures dpdu { IfOk result (λ f. f.dpdu.now ≡ over (point_count leaf.now) (dpdu leaf.now)) }
-    ensures dpdv { IfOk result (λ f. f.dpdv.now ≡ over (point_count leaf.now) (dpdv leaf.now)) }
+    requires { normals.now ≡ over (point_count leaf.now) (normal_of leaf.now) }
+    ensures { IfOk result (λ f. ArePlaces leaf.now f) }
 {
+    let u = parameters(arena, leaf, Along::U)?;
+    let v = parameters(arena, leaf, Along::V)?;
+    let s = texture_or(arena, leaf, "s", Along::U, Axis::X)?;
+    let t = texture_or(arena, leaf, "t", Along::V, Axis::Y)?;
+    let cs = first_colours(arena, leaf)?;
+    let os = first_opacities(arena, leaf)?;
+    let dpdu = derivatives(arena, leaf, Along::U)?;
+    let dpdv = derivatives(arena, leaf, Along::V)?;
     Ok(Places {
         normals,
-        u: parameters(arena, leaf, Along::U)?,
-        v: parameters(arena, leaf, Along::V)?,
-        s: texture_or(arena, leaf, "s", Along::U, Axis::X)?,
-        t: texture_or(arena, leaf, "t", Along::V, Axis::Y)?,
-        cs: first_colours(arena, leaf)?,
-        os: first_opacities(arena, leaf)?,
-        dpdu: derivatives(arena, leaf, Along::U)?,
-        dpdv: derivatives(arena, leaf, Along::V)?,
+        u,
+        v,
+        s,
+        t,
+        cs,
+        os,
+        dpdu,
+        dpdv,
     })
 }
 

@@ -1,6 +1,7 @@
 // What runs of shaders are given.
 ghost use Rattle.std.specs.Prelude.{◌≡◌, ◌≤◌, ◌++◌, true, length, IfOk};
 ghost use Rattle.sl_ast.specs.TreeView.{tree_of};
+ghost use Rattle.displace_shade.specs.Diced.{AreLong};
 ghost use Rattle.displace_shade.specs.Given.{param_rows, with_points, with_sights, with_parameters, with_look, with_rest, surface_rows as surface_list, displacement_rows as displacement_list, volume_rows as volume_list};
 
 use crate::arguments::params_given;
@@ -10,6 +11,7 @@ use crate::places::Places;
 use crate::rows::{push_numbers, push_triples};
 use crate::variables::Variables;
 use bumpalo::Bump;
+use bumpalo::collections::into_bump_slice;
 use fixed_math::{NoMemory, Num};
 use std::alloc::Allocator;
 
@@ -74,15 +76,7 @@ fn push_rest<A: Allocator>(
 ) -> Result<(), NoMemory>
     requires few { points ≤ 289 }
     requires sights { length variables.now.sights.now ≡ points }
-    requires geometric { length places.now.normals.now ≡ points }
-    requires u { length places.now.u.now ≡ points }
-    requires v { length places.now.v.now ≡ points }
-    requires s { length places.now.s.now ≡ points }
-    requires t { length places.now.t.now ≡ points }
-    requires cs { length places.now.cs.now ≡ points }
-    requires os { length places.now.os.now ≡ points }
-    requires dpdu { length places.now.dpdu.now ≡ points }
-    requires dpdv { length places.now.dpdv.now ≡ points }
+    requires places { AreLong points places.now }
     ensures { IfOk result (λ _. rows.new.items ≡ with_rest rows.old.items places.now variables.now) }
 {
     push_sights(rows, places, variables)?;
@@ -98,28 +92,20 @@ pub(crate) fn surface_rows<'a>(
     points: usize,
     places: &Places,
     variables: &Variables,
-) -> Result<Vec<Num, &'a Bump>, NoMemory>
+) -> Result<&'a [Num], NoMemory>
     requires few { points ≤ 289 }
     requires named { length (tree_of bound.now.compiled.now.tree).params ≡ length bound.now.compiled.now.code.params }
     requires counted { length bound.now.values.now ≡ length bound.now.compiled.now.code.params }
     requires points { length variables.now.points.now ≡ points }
     requires normals { length variables.now.normals.now ≡ points }
     requires sights { length variables.now.sights.now ≡ points }
-    requires geometric { length places.now.normals.now ≡ points }
-    requires u { length places.now.u.now ≡ points }
-    requires v { length places.now.v.now ≡ points }
-    requires s { length places.now.s.now ≡ points }
-    requires t { length places.now.t.now ≡ points }
-    requires cs { length places.now.cs.now ≡ points }
-    requires os { length places.now.os.now ≡ points }
-    requires dpdu { length places.now.dpdu.now ≡ points }
-    requires dpdv { length places.now.dpdv.now ≡ points }
-    ensures { IfOk result (λ rows. rows.items ≡ surface_list (param_rows leaf.now (tree_of bound.now.compiled.now.tree).params bound.now.compiled.now.code.params bound.now.values.now) places.now variables.now) }
+    requires places { AreLong points places.now }
+    ensures { IfOk result (λ rows. rows.now ≡ surface_list (param_rows leaf.now (tree_of bound.now.compiled.now.tree).params bound.now.compiled.now.code.params bound.now.values.now) places.now variables.now) }
 {
     let mut rows = params_given(arena, leaf, bound)?;
     push_points(&mut rows, variables)?;
     push_rest(&mut rows, points, places, variables)?;
-    Ok(rows)
+    Ok(into_bump_slice(rows))
 }
 
 /// The rows that a displacement is given.
@@ -130,28 +116,20 @@ pub(crate) fn displacement_rows<'a>(
     points: usize,
     places: &Places,
     variables: &Variables,
-) -> Result<Vec<Num, &'a Bump>, NoMemory>
+) -> Result<&'a [Num], NoMemory>
     requires few { points ≤ 289 }
     requires named { length (tree_of bound.now.compiled.now.tree).params ≡ length bound.now.compiled.now.code.params }
     requires counted { length bound.now.values.now ≡ length bound.now.compiled.now.code.params }
     requires points { length variables.now.points.now ≡ points }
     requires normals { length variables.now.normals.now ≡ points }
     requires sights { length variables.now.sights.now ≡ points }
-    requires geometric { length places.now.normals.now ≡ points }
-    requires u { length places.now.u.now ≡ points }
-    requires v { length places.now.v.now ≡ points }
-    requires s { length places.now.s.now ≡ points }
-    requires t { length places.now.t.now ≡ points }
-    requires cs { length places.now.cs.now ≡ points }
-    requires os { length places.now.os.now ≡ points }
-    requires dpdu { length places.now.dpdu.now ≡ points }
-    requires dpdv { length places.now.dpdv.now ≡ points }
-    ensures { IfOk result (λ rows. rows.items ≡ displacement_list (param_rows leaf.now (tree_of bound.now.compiled.now.tree).params bound.now.compiled.now.code.params bound.now.values.now) places.now variables.now) }
+    requires places { AreLong points places.now }
+    ensures { IfOk result (λ rows. rows.now ≡ displacement_list (param_rows leaf.now (tree_of bound.now.compiled.now.tree).params bound.now.compiled.now.code.params bound.now.values.now) places.now variables.now) }
 {
     let mut rows = params_given(arena, leaf, bound)?;
     push_rest(&mut rows, points, places, variables)?;
     push_points(&mut rows, variables)?;
-    Ok(rows)
+    Ok(into_bump_slice(rows))
 }
 
 /// The rows that a volume is given.
@@ -161,7 +139,7 @@ pub(crate) fn volume_rows<'a>(
     bound: &BoundShader,
     points: usize,
     variables: &Variables,
-) -> Result<Vec<Num, &'a Bump>, NoMemory>
+) -> Result<&'a [Num], NoMemory>
     requires few { points ≤ 289 }
     requires named { length (tree_of bound.now.compiled.now.tree).params ≡ length bound.now.compiled.now.code.params }
     requires counted { length bound.now.values.now ≡ length bound.now.compiled.now.code.params }
@@ -169,12 +147,12 @@ pub(crate) fn volume_rows<'a>(
     requires sights { length variables.now.sights.now ≡ points }
     requires colours { length variables.now.colours.now ≡ points }
     requires opacities { length variables.now.opacities.now ≡ points }
-    ensures { IfOk result (λ rows. rows.items ≡ volume_list (param_rows leaf.now (tree_of bound.now.compiled.now.tree).params bound.now.compiled.now.code.params bound.now.values.now) variables.now) }
+    ensures { IfOk result (λ rows. rows.now ≡ volume_list (param_rows leaf.now (tree_of bound.now.compiled.now.tree).params bound.now.compiled.now.code.params bound.now.values.now) variables.now) }
 {
     let mut rows = params_given(arena, leaf, bound)?;
     push_triples(&mut rows, variables.points)?;
     push_triples(&mut rows, variables.sights)?;
     push_triples(&mut rows, variables.colours)?;
     push_triples(&mut rows, variables.opacities)?;
-    Ok(rows)
+    Ok(into_bump_slice(rows))
 }

@@ -12,7 +12,7 @@ use std::marker::Model;
 use transforms::{Affine, Camera};
 
 /// One of both directions of a surface's parameters.
-#[derive(Clone, Copy, Debug, PartialEq, Eq)]
+#[derive(Clone, Copy)]
 pub(crate) enum Along {
     U,
     V,

@@ -5,6 +5,7 @@ ghost use Rattle.grid_machine.specs.Run.{row_length};
 ghost use Rattle.displace_shade.specs.Rows.{row_of, triple_rows, value_rows, AreRaws};
 
 use bumpalo::Bump;
+use bumpalo::collections::into_bump_slice;
 use fixed_math::{Axis, NoMemory, Num, Vec3};
 use sl_ast::Value;
 use std::alloc::Allocator;
@@ -111,13 +112,13 @@ pub(crate) fn push_value<A: Allocator>(
 }
 
 /// The raws of rows.
-pub(crate) fn raws_of<'a>(arena: &'a Bump, rows: &[Num]) -> Result<Vec<i64, &'a Bump>, NoMemory>
-    ensures value { IfOk result (λ raws. raws.items ≡ rows.now) }
-    ensures small { IfOk result (λ raws. AreRaws raws.items) }
+pub(crate) fn raws_of<'a>(arena: &'a Bump, rows: &[Num]) -> Result<&'a [i64], NoMemory>
+    ensures value { IfOk result (λ raws. raws.now ≡ rows.now) }
+    ensures small { IfOk result (λ raws. AreRaws raws.now) }
 {
     let mut raws = Vec::new(arena);
     for number in rows {
         raws.push(number.raw())?;
     }
-    Ok(raws)
+    Ok(into_bump_slice(raws))
 }

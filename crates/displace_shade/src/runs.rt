@@ -31,6 +31,7 @@ use crate::places::Places;
 use crate::rows::{length_of_row, raws_of};
 use crate::variables::Variables;
 use bumpalo::Bump;
+use bumpalo::collections::into_bump_slice;
 use fixed_math::{NoMemory, Num, Vec3};
 use grid_machine::{Inputs, run};
 use sl_ast::Value;
@@ -74,15 +75,15 @@ fn run_on<'a, 's>(
     lamps: &[Lamp<'s, 'a>],
     uniforms: &[Value],
     rows: &[Num],
-) -> Result<Vec<i64, &'a Bump>, NoMemory>
+) -> Result<&'a [i64], NoMemory>
     requires kind { is_light bound.now.compiled.now.code.kind ≡ false }
     requires written { rows_of (written_names bound.now.compiled.now.code.kind) ≡ 6 }
     requires lamps { All (IsLamp leaf.now) lamps.now }
     requires uniforms { map shape_of_value uniforms.now ≡ map register_shape (uniform_inputs bound.now.compiled.now.code.kind bound.now.compiled.now.code.params) }
     requires rows { length rows.now ≡ rows_of (varying_inputs bound.now.compiled.now.code.kind bound.now.compiled.now.code.params) * row_length (point_count leaf.now) }
-    ensures long { IfOk result (λ out. length out.items ≡ 6 * row_length (point_count leaf.now)) }
-    ensures small { IfOk result (λ out. AreRaws out.items) }
-    ensures values { IfOk result (λ out. Leaves bound.now.compiled.now.code.kind (point_count leaf.now) out.items (masked (block_of bound.now.compiled.now.code.nodes) record { lines = lines_given (column_count leaf.now) (row_count leaf.now) bound.now.compiled.now.code.params uniforms.now; spaces = maps_of leaf.now (bound_value bound.now); lights = map (lamp_asked (lines_given (column_count leaf.now) (row_count leaf.now) bound.now.compiled.now.code.params uniforms.now) (point_count leaf.now)) lamps.now } (point_count leaf.now) 65536 (begun bound.now.compiled.now.code.kind bound.now.compiled.now.code.params (point_count leaf.now) uniforms.now rows.now))) }
+    ensures long { IfOk result (λ out. length out.now ≡ 6 * row_length (point_count leaf.now)) }
+    ensures small { IfOk result (λ out. AreRaws out.now) }
+    ensures values { IfOk result (λ out. Leaves bound.now.compiled.now.code.kind (point_count leaf.now) out.now (masked (block_of bound.now.compiled.now.code.nodes) record { lines = lines_given (column_count leaf.now) (row_count leaf.now) bound.now.compiled.now.code.params uniforms.now; spaces = maps_of leaf.now (bound_value bound.now); lights = map (lamp_asked (lines_given (column_count leaf.now) (row_count leaf.now) bound.now.compiled.now.code.params uniforms.now) (point_count leaf.now)) lamps.now } (point_count leaf.now) 65536 (begun bound.now.compiled.now.code.kind bound.now.compiled.now.code.params (point_count leaf.now) uniforms.now rows.now))) }
 {
     let raws = raws_of(arena, rows)?;
     let spaces = kept(arena, spaces_of(leaf, bound.space))?;
@@ -92,7 +93,7 @@ fn run_on<'a, 's>(
         columns: leaf.columns(),
         rows: leaf.rows(),
         uniforms,
-        varyings: &raws,
+        varyings: raws,
         spaces,
     };
     let compiled = bound.compiled;
@@ -103,7 +104,7 @@ fn run_on<'a, 's>(
     };
     let lights = Lamps { lamps, spare };
     run(code, arena, &inputs, &lights, &mut out)?;
-    Ok(out)
+    Ok(into_bump_slice(out))
 }
 
 /// The triples that a run leaves for the points of a leaf, in three rows from row `first` on.
@@ -128,12 +129,12 @@ fn displacement_given<'a>(
     bound: &BoundShader,
     places: &Places,
     variables: &Variables,
-) -> Result<Vec<Num, &'a Bump>, NoMemory>
+) -> Result<&'a [Num], NoMemory>
     requires named { length (tree_of bound.now.compiled.now.tree).params ≡ length bound.now.compiled.now.code.params }
     requires counted { length bound.now.values.now ≡ length bound.now.compiled.now.code.params }
     requires places { ArePlaces leaf.now places.now }
     requires sized { IsSized leaf.now variables.now }
-    ensures { IfOk result (λ rows. rows.items ≡ displacement_list (param_rows leaf.now (tree_of bound.now.compiled.now.tree).params bound.now.compiled.now.code.params bound.now.values.now) places.now variables.now) }
+    ensures { IfOk result (λ rows. rows.now ≡ displacement_list (param_rows leaf.now (tree_of bound.now.compiled.now.tree).params bound.now.compiled.now.code.params bound.now.values.now) places.now variables.now) }
 {
     let points = leaf.point_count();
     displacement_rows(arena, leaf, bound, points, places, variables)
@@ -158,9 +159,9 @@ pub(crate) fn displace<'a>(
 {
     let rows = displacement_given(arena, leaf, bound, places, variables)?;
     let uniforms = surface_values(alloc, leaf, bound)?;
-    let out = run_on(arena, leaf, bound, &[], &uniforms, &rows)?;
-    let points = triples_left(arena, leaf, &out, 0)?;
-    let normals = triples_left(arena, leaf, &out, 3)?;
+    let out = run_on(arena, leaf, bound, &[], &uniforms, rows)?;
+    let points = triples_left(arena, leaf, out, 0)?;
+    let normals = triples_left(arena, leaf, out, 3)?;
     Ok(Variables {
         points,
         normals,
@@ -177,12 +178,12 @@ fn surface_given<'a>(
     bound: &BoundShader,
     places: &Places,
     variables: &Variables,
-) -> Result<Vec<Num, &'a Bump>, NoMemory>
+) -> Result<&'a [Num], NoMemory>
     requires named { length (tree_of bound.now.compiled.now.tree).params ≡ length bound.now.compiled.now.code.params }
     requires counted { length bound.now.values.now ≡ length bound.now.compiled.now.code.params }
     requires places { ArePlaces leaf.now places.now }
     requires sized { IsSized leaf.now variables.now }
-    ensures { IfOk result (λ rows. rows.items ≡ surface_list (param_rows leaf.now (tree_of bound.now.compiled.now.tree).params bound.now.compiled.now.code.params bound.now.values.now) places.now variables.now) }
+    ensures { IfOk result (λ rows. rows.now ≡ surface_list (param_rows leaf.now (tree_of bound.now.compiled.now.tree).params bound.now.compiled.now.code.params bound.now.values.now) places.now variables.now) }
 {
     let points = leaf.point_count();
     surface_rows(arena, leaf, bound, points, places, variables)
@@ -210,9 +211,9 @@ pub(crate) fn colour<'a, 's>(
 {
     let rows = surface_given(arena, leaf, bound, places, variables)?;
     let uniforms = surface_values(alloc, leaf, bound)?;
-    let out = run_on(arena, leaf, bound, lamps, &uniforms, &rows)?;
-    let colours = triples_left(arena, leaf, &out, 0)?;
-    let opacities = triples_left(arena, leaf, &out, 3)?;
+    let out = run_on(arena, leaf, bound, lamps, &uniforms, rows)?;
+    let colours = triples_left(arena, leaf, out, 0)?;
+    let opacities = triples_left(arena, leaf, out, 3)?;
     Ok(Variables {
         points: variables.points,
         normals: variables.normals,
@@ -228,12 +229,12 @@ fn volume_given<'a>(
     leaf: &Leaf,
     bound: &BoundShader,
     variables: &Variables,
-) -> Result<Vec<Num, &'a Bump>, NoMemory>
+) -> Result<&'a [Num], NoMemory>
     requires named { length (tree_of bound.now.compiled.now.tree).params ≡ length bound.now.compiled.now.code.params }
     requires counted { length bound.now.values.now ≡ length bound.now.compiled.now.code.params }
     requires sized { IsSized leaf.now variables.now }
     requires coloured { IsColoured leaf.now variables.now }
-    ensures { IfOk result (λ rows. rows.items ≡ volume_list (param_rows leaf.now (tree_of bound.now.compiled.now.tree).params bound.now.compiled.now.code.params bound.now.values.now) variables.now) }
+    ensures { IfOk result (λ rows. rows.now ≡ volume_list (param_rows leaf.now (tree_of bound.now.compiled.now.tree).params bound.now.compiled.now.code.params bound.now.values.now) variables.now) }
 {
     let points = leaf.point_count();
     volume_rows(arena, leaf, bound, points, variables)
@@ -258,9 +259,9 @@ pub(crate) fn dim<'a>(
 {
     let rows = volume_given(arena, leaf, bound, variables)?;
     let uniforms = uniform_values(alloc, leaf, bound)?;
-    let out = run_on(arena, leaf, bound, &[], &uniforms, &rows)?;
-    let colours = triples_left(arena, leaf, &out, 0)?;
-    let opacities = triples_left(arena, leaf, &out, 3)?;
+    let out = run_on(arena, leaf, bound, &[], &uniforms, rows)?;
+    let colours = triples_left(arena, leaf, out, 0)?;
+    let opacities = triples_left(arena, leaf, out, 3)?;
     Ok(Variables {
         points: variables.points,
         normals: variables.normals,

@@ -53,8 +53,7 @@ fn shaded_piece<'a>(
     ensures { IfOk result (λ grid. (prim : PrimValue) → slice_get frame.now.prims piece.now.prim ≡ Some prim → grid_value grid ≡ shaded (leaf_of frame.now prim piece.now p q) (set_value shaders.now.set.now) shaders.now.uses.now) }
 {
     let leaf = leaf_at(frame, piece, p, q);
-    let grid = shaded_leaf(shaders, arena, &leaf)?;
-    Ok(grid)
+    shaded_leaf(shaders, arena, &leaf)
 }
 
 /// The uses of a scene.

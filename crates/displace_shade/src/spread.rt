@@ -65,16 +65,14 @@ fn triples_or<'a>(
 pub(crate) fn first_colours<'a>(arena: &'a Bump, leaf: &Leaf) -> Result<&'a [Vec3], NoMemory>
     ensures { IfOk result (λ ts. ts.now ≡ over (point_count leaf.now) (cs_at leaf.now)) }
 {
-    let colours = triples_or(arena, leaf, "Cs", leaf.cs())?;
-    Ok(colours)
+    triples_or(arena, leaf, "Cs", leaf.cs())
 }
 
 /// The opacities that shaders begin with.
 pub(crate) fn first_opacities<'a>(arena: &'a Bump, leaf: &Leaf) -> Result<&'a [Vec3], NoMemory>
     ensures { IfOk result (λ ts. ts.now ≡ over (point_count leaf.now) (os_at leaf.now)) }
 {
-    let opacities = triples_or(arena, leaf, "Os", leaf.os())?;
-    Ok(opacities)
+    triples_or(arena, leaf, "Os", leaf.os())
 }
 
 /// One coordinate of triples.
@@ -105,8 +103,7 @@ fn texture_by<'a>(
     ensures { IfOk result (λ xs. xs.now ≡ over (point_count leaf.now) (λ i. texture_part axis (is_pair_of variable.now) (spread_of leaf.now variable.now i))) }
 {
     let values = spread(arena, leaf, variable, false)?;
-    let numbers = parts(arena, values, texture_axis(axis, is_pair(variable)))?;
-    Ok(numbers)
+    parts(arena, values, texture_axis(axis, is_pair(variable)))
 }
 
 /// The coordinate of textures of that name at all points, or the parameter where no variable sets it.
@@ -146,8 +143,7 @@ fn given_normals<'a>(
 {
     let object = leaf.object();
     let vectors = spread(arena, leaf, variable, object.mirrored())?;
-    let normals = units(arena, vectors, leaf.flip())?;
-    Ok(normals)
+    units(arena, vectors, leaf.flip())
 }
 
 /// The normals that shaders begin with: the given ones, else these geometric ones.

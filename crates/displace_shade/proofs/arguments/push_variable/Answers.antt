@@ -2,6 +2,7 @@ use Rattle.std.proofs.Common.{◌≡◌, length, ap, ◌++◌, ◌∙◌, arith}
 use Rattle.displace_shade.specs.Variables.{spread}
 use Rattle.displace_shade.specs.Diced.{point_count}
 use Rattle.displace_shade.specs.Given.{rows_by}
+use Rattle.displace_shade.proofs.BoundLaws.{if_ok}
 use Rattle.displace_shade.proofs.Over.{over_long}
 use Rattle.displace_shade.proofs.arguments.push_variable.Goals as goal
 
@@ -17,4 +18,4 @@ pub returns : goal.returns
 returns g c =
     let l = c.args.leaf.now in
     let x = c.args.variable.now in
-    c.in_ok-push_by.ensures ∙ ap (λ k. c.args.rows.now.items ++ rows_by k c.in_ok-numbers.numbers.now) c.kind_of.ensures ∙ ap (λ ts. c.args.rows.now.items ++ rows_by x.kind ts) c.in_ok-numbers.ensures
+    if_ok c.push_by.result _ _ (λ _ h. h ∙ ap (λ k. c.args.rows.now.items ++ rows_by k c.in_ok-numbers.numbers.now) c.kind_of.ensures ∙ ap (λ ts. c.args.rows.now.items ++ rows_by x.kind ts) c.in_ok-numbers.ensures) c.push_by.ensures

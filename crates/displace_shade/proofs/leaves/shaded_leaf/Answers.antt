@@ -7,7 +7,7 @@ use Rattle.displace_shade.specs.Shaded.{bound_at, bound_for, lights_from, shaded
 use Rattle.displace_shade.specs.Bindings.{FitUseVariables, FitSomeVariables}
 use Rattle.displace_shade.specs.Lamps.{lamp_light}
 use Rattle.displace_shade.specs.Shop.{set_value}
-use Rattle.displace_shade.proofs.Dicing.{first_hold, first_places, first_sized}
+use Rattle.displace_shade.proofs.Dicing.{first_hold, first_sized}
 use Rattle.displace_shade.proofs.Stages.{placed_hold, near_sized, grid_is}
 use Rattle.displace_shade.proofs.leaves.shaded_leaf.Goals as goal
 
@@ -17,8 +17,11 @@ geometric_normals-requires c = c.in_ok-bare.ensures.normals
 pub first_variables-requires : goal.first_variables-requires
 first_variables-requires c = c.in_ok-geometric.ensures
 
+pub places_of-requires : goal.places_of-requires
+places_of-requires c = c.in_ok-geometric.ensures
+
 pub displaced-requires-clause-places : goal.displaced-requires-clause-places
-displaced-requires-clause-places c = let f = c.in_ok-places.ensures in first_places c.args.leaf.now c.in_ok-places.places (f.normals ∙ c.in_ok-geometric.ensures) f.u f.v f.s f.t f.cs f.os f.dpdu f.dpdv
+displaced-requires-clause-places c = c.in_ok-places.ensures
 
 pub displaced-requires-clause-sized : goal.displaced-requires-clause-sized
 displaced-requires-clause-sized c = let d = c.in_ok-first.ensures in let b = c.in_ok-bare.ensures in first_sized c.args.leaf.now c.in_ok-first.first c.in_ok-bare.bare.p.now b.points d.points d.normals d.sights
@@ -27,7 +30,7 @@ pub kept_near-requires-clause-old : goal.kept_near-requires-clause-old
 kept_near-requires-clause-old c = let d = c.in_ok-first.ensures in let b = c.in_ok-bare.ensures in first_sized c.args.leaf.now c.in_ok-first.first c.in_ok-bare.bare.p.now b.points d.points d.normals d.sights
 
 pub coloured-requires-clause-places : goal.coloured-requires-clause-places
-coloured-requires-clause-places c = let f = c.in_ok-places.ensures in first_places c.args.leaf.now c.in_ok-places.places (f.normals ∙ c.in_ok-geometric.ensures) f.u f.v f.s f.t f.cs f.os f.dpdu f.dpdv
+coloured-requires-clause-places c = c.in_ok-places.ensures
 
 pub coloured-requires-clause-sized : goal.coloured-requires-clause-sized
 coloured-requires-clause-sized c =

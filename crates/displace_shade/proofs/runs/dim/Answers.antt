@@ -3,11 +3,11 @@ use Rattle.sl_ast.specs.Names.{is_light}
 use Rattle.sl_ast.specs.TreeView.{tree_of}
 use Rattle.grid_machine.specs.Run.{row_length, rows_of, written_names}
 use Rattle.sl_ast.specs.declared.kinds.SlKind.TheVariants.{Volume}
-use Rattle.displace_shade.specs.Rows.{AreRaws, AreRows, varying_values}
+use Rattle.displace_shade.specs.Rows.{AreRows, varying_values}
 use Rattle.displace_shade.proofs.GivenRows.{volume_given}
 use Rattle.displace_shade.specs.Variables.{values_at}
 use Rattle.displace_shade.specs.Given.{param_rows}
-use Rattle.displace_shade.specs.Diced.{point_count, over, triple_in}
+use Rattle.displace_shade.specs.Diced.{point_count, triple_in}
 use Rattle.displace_shade.proofs.Over.{over_long}
 use Rattle.displace_shade.proofs.Laws.{volume_law, volume_shapes, volume_long}
 use Rattle.displace_shade.proofs.BoundLaws.{bound_count, bound_names, bound_values, bound_rows}
@@ -41,20 +41,20 @@ pub run_on-requires-clause-rows : goal.run_on-requires-clause-rows
 run_on-requires-clause-rows c =
     let b = c.args.bound.now in
     let r = c.requires.runs in
-    volume_long c.args.leaf.now (tree_of b.compiled.now.tree) b.compiled.now.code b.values.now b.space.now r.code (values_at c.args.leaf.now (tree_of b.compiled.now.tree).params b.values.now) (bound_values b r c.args.leaf.now c.requires.variables) (param_rows c.args.leaf.now (tree_of b.compiled.now.tree).params b.compiled.now.code.params b.values.now) (bound_rows b r c.args.leaf.now c.requires.variables) c.requires.kind c.args.variables.now c.deref-2.result.now (λ f h. subst (λ rs. AreRows (point_count c.args.leaf.now) (λ i. varying_values Volume b.compiled.now.code.params (values_at c.args.leaf.now (tree_of b.compiled.now.tree).params b.values.now i) (f i)) rs) (sym (c.deref-2.ensures.value ∙ c.in_ok-rows.ensures)) (volume_given c.args.leaf.now c.args.variables.now f b.compiled.now.code.params (values_at c.args.leaf.now (tree_of b.compiled.now.tree).params b.values.now) (param_rows c.args.leaf.now (tree_of b.compiled.now.tree).params b.compiled.now.code.params b.values.now) (bound_rows b r c.args.leaf.now c.requires.variables) h c.requires.sized.points c.requires.sized.sights c.requires.coloured.colours c.requires.coloured.opacities))
+    volume_long c.args.leaf.now (tree_of b.compiled.now.tree) b.compiled.now.code b.values.now b.space.now r.code (values_at c.args.leaf.now (tree_of b.compiled.now.tree).params b.values.now) (bound_values b r c.args.leaf.now c.requires.variables) (param_rows c.args.leaf.now (tree_of b.compiled.now.tree).params b.compiled.now.code.params b.values.now) (bound_rows b r c.args.leaf.now c.requires.variables) c.requires.kind c.args.variables.now c.in_ok-rows.rows.now (λ f h. subst (λ rs. AreRows (point_count c.args.leaf.now) (λ i. varying_values Volume b.compiled.now.code.params (values_at c.args.leaf.now (tree_of b.compiled.now.tree).params b.values.now i) (f i)) rs) (sym c.in_ok-rows.ensures) (volume_given c.args.leaf.now c.args.variables.now f b.compiled.now.code.params (values_at c.args.leaf.now (tree_of b.compiled.now.tree).params b.values.now) (param_rows c.args.leaf.now (tree_of b.compiled.now.tree).params b.compiled.now.code.params b.values.now) (bound_rows b r c.args.leaf.now c.requires.variables) h c.requires.sized.points c.requires.sized.sights c.requires.coloured.colours c.requires.coloured.opacities))
 
 pub triples_left-requires-clause-small : goal.triples_left-requires-clause-small
-triples_left-requires-clause-small c = subst AreRaws (sym c.deref-3.ensures.value) c.in_ok-out.ensures.small
+triples_left-requires-clause-small c = c.in_ok-out.ensures.small
 
 pub triples_left-requires-2-clause-small : goal.triples_left-requires-2-clause-small
-triples_left-requires-2-clause-small c = subst AreRaws (sym c.deref-4.ensures.value) c.in_ok-out.ensures.small
+triples_left-requires-2-clause-small c = c.in_ok-out.ensures.small
 
 pub returns-clause-coloured : goal.returns-clause-coloured
 returns-clause-coloured c =
     let n = point_count c.args.leaf.now in
     record {
-      colours = ap (λ xs. length xs) c.in_ok-colours.ensures ∙ over_long (triple_in c.deref-3.result.now (row_length n) 0) n;
-      opacities = ap (λ xs. length xs) c.in_ok-opacities.ensures ∙ over_long (triple_in c.deref-4.result.now (row_length n) 3) n;
+      colours = ap (λ xs. length xs) c.in_ok-colours.ensures ∙ over_long (triple_in c.in_ok-out.out.now (row_length n) 0) n;
+      opacities = ap (λ xs. length xs) c.in_ok-opacities.ensures ∙ over_long (triple_in c.in_ok-out.out.now (row_length n) 3) n;
     }
 
 pub returns-clause-hold : goal.returns-clause-hold
@@ -62,6 +62,6 @@ returns-clause-hold c =
     let b = c.args.bound.now in
     let r = c.requires.runs in
     let n = point_count c.args.leaf.now in
-    λ f h. volume_law c.args.leaf.now (tree_of b.compiled.now.tree) b.compiled.now.code b.values.now b.space.now r.code (values_at c.args.leaf.now (tree_of b.compiled.now.tree).params b.values.now) (bound_values b r c.args.leaf.now c.requires.variables) (param_rows c.args.leaf.now (tree_of b.compiled.now.tree).params b.compiled.now.code.params b.values.now) (bound_rows b r c.args.leaf.now c.requires.variables) c.requires.kind b.compiled.now.code.placed c.args.variables.now _ c.deref.result.now c.deref-2.result.now c.in_ok-out.out.items
-    (λ f h. subst (λ rs. AreRows (point_count c.args.leaf.now) (λ i. varying_values Volume b.compiled.now.code.params (values_at c.args.leaf.now (tree_of b.compiled.now.tree).params b.values.now i) (f i)) rs) (sym (c.deref-2.ensures.value ∙ c.in_ok-rows.ensures)) (volume_given c.args.leaf.now c.args.variables.now f b.compiled.now.code.params (values_at c.args.leaf.now (tree_of b.compiled.now.tree).params b.values.now) (param_rows c.args.leaf.now (tree_of b.compiled.now.tree).params b.compiled.now.code.params b.values.now) (bound_rows b r c.args.leaf.now c.requires.variables) h c.requires.sized.points c.requires.sized.sights c.requires.coloured.colours c.requires.coloured.opacities)) (c.deref.ensures.value ∙ c.in_ok-uniforms.ensures) c.in_ok-out.ensures.values
-    (c.in_ok-colours.ensures ∙ ap (λ o. over n (triple_in o (row_length n) 0)) c.deref-3.ensures.value) (c.in_ok-opacities.ensures ∙ ap (λ o. over n (triple_in o (row_length n) 3)) c.deref-4.ensures.value) refl refl refl f h
+    λ f h. volume_law c.args.leaf.now (tree_of b.compiled.now.tree) b.compiled.now.code b.values.now b.space.now r.code (values_at c.args.leaf.now (tree_of b.compiled.now.tree).params b.values.now) (bound_values b r c.args.leaf.now c.requires.variables) (param_rows c.args.leaf.now (tree_of b.compiled.now.tree).params b.compiled.now.code.params b.values.now) (bound_rows b r c.args.leaf.now c.requires.variables) c.requires.kind b.compiled.now.code.placed c.args.variables.now _ c.deref.result.now c.in_ok-rows.rows.now c.in_ok-out.out.now
+    (λ f h. subst (λ rs. AreRows (point_count c.args.leaf.now) (λ i. varying_values Volume b.compiled.now.code.params (values_at c.args.leaf.now (tree_of b.compiled.now.tree).params b.values.now i) (f i)) rs) (sym c.in_ok-rows.ensures) (volume_given c.args.leaf.now c.args.variables.now f b.compiled.now.code.params (values_at c.args.leaf.now (tree_of b.compiled.now.tree).params b.values.now) (param_rows c.args.leaf.now (tree_of b.compiled.now.tree).params b.compiled.now.code.params b.values.now) (bound_rows b r c.args.leaf.now c.requires.variables) h c.requires.sized.points c.requires.sized.sights c.requires.coloured.colours c.requires.coloured.opacities)) (c.deref.ensures.value ∙ c.in_ok-uniforms.ensures) c.in_ok-out.ensures.values
+    c.in_ok-colours.ensures c.in_ok-opacities.ensures refl refl refl f h

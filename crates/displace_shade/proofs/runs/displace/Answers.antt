@@ -1,11 +1,10 @@
-use Rattle.std.proofs.Common.{length, refl, sym, ap, ◌∙◌, subst}
+use Rattle.std.proofs.Common.{length, refl, ap, ◌∙◌}
 use Rattle.sl_ast.specs.Names.{is_light}
 use Rattle.sl_ast.specs.TreeView.{tree_of}
 use Rattle.grid_machine.specs.Run.{row_length, rows_of, written_names}
-use Rattle.displace_shade.specs.Rows.{AreRaws}
 use Rattle.displace_shade.specs.Variables.{values_at}
 use Rattle.displace_shade.specs.Given.{param_rows}
-use Rattle.displace_shade.specs.Diced.{point_count, over, triple_in}
+use Rattle.displace_shade.specs.Diced.{point_count, triple_in}
 use Rattle.displace_shade.proofs.Over.{over_long}
 use Rattle.displace_shade.proofs.Laws.{displace_law, displace_shapes, displace_long}
 use Rattle.displace_shade.proofs.BoundLaws.{bound_count, bound_names, bound_values, bound_rows}
@@ -39,20 +38,20 @@ pub run_on-requires-clause-rows : goal.run_on-requires-clause-rows
 run_on-requires-clause-rows c =
     let b = c.args.bound.now in
     let r = c.requires.runs in
-    displace_long c.args.leaf.now (tree_of b.compiled.now.tree) b.compiled.now.code b.values.now b.space.now r.code (values_at c.args.leaf.now (tree_of b.compiled.now.tree).params b.values.now) (bound_values b r c.args.leaf.now c.requires.variables) (param_rows c.args.leaf.now (tree_of b.compiled.now.tree).params b.compiled.now.code.params b.values.now) (bound_rows b r c.args.leaf.now c.requires.variables) c.requires.kind c.args.places.now c.args.variables.now c.deref-2.result.now c.requires.places c.requires.sized (c.deref-2.ensures.value ∙ c.in_ok-rows.ensures)
+    displace_long c.args.leaf.now (tree_of b.compiled.now.tree) b.compiled.now.code b.values.now b.space.now r.code (values_at c.args.leaf.now (tree_of b.compiled.now.tree).params b.values.now) (bound_values b r c.args.leaf.now c.requires.variables) (param_rows c.args.leaf.now (tree_of b.compiled.now.tree).params b.compiled.now.code.params b.values.now) (bound_rows b r c.args.leaf.now c.requires.variables) c.requires.kind c.args.places.now c.args.variables.now c.in_ok-rows.rows.now c.requires.places c.requires.sized c.in_ok-rows.ensures
 
 pub triples_left-requires-clause-small : goal.triples_left-requires-clause-small
-triples_left-requires-clause-small c = subst AreRaws (sym c.deref-3.ensures.value) c.in_ok-out.ensures.small
+triples_left-requires-clause-small c = c.in_ok-out.ensures.small
 
 pub triples_left-requires-2-clause-small : goal.triples_left-requires-2-clause-small
-triples_left-requires-2-clause-small c = subst AreRaws (sym c.deref-4.ensures.value) c.in_ok-out.ensures.small
+triples_left-requires-2-clause-small c = c.in_ok-out.ensures.small
 
 pub returns-clause-sized : goal.returns-clause-sized
 returns-clause-sized c =
     let n = point_count c.args.leaf.now in
     record {
-      points = ap (λ xs. length xs) c.in_ok-points.ensures ∙ over_long (triple_in c.deref-3.result.now (row_length n) 0) n;
-      normals = ap (λ xs. length xs) c.in_ok-normals.ensures ∙ over_long (triple_in c.deref-4.result.now (row_length n) 3) n;
+      points = ap (λ xs. length xs) c.in_ok-points.ensures ∙ over_long (triple_in c.in_ok-out.out.now (row_length n) 0) n;
+      normals = ap (λ xs. length xs) c.in_ok-normals.ensures ∙ over_long (triple_in c.in_ok-out.out.now (row_length n) 3) n;
       sights = c.requires.sized.sights;
     }
 
@@ -61,6 +60,6 @@ returns-clause-hold c =
     let b = c.args.bound.now in
     let r = c.requires.runs in
     let n = point_count c.args.leaf.now in
-    λ f h. displace_law c.args.leaf.now (tree_of b.compiled.now.tree) b.compiled.now.code b.values.now b.space.now r.code (values_at c.args.leaf.now (tree_of b.compiled.now.tree).params b.values.now) (bound_values b r c.args.leaf.now c.requires.variables) (param_rows c.args.leaf.now (tree_of b.compiled.now.tree).params b.compiled.now.code.params b.values.now) (bound_rows b r c.args.leaf.now c.requires.variables) c.requires.kind c.args.places.now c.args.variables.now _ c.deref.result.now c.deref-2.result.now c.in_ok-out.out.items
-    c.requires.places c.requires.sized (c.deref.ensures.value ∙ c.in_ok-uniforms.ensures) (c.deref-2.ensures.value ∙ c.in_ok-rows.ensures) c.in_ok-out.ensures.values
-    (c.in_ok-points.ensures ∙ ap (λ o. over n (triple_in o (row_length n) 0)) c.deref-3.ensures.value) (c.in_ok-normals.ensures ∙ ap (λ o. over n (triple_in o (row_length n) 3)) c.deref-4.ensures.value) refl refl refl f h
+    λ f h. displace_law c.args.leaf.now (tree_of b.compiled.now.tree) b.compiled.now.code b.values.now b.space.now r.code (values_at c.args.leaf.now (tree_of b.compiled.now.tree).params b.values.now) (bound_values b r c.args.leaf.now c.requires.variables) (param_rows c.args.leaf.now (tree_of b.compiled.now.tree).params b.compiled.now.code.params b.values.now) (bound_rows b r c.args.leaf.now c.requires.variables) c.requires.kind c.args.places.now c.args.variables.now _ c.deref.result.now c.in_ok-rows.rows.now c.in_ok-out.out.now
+    c.requires.places c.requires.sized (c.deref.ensures.value ∙ c.in_ok-uniforms.ensures) c.in_ok-rows.ensures c.in_ok-out.ensures.values
+    c.in_ok-points.ensures c.in_ok-normals.ensures refl refl refl f h

@@ -3,6 +3,7 @@ use Rattle.std.proofs.lemmas.Option.{get_or_from_slice_get}
 use Rattle.scene_state.specs.Scene.{HasUses}
 use Rattle.displace_shade.specs.Shaded.{shaded}
 use Rattle.displace_shade.specs.Shop.{set_value}
+use Rattle.displace_shade.proofs.BoundLaws.{if_ok}
 use Rattle.displace_shade.proofs.shop.shaded_piece.Goals as goal
 
 pub shaded_leaf-requires-clause-variables : goal.shaded_leaf-requires-clause-variables
@@ -14,4 +15,4 @@ shaded_leaf-requires-clause-uses c =
     subst (HasUses c.args.shaders.now.uses.now) (get_or_from_slice_get c.args.frame.now.prims c.args.piece.now.prim x x c.leaf_at-leaf.ensures.prim) (c.requires.uses c.args.piece.now.prim x c.requires.prim)
 
 pub returns : goal.returns
-returns c = λ prim e. c.in_ok-grid.ensures ∙ ap (λ l. shaded l (set_value c.args.shaders.now.set.now) c.args.shaders.now.uses.now) (c.leaf_at-leaf.ensures.leaf prim e)
+returns c = if_ok c.shaded_leaf.result _ _ (λ grid h prim e. h ∙ ap (λ l. shaded l (set_value c.args.shaders.now.set.now) c.args.shaders.now.uses.now) (c.leaf_at-leaf.ensures.leaf prim e)) c.shaded_leaf.ensures

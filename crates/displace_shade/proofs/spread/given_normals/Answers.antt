@@ -5,6 +5,7 @@ use Rattle.builtins.specs.Triples.{normalize}
 use Rattle.displace_shade.specs.Points.{turned}
 use Rattle.displace_shade.specs.Variables.{spread_by, given_normal}
 use Rattle.displace_shade.specs.Diced.{point_count, over}
+use Rattle.displace_shade.proofs.BoundLaws.{if_ok}
 use Rattle.displace_shade.proofs.Over.{over_map}
 use Rattle.displace_shade.proofs.spread.given_normals.Goals as goal
 
@@ -17,5 +18,5 @@ returns c =
     let l = c.args.leaf.now in
     let x = c.args.variable.now in
     let mirrored : c.mirrored.result ≡ l.prim.object.mirrored = c.mirrored.ensures ∙ ap (λ m. m.mirrored) c.object-object.ensures in
-    c.in_ok-normals.ensures ∙ ap (λ f. map (unit f) c.in_ok-vectors.vectors.now) c.flip.ensures ∙ ap (map (unit l.prim.flip)) (c.in_ok-vectors.ensures ∙ ap (λ m. over (point_count l) (spread_by m l x)) mirrored)
-    ∙ over_map (unit l.prim.flip) (spread_by l.prim.object.mirrored l x) (given_normal l x) (point_count l) origin origin (λ i. refl)
+    if_ok c.units.result _ _ (λ ns h. h ∙ ap (λ f. map (unit f) c.in_ok-vectors.vectors.now) c.flip.ensures ∙ ap (map (unit l.prim.flip)) (c.in_ok-vectors.ensures ∙ ap (λ m. over (point_count l) (spread_by m l x)) mirrored)
+    ∙ over_map (unit l.prim.flip) (spread_by l.prim.object.mirrored l x) (given_normal l x) (point_count l) origin origin (λ i. refl)) c.units.ensures

@@ -2,6 +2,7 @@ use Rattle.std.proofs.Common.{map, pos, ap, ◌∙◌}
 use Rattle.fixed_math.specs.Axes.{origin, part_of}
 use Rattle.displace_shade.specs.Variables.{spread, is_pair, texture_part}
 use Rattle.displace_shade.specs.Diced.{point_count}
+use Rattle.displace_shade.proofs.BoundLaws.{if_ok}
 use Rattle.displace_shade.proofs.Over.{over_map}
 use Rattle.displace_shade.proofs.spread.texture_by.Goals as goal
 
@@ -9,5 +10,5 @@ pub returns : goal.returns
 returns c =
     let l = c.args.leaf.now in
     let x = c.args.variable.now in
-    c.in_ok-numbers.ensures ∙ ap (map (part_of c.texture_axis.result)) c.in_ok-values.ensures
-    ∙ over_map (part_of c.texture_axis.result) (spread l x) (λ i. texture_part c.args.axis (is_pair x) (spread l x i)) (point_count l) origin (pos 0) (λ i. c.texture_axis.ensures (spread l x i) ∙ ap (λ b. texture_part c.args.axis b (spread l x i)) c.is_pair.ensures)
+    if_ok c.parts.result _ _ (λ xs h. h ∙ ap (map (part_of c.texture_axis.result)) c.in_ok-values.ensures
+    ∙ over_map (part_of c.texture_axis.result) (spread l x) (λ i. texture_part c.args.axis (is_pair x) (spread l x i)) (point_count l) origin (pos 0) (λ i. c.texture_axis.ensures (spread l x i) ∙ ap (λ b. texture_part c.args.axis b (spread l x i)) c.is_pair.ensures)) c.parts.ensures
