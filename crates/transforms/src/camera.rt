@@ -68,7 +68,6 @@ impl Camera {
     }
 
     /// Where a point of camera space lies on the raster, across and down, in 1/256 pixel, put into -2^28 to 2^28.
-    #[tactic(auto, using(crate::proofs::Orders::orders))]
     pub fn raster(&self, p: Vec3) -> [i64; 2]
         requires { self.now.near ≤ℤ p.z }
         ensures value { result ≡ raster_x self.now p ∷ raster_y self.now p ∷ [] }
