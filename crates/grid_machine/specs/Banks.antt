@@ -3,8 +3,8 @@ use Rattle.std.specs.Prelude.{ℕ, pos, length, get_or}
 use Rattle.fixed_math.specs.Axes.{origin}
 use Rattle.builtins.specs.declared.shape.Shape.{Shape}
 use Rattle.builtins.specs.declared.shape.Shape.TheVariants as shapes
-use Rattle.grid_machine.specs.declared.cell.Cell.{Cell}
-use Rattle.grid_machine.specs.declared.cell.Cell.TheVariants.{Number, Triple, Word}
+use Rattle.place_values.specs.declared.cell.Cell.{Cell}
+use Rattle.place_values.specs.declared.cell.Cell.TheVariants.{Number, Triple, Word}
 use Rattle.grid_machine.specs.declared.bank.Bank.{Bank}
 
 abbrev pub shape_of_cell : Cell → Shape

@@ -1,4 +1,3 @@
-pub mod Cells
 pub mod Banks
 pub mod State
 pub mod Operands

@@ -10,7 +10,8 @@ ghost use Rattle.grid_code.specs.View.{block_of};
 ghost use Rattle.grid_machine.specs.declared.answers.Answer.TheVariants as answered;
 ghost use Rattle.grid_machine.specs.Asked.{IsLight, answer_at, asked};
 ghost use Rattle.grid_machine.specs.Seen.{light_of, answered_by};
-ghost use Rattle.grid_machine.specs.State.{state_of, lines_of, texts_of, is_known, HasRegister, ReadyIn, Whole, Kept};
+ghost use Rattle.place_values.specs.Cells.{is_known};
+ghost use Rattle.grid_machine.specs.State.{state_of, lines_of, texts_of, HasRegister, ReadyIn, Whole, Kept};
 
 use crate::answers::{Answer, Answers};
 use crate::blocks::run_block;

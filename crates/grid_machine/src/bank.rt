@@ -5,10 +5,10 @@ ghost use Rattle.builtins.specs.declared.shape.Shape.TheVariants as shapes;
 ghost use Rattle.grid_code.specs.Masked.{same_shape};
 ghost use Rattle.grid_machine.specs.Banks.{size, held, shape_of_cell, zero_cell};
 
-use crate::cell::Cell;
 use builtins::Shape;
 use bumpalo::Bump;
 use fixed_math::{NoMemory, Num, Vec3};
+use place_values::Cell;
 
 /// Rows of values: the numbers, the triples and the texts each by themselves.
 #[derive(Drop)]

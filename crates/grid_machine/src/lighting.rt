@@ -18,15 +18,15 @@ ghost use Rattle.grid_code.specs.Uses.{has};
 ghost use Rattle.grid_machine.specs.Banks.{size, held};
 ghost use Rattle.grid_machine.specs.Seen.{cone_at, Views};
 ghost use Rattle.grid_machine.specs.State.{state_of, NearIn, HasRegister, Whole, Kept};
-ghost use Rattle.grid_machine.specs.declared.cell.Cell.TheVariants as cells;
+ghost use Rattle.place_values.specs.declared.cell.Cell.TheVariants as cells;
 
 use crate::bank::Bank;
-use crate::cell::Cell;
 use crate::machine::Machine;
 use crate::points::{Cone, Numbers, Points, View};
 use builtins::Shape;
 use fixed_math::{Num, Vec3};
 use grid_code::Register;
+use place_values::Cell;
 use sl_ast::Value;
 
 fn difference(a: &Vec3, b: &Vec3) -> Vec3

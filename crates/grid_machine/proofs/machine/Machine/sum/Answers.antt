@@ -8,7 +8,7 @@ use Rattle.builtins.specs.Values.{triple_of}
 use Rattle.grid_code.specs.Masked.{read, reads, all_answers}
 use Rattle.grid_code.specs.Names.{name_at}
 use Rattle.grid_machine.specs.Banks.{held}
-use Rattle.grid_machine.specs.Cells.{value_of}
+use Rattle.place_values.specs.Cells.{value_of}
 use Rattle.grid_machine.specs.Seen.{gain_at}
 use Rattle.grid_machine.specs.State.{state_of, texts_of}
 use Rattle.grid_machine.proofs.Near.{near_on, write_near, read_near, reads_near}

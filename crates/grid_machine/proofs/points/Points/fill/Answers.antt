@@ -2,7 +2,7 @@ use Rattle.std.proofs.Common.{get_or, sym, ap, ◌∙◌, arith, ⊎_elim}
 use Rattle.std.proofs.lemmas.Bool.{cond-true, cond-false, eq-eqb, ne_eqb, cases_eq}
 use Rattle.fixed_math.specs.Axes.{origin}
 use Rattle.builtins.specs.declared.shape.Shape.TheVariants as shapes
-use Rattle.grid_machine.specs.declared.cell.Cell.TheVariants.{Triple}
+use Rattle.place_values.specs.declared.cell.Cell.TheVariants.{Triple}
 use Rattle.grid_machine.proofs.points.Points.fill.Goals as goal
 
 pub loop-place-preserved : goal.loop-place-preserved

@@ -3,7 +3,7 @@ use Rattle.fixed_math.specs.Axes.{origin}
 use Rattle.builtins.specs.declared.shape.Shape.{Shape}
 use Rattle.builtins.specs.declared.shape.Shape.TheVariants as shapes
 use Rattle.grid_machine.specs.Banks.{size, held}
-use Rattle.grid_machine.specs.declared.cell.Cell.TheVariants.{Triple}
+use Rattle.place_values.specs.declared.cell.Cell.TheVariants.{Triple}
 use Rattle.grid_machine.proofs.points.Points.fill.Given as goal
 
 abbrev pub invariant-loop-place : goal.invariant-loop-place

@@ -2,7 +2,7 @@
 ghost use Rattle.std.specs.Prelude.{◌≡◌};
 ghost use Rattle.builtins.specs.Formulas as formulas;
 ghost use Rattle.builtins.specs.Values as spec;
-ghost use Rattle.grid_machine.specs.Cells.{value_of};
+ghost use Rattle.place_values.specs.Cells.{value_of};
 
 use crate::cell::{Cell, Setting};
 use builtins::{each_three, each_two, part, parts, three_parts};
@@ -10,7 +10,7 @@ use fixed_math::Vec3;
 use sl_ast::ValueOperation as Op;
 
 impl Setting<'_> {
-    pub fn by_part(&self, op: Op, v: &Cell) -> Cell
+    pub(crate) fn by_part(&self, op: Op, v: &Cell) -> Cell
         ensures { value_of self.now.texts.now result ≡ spec.by_part (formulas.part op) (value_of self.now.texts.now v.now) }
     {
         match v {
@@ -26,7 +26,7 @@ impl Setting<'_> {
         }
     }
 
-    pub fn by_parts(&self, op: Op, v: &Cell, w: &Cell) -> Cell
+    pub(crate) fn by_parts(&self, op: Op, v: &Cell, w: &Cell) -> Cell
         ensures { value_of self.now.texts.now result ≡ spec.by_parts (formulas.parts op) (value_of self.now.texts.now v.now) (value_of self.now.texts.now w.now) }
     {
         match (v, w) {
@@ -35,7 +35,7 @@ impl Setting<'_> {
         }
     }
 
-    pub fn by_three_parts(&self, op: Op, u: &Cell, v: &Cell, w: &Cell) -> Cell
+    pub(crate) fn by_three_parts(&self, op: Op, u: &Cell, v: &Cell, w: &Cell) -> Cell
         ensures { value_of self.now.texts.now result ≡ spec.by_three_parts (formulas.three_parts op) (value_of self.now.texts.now u.now) (value_of self.now.texts.now v.now) (value_of self.now.texts.now w.now) }
     {
         match (u, v, w) {

@@ -1,7 +1,7 @@
 // Values at one place, without memory of their own.
 ghost use Rattle.std.specs.Prelude.{◌≡◌};
 ghost use Rattle.builtins.specs.Values as spec;
-ghost use Rattle.grid_machine.specs.Cells.{value_of, text_at, text_of};
+ghost use Rattle.place_values.specs.Cells.{value_of, text_at, text_of};
 
 use builtins::Shape;
 use fixed_math::{Num, Text, Vec3};
@@ -54,7 +54,7 @@ impl<'a> Setting<'a> {
     }
 
     /// The text of a value, or the empty one.
-    pub fn word(&self, cell: &Cell) -> usize
+    pub(crate) fn word(&self, cell: &Cell) -> usize
         ensures { text_at self.now.texts.now result ≡ spec.word_of (value_of self.now.texts.now cell.now) }
     {
         match cell {
@@ -64,7 +64,7 @@ impl<'a> Setting<'a> {
     }
 
     /// The text of that place; none is the empty one.
-    pub fn text(&self, place: usize) -> Option<&Text>
+    pub(crate) fn text(&self, place: usize) -> Option<&Text>
         ensures { text_of result ≡ text_at self.now.texts.now place }
     {
         if place == 0 {
@@ -85,7 +85,7 @@ impl<'a> Setting<'a> {
     }
 
     /// A truth as a value: 1 or 0.
-    pub fn truth(&self, holds: bool) -> Cell
+    pub(crate) fn truth(&self, holds: bool) -> Cell
         ensures { value_of self.now.texts.now result ≡ spec.truth holds }
     {
         if holds {

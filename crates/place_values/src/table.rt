@@ -1,7 +1,7 @@
 // The table of operations on the values of one place.
 ghost use Rattle.std.specs.Prelude.{◌≡◌};
 ghost use Rattle.builtins.specs.Table as spec;
-ghost use Rattle.grid_machine.specs.Cells.{value_of};
+ghost use Rattle.place_values.specs.Cells.{value_of};
 
 use crate::cell::{Cell, Setting};
 use builtins::{

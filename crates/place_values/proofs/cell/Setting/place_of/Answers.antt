@@ -1,8 +1,8 @@
 use Rattle.std.proofs.Common.{sym, ap, ◌∙◌, drop, add-one, true≢false}
 use Rattle.std.specs.List.{list_any}
 use Rattle.std.specs.Str.{bytes_eq}
-use Rattle.grid_machine.proofs.Texts.{same_bytes, behind, none_behind}
-use Rattle.grid_machine.proofs.cell.Setting.place_of.Goals as goal
+use Rattle.place_values.proofs.Texts.{same_bytes, behind, none_behind}
+use Rattle.place_values.proofs.cell.Setting.place_of.Goals as goal
 
 pub loop-n-init : goal.loop-n-init
 loop-n-init c = c.requires

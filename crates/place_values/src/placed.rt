@@ -4,7 +4,7 @@ ghost use Rattle.std.specs.Str.{bytes_eq};
 ghost use Rattle.builtins.specs.Table as spec;
 ghost use Rattle.builtins.specs.Values as values;
 ghost use Rattle.sl_ast.specs.declared.typed.Value.TheVariants as variants;
-ghost use Rattle.grid_machine.specs.Cells.{value_of, text_at};
+ghost use Rattle.place_values.specs.Cells.{value_of, text_at};
 
 use crate::cell::{Cell, Setting};
 use builtins::{from_space, into_space, same_triple};
@@ -35,7 +35,7 @@ fn is_nothing(a: &Text) -> bool
 
 impl Setting<'_> {
     /// A triple from the first space to the second.
-    pub fn through(&self, kind: SlType, from: SpaceName, into: SpaceName, v: &Cell) -> Cell
+    pub(crate) fn through(&self, kind: SlType, from: SpaceName, into: SpaceName, v: &Cell) -> Cell
         ensures { value_of self.now.texts.now result ≡ spec.through kind self.now.spaces.now from into (value_of self.now.texts.now v.now) }
     {
         let here = from_space(kind, self.spaces, from, self.triple(v));
@@ -43,7 +43,7 @@ impl Setting<'_> {
     }
 
     /// A value of that type whose triple was given in that space.
-    pub fn placed(&self, kind: SlType, from: SpaceName, v: &Cell) -> Cell
+    pub(crate) fn placed(&self, kind: SlType, from: SpaceName, v: &Cell) -> Cell
         ensures { value_of self.now.texts.now result ≡ spec.placed kind self.now.spaces.now from (value_of self.now.texts.now v.now) }
     {
         match kind {
@@ -56,7 +56,7 @@ impl Setting<'_> {
     }
 
     /// A value of that type of three components in that space.
-    pub fn composed(&self, kind: SlType, from: SpaceName, parts: Vec3) -> Cell
+    pub(crate) fn composed(&self, kind: SlType, from: SpaceName, parts: Vec3) -> Cell
         ensures { value_of self.now.texts.now result ≡ spec.placed kind self.now.spaces.now from (variants.Triple parts) }
     {
         self.placed(kind, from, &Cell::Triple(parts))
@@ -80,7 +80,7 @@ impl Setting<'_> {
     }
 
     /// Whether two values of one type are the same, a number promoted beside a triple.
-    pub fn is_same(&self, v: &Cell, w: &Cell) -> bool
+    pub(crate) fn is_same(&self, v: &Cell, w: &Cell) -> bool
         ensures { result ≡ values.is_same (value_of self.now.texts.now v.now) (value_of self.now.texts.now w.now) }
     {
         match (v, w) {
@@ -102,7 +102,7 @@ impl Setting<'_> {
     }
 
     /// The first of two values where the condition holds, else the second; a number promoted beside a triple.
-    pub fn chosen(&self, holds: bool, v: &Cell, w: &Cell) -> Cell
+    pub(crate) fn chosen(&self, holds: bool, v: &Cell, w: &Cell) -> Cell
         ensures { value_of self.now.texts.now result ≡ values.chosen holds (value_of self.now.texts.now v.now) (value_of self.now.texts.now w.now) }
     {
         if holds {
