@@ -10,9 +10,9 @@ use Rattle.builtins.specs.Shapes.{shape}
 use Rattle.grid_code.specs.Masked.{same_shape}
 use Rattle.place_values.specs.declared.cell.Cell.{Cell}
 use Rattle.place_values.specs.declared.cell.Cell.TheVariants.{Number, Triple, Word}
-use Rattle.grid_machine.specs.declared.bank.Bank.{Bank}
+use Rattle.place_rows.specs.declared.bank.Bank.{Bank}
 use Rattle.place_values.specs.Cells.{value_of}
-use Rattle.grid_machine.specs.Banks.{held, shape_of_cell}
+use Rattle.place_rows.specs.Banks.{held, shape_of_cell}
 
 pub shape_is : (ts : List (Bor (List ℕ))) (c : Cell) → shape (value_of ts c) ≡ shape_of_cell c
 shape_is ts (Number x) = refl

@@ -1,11 +1,9 @@
-mod Rows
 mod Ranks
 mod Filled
 mod Operands
 mod Near
 mod Writes
 mod Shapes
-mod Sets
 mod Masks
 mod Nodes
 mod Kept
@@ -19,8 +17,6 @@ mod Starts
 mod Places
 mod Begins
 mod Ends
-mod Views
-mod Totals
 mod Lit
 mod Answering
 mod Fitting

@@ -15,7 +15,7 @@ use Rattle.grid_machine.specs.declared.operand.Operand.TheVariants.{Row, Shared}
 use Rattle.grid_machine.specs.declared.operand.Work.{Work}
 use Rattle.grid_machine.specs.declared.operand.Work.TheVariants.{Constant, Copy, Into, One, Two, Three}
 use Rattle.place_values.specs.Cells.{value_of}
-use Rattle.grid_machine.specs.Banks.{size, held}
+use Rattle.place_rows.specs.Banks.{size, held}
 use Rattle.grid_machine.specs.State.{texts_of}
 
 abbrev pub cell_at : Registers → Operand → ℕ → Cell

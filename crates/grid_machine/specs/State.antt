@@ -23,7 +23,7 @@ use Rattle.grid_code.specs.Valid.{has_operands}
 use Rattle.grid_code.specs.Masked.{Asked, State, Ground, turns_of, masked}
 use Rattle.grid_code.specs.Names.{name_at, lit_at}
 use Rattle.place_values.specs.Cells.{value_of, is_known}
-use Rattle.grid_machine.specs.Banks.{size, held}
+use Rattle.place_rows.specs.Banks.{size, held}
 use Rattle.grid_machine.specs.declared.frame.Frame.{Frame}
 use Rattle.grid_machine.specs.declared.machine.Machine.{Machine}
 use Rattle.grid_machine.specs.declared.machine.Registers.{Registers}

@@ -16,11 +16,11 @@ ghost use Rattle.place_values.specs.Cells.{is_known};
 ghost use Rattle.grid_machine.specs.State.{state_of, lit_ground, texts_of, NearIn, HasRegister, ReadyIn, Whole, Kept};
 
 use crate::blocks::run_block;
-use crate::illumination::Illumination;
 use crate::machine::Machine;
 use builtins::Shape;
 use fixed_math::Num;
 use grid_code::{Code, Register, Source};
+use place_rows::Illumination;
 use sl_ast::{SlKind, Value};
 
 impl Machine<'_> {

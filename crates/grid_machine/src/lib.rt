@@ -4,9 +4,7 @@
 //! computes a row and stores it at the places that are live. Everything is laid out before the first instruction.
 #![tactic(auto)]
 
-mod answers;
 mod asking;
-mod bank;
 mod blocks;
 mod call;
 mod collect;
@@ -16,7 +14,6 @@ mod execute;
 mod frame;
 mod fresh;
 mod given;
-mod illumination;
 mod inputs;
 mod instruction;
 mod lamp;
@@ -25,16 +22,13 @@ mod leaving;
 mod lighting;
 mod loading;
 mod machine;
-mod mask;
 mod operand;
-mod points;
 mod preparing;
 mod reading;
 mod reset;
 mod step;
 mod sums;
 mod unloading;
-mod viewing;
 
 pub use call::run;
 pub use inputs::{Inputs, Lights};

@@ -9,18 +9,18 @@ ghost use Rattle.builtins.specs.declared.shape.Shape.TheVariants as shapes;
 ghost use Rattle.sl_ast.specs.declared.typed.Value.TheVariants as values;
 ghost use Rattle.grid_code.specs.Masked.{write, State as Grid};
 ghost use Rattle.grid_code.specs.Shapes.{register_shape};
-ghost use Rattle.grid_machine.specs.Banks.{size, held};
+ghost use Rattle.place_rows.specs.Banks.{size, held};
 ghost use Rattle.place_values.specs.Cells.{value_of, is_known};
 ghost use Rattle.grid_code.specs.Uses.{has};
 ghost use Rattle.grid_machine.specs.Run.{height, rows_of, value_in, assigned, loaded};
 ghost use Rattle.grid_machine.specs.State.{state_of, texts_of, NearIn, HasRegister, Whole, Kept};
 
-use crate::bank::Bank;
 use crate::machine::Machine;
 use crate::operand::Work;
 use builtins::Shape;
 use fixed_math::{Num, Vec3};
 use grid_code::Register;
+use place_rows::Bank;
 use place_values::Cell;
 use sl_ast::Value;
 

@@ -1,15 +1,12 @@
 // Operands found, and values computed of them.
 ghost use Rattle.std.specs.Prelude.{◌≡◌, ℕ, ◌<◌, ◌≤◌, true, length};
-ghost use Rattle.builtins.specs.Shapes.{shape as shape_of_value};
-ghost use Rattle.builtins.specs.declared.shape.Shape.{Shape as AnyShape};
-ghost use Rattle.grid_code.specs.Masked.{read, result_of};
+ghost use Rattle.grid_code.specs.Masked.{read};
 ghost use Rattle.grid_code.specs.Uses.{is_in, has, numbers_of};
-ghost use Rattle.grid_machine.specs.Banks.{size, held};
+ghost use Rattle.place_rows.specs.Banks.{held};
 ghost use Rattle.place_values.specs.Cells.{value_of};
-ghost use Rattle.grid_machine.specs.State.{rank, held_by, ground_of, texts_of, Full, SourceReady};
+ghost use Rattle.grid_machine.specs.State.{rank, held_by, texts_of, Full};
 ghost use Rattle.grid_machine.specs.Operands.{cell_at, operand_at, work_at, OperandIn, WorkIn};
 
-use crate::bank::Bank;
 use crate::machine::Registers;
 use crate::operand::{Operand, Work};
 use builtins::Shape;

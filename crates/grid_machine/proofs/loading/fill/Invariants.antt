@@ -1,7 +1,7 @@
 use Rattle.std.proofs.Common.{◌≡◌, ℕ, ◌+◌, List}
 use Rattle.std.specs.Borrow.{Bor}
 use Rattle.builtins.specs.declared.shape.Shape.{Shape}
-use Rattle.grid_machine.specs.Banks.{size}
+use Rattle.place_rows.specs.Banks.{size}
 use Rattle.grid_machine.specs.Run.{value_in}
 use Rattle.grid_machine.proofs.Filled.{Filled}
 use Rattle.grid_machine.proofs.loading.fill.Given as goal
