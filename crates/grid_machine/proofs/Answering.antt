@@ -17,7 +17,7 @@ use Rattle.grid_code.specs.Names.{name_at, lit_at}
 use Rattle.grid_code.specs.Uses.{has}
 use Rattle.grid_code.specs.Valid.{has_light_statement, is_ambient}
 use Rattle.grid_machine.specs.Asked.{answer_at}
-use Rattle.grid_machine.specs.Seen.{answered_by}
+use Rattle.place_rows.specs.Seen.{answered_by}
 use Rattle.grid_machine.specs.State.{Near}
 use Rattle.grid_machine.proofs.Near.{read_near}
 

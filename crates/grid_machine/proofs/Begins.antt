@@ -11,7 +11,8 @@ use Rattle.builtins.specs.Differences.{Lines}
 use Rattle.transforms.specs.declared.spaces.Spaces.{Spaces}
 use Rattle.grid_machine.specs.declared.frame.Frame.{Frame}
 use Rattle.grid_machine.specs.Fits.{OfCode}
-use Rattle.grid_machine.specs.State.{is_known, Ready}
+use Rattle.place_values.specs.Cells.{is_known}
+use Rattle.grid_machine.specs.State.{Ready}
 use Rattle.grid_machine.specs.Texts.{Holds, texts_of_all, texts_in}
 use Rattle.grid_machine.proofs.Names.{kind_pass}
 use Rattle.grid_machine.proofs.Validity.{holds_own, values_known, ready_of}

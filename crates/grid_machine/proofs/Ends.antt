@@ -13,8 +13,11 @@ use Rattle.grid_code.specs.Names.{reg}
 use Rattle.grid_code.specs.Uses.{has}
 use Rattle.grid_code.specs.Masked.{Asked, State, Ground, read, masked}
 use Rattle.grid_code.proofs.Both.{left, right}
+use Rattle.grid_code.specs.declared.shader_code.Code.{Code}
 use Rattle.grid_machine.specs.declared.frame.Frame.{Frame}
+use Rattle.grid_machine.specs.declared.inputs.Inputs.{Inputs}
 use Rattle.grid_machine.specs.declared.machine.Machine.{Machine}
+use Rattle.grid_machine.specs.Ended.{ended_under}
 use Rattle.grid_machine.specs.Run.{row_length, value_in, written_names, begun, HoldRows, Leaves}
 use Rattle.grid_machine.specs.State.{state_of, lit_ground, Near, NearIn, Kept}
 
@@ -47,3 +50,8 @@ left_rows k kind g c out a b w same near names all width first second i l =
     subst (λ q. HoldRows q out i (written_names kind) 0 g) width
     (subst (λ rs. HoldRows w out i rs 0 g) (sym names)
     (first i lk ∙ sym (near.rows shapes.Triple a i two.0 lk), (second i lk ∙ sym (near.rows shapes.Triple b i two.1 lk), tt)))
+
+-- the same for an equal number of places, and for equal lights
+pub leaves_by : (kind : SlKind) (out : List ℤ) (code : Code) (inputs : Inputs) (p c : ℕ) (ls ms : List Asked) → p ≡ c → ls ≡ ms → Leaves kind p out (ended_under ls code inputs) → Leaves kind c out (ended_under ms code inputs)
+leaves_by kind out code inputs p c ls ms places lights h =
+    subst (λ n. Leaves kind n out (ended_under ms code inputs)) places (subst (λ l. Leaves kind p out (ended_under l code inputs)) lights h)

@@ -8,11 +8,11 @@ use Rattle.builtins.specs.declared.shape.Shape.{Shape}
 use Rattle.builtins.specs.declared.shape.Shape.TheVariants as shapes
 use Rattle.builtins.specs.Shapes.{shape}
 use Rattle.grid_code.specs.Masked.{same_shape}
-use Rattle.grid_machine.specs.declared.cell.Cell.{Cell}
-use Rattle.grid_machine.specs.declared.cell.Cell.TheVariants.{Number, Triple, Word}
-use Rattle.grid_machine.specs.declared.bank.Bank.{Bank}
-use Rattle.grid_machine.specs.Cells.{value_of}
-use Rattle.grid_machine.specs.Banks.{held, shape_of_cell}
+use Rattle.place_values.specs.declared.cell.Cell.{Cell}
+use Rattle.place_values.specs.declared.cell.Cell.TheVariants.{Number, Triple, Word}
+use Rattle.place_rows.specs.declared.bank.Bank.{Bank}
+use Rattle.place_values.specs.Cells.{value_of}
+use Rattle.place_rows.specs.Banks.{held, shape_of_cell}
 
 pub shape_is : (ts : List (Bor (List ℕ))) (c : Cell) → shape (value_of ts c) ≡ shape_of_cell c
 shape_is ts (Number x) = refl

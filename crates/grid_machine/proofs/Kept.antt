@@ -5,10 +5,10 @@ use Rattle.grid_code.specs.declared.code.Register.{Register}
 use Rattle.grid_code.specs.Code.{Block}
 use Rattle.grid_code.specs.Masked.{Asked, State, any, going, take_turn, write}
 use Rattle.sl_ast.specs.declared.typed.Value.{Value}
-use Rattle.grid_machine.specs.declared.mask.Mask.{Mask}
+use Rattle.place_rows.specs.declared.mask.Mask.{Mask}
 use Rattle.grid_machine.specs.declared.machine.Machine.{Machine}
 use Rattle.grid_machine.specs.declared.frame.Frame.{Frame}
-use Rattle.grid_machine.specs.Asked.{Lighting}
+use Rattle.place_rows.specs.Seen.{Lighting}
 use Rattle.grid_machine.specs.State.{state_of, lit_ground, Steps, ReadyIn, HasRegister, Runs, Kept, Ready, Near}
 use Rattle.grid_machine.proofs.Near.{any_same}
 use Rattle.std.specs.Borrow.{Bor}

@@ -1,12 +1,9 @@
-mod Texts
-mod Rows
 mod Ranks
 mod Filled
 mod Operands
 mod Near
 mod Writes
 mod Shapes
-mod Sets
 mod Masks
 mod Nodes
 mod Kept
@@ -20,8 +17,6 @@ mod Starts
 mod Places
 mod Begins
 mod Ends
-mod Views
-mod Totals
 mod Lit
 mod Answering
 mod Fitting

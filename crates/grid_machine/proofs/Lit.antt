@@ -17,12 +17,11 @@ use Rattle.grid_code.specs.Code.{Block, end, lights}
 use Rattle.grid_code.specs.Masked.{Asked, State, Ground, read, reads, under, one_part, answers, entered, under_lights, views, from_light, masked}
 use Rattle.grid_code.specs.Names.{name_at}
 use Rattle.grid_code.specs.Uses.{has}
-use Rattle.grid_machine.specs.Asked.{unasked}
-use Rattle.grid_machine.specs.Seen.{shown_by}
+use Rattle.place_rows.specs.Seen.{unasked, shown_by}
 use Rattle.grid_machine.specs.State.{Near, Steps}
 use Rattle.grid_machine.proofs.Masks.{near_live}
 use Rattle.grid_machine.proofs.Near.{read_near, reads_near}
-use Rattle.grid_machine.proofs.Totals.{none_left}
+use Rattle.place_rows.proofs.Totals.{none_left}
 
 pub shown_is : (cone : List Value) (p : Vec3 → Bool) (l : Light) → ((d : Vec3) → p d ≡ is_in_cone cone d) → shown_by p l ≡ shown cone l
 shown_is cone p (ambient cl) e = refl

@@ -19,7 +19,7 @@ use Rattle.grid_code.specs.declared.register_set.RegisterSet.{RegisterSet}
 use Rattle.grid_code.specs.Uses.{has, source_within}
 use Rattle.grid_code.specs.Masked.{State, Ground, any, read, reads, result_of, write}
 use Rattle.grid_machine.specs.State.{Near}
-use Rattle.grid_machine.proofs.Rows.{next_in, under_in}
+use Rattle.place_rows.proofs.Rows.{next_in, under_in}
 
 pub near_on : (c : ℕ) (v u : RegisterSet) (g h k : State) → Near c v u g h → Near c v u h k → Near c v u g k
 near_on c v u g h k a b =
@@ -35,18 +35,6 @@ near_on c v u g h k a b =
 pub any_same : (c : ℕ) (p q : ℕ → Bool) → ((i : ℕ) → i < c → p i ≡ q i) → any c p ≡ any c q
 any_same zero p q h = refl
 any_same (suc c) p q h = ap (λ b. b || any c p) (h c (omega arith)) ∙ ap (λ b. q c || b) (any_same c p q (λ i l. h i (omega arith)))
-
-or_true : (a b : Bool) → b ≡ true → (a || b) ≡ true
-or_true true b h = refl
-or_true false b h = h
-
-pub any_true : (c i : ℕ) (p : ℕ → Bool) → i < c → p i ≡ true → any c p ≡ true
-any_true zero i p l h = absurd (omega arith)
-any_true (suc c) i p l h =
-    ⊎_elim
-    (λ e. ap (λ b. b || any c p) (ap p (sym e) ∙ h))
-    (λ ne. or_true (p c) (any c p) (any_true c i p (omega arith) h))
-    (cases_eq i c)
 
 pub read_near : (c : ℕ) (v u : RegisterSet) (g h : State) (r : Register) (i : ℕ) → Near c v u g h → has v u r ≡ true → i < c → read g r i ≡ read h r i
 read_near c v u g h (Uniform s k) i n x l = n.shared s k x

@@ -1,14 +1,14 @@
 -- Operations on registers, of which there are one to three.
-use Rattle.std.proofs.Common.{◌≡◌, ℕ, List, [], ◌∷◌, length, get_or, refl, arith}
+use Rattle.std.proofs.Common.{◌≡◌, ℕ, ◌<◌, List, [], ◌∷◌, length, get_or, refl, arith}
 use Rattle.transforms.specs.declared.spaces.Spaces.{Spaces}
 use Rattle.sl_ast.specs.declared.operations.ValueOperation.{ValueOperation}
 use Rattle.sl_ast.specs.declared.typed.Value.{Value}
 use Rattle.builtins.specs.declared.shape.Shape.TheVariants as shapes
 use Rattle.builtins.specs.Table.{applied}
 use Rattle.grid_code.specs.declared.code.Register.{Register}
-use Rattle.grid_code.specs.declared.code.Register.TheVariants.{Uniform}
+use Rattle.grid_code.specs.declared.code.Register.TheVariants.{Uniform, Varying}
 use Rattle.grid_code.specs.Masked.{State, read, reads}
-use Rattle.grid_machine.specs.Operands.{applied_to}
+use Rattle.grid_machine.specs.Operands.{reach, applied_to}
 
 pub applied_reads : (op : ValueOperation) (sp : Spaces) (s : State) (qs : List Register) (i : ℕ) → applied_to op sp (λ r. read s r i) qs ≡ applied op sp (reads s qs i)
 applied_reads op sp s [] i = refl
@@ -36,3 +36,8 @@ module _ (op : ValueOperation) (sp : Spaces) (f : Register → Value) where
   applied_three (p ∷ q ∷ []) h = absurd (omega arith)
   applied_three (p ∷ q ∷ t ∷ []) h = refl
   applied_three (p ∷ q ∷ t ∷ r ∷ rs) h = absurd (omega arith)
+
+-- a place of a row that goes into a register lies on the grid
+pub reach_in : (to : Register) (c j : ℕ) → 0 < c → j < reach to c → j < c
+reach_in (Uniform s k) c j h l = omega arith
+reach_in (Varying s k) c j h l = l

@@ -21,7 +21,7 @@ use Rattle.grid_code.specs.Masked.{Ground, read, reads, result_of}
 use Rattle.grid_code.specs.Shapes.{register_shape, register_shapes, source_shape, difference_shape}
 use Rattle.grid_machine.specs.declared.machine.Machine.{Machine}
 use Rattle.grid_code.specs.Uses.{numbers_of}
-use Rattle.grid_machine.specs.Banks.{held}
+use Rattle.place_rows.specs.Banks.{held}
 use Rattle.grid_machine.specs.State.{rank, state_of, held_by, texts_of}
 use Rattle.grid_machine.specs.Operands.{reach}
 use Rattle.grid_machine.proofs.Filled.{shape_is}

@@ -9,10 +9,10 @@ use Rattle.builtins.specs.declared.shape.Shape.TheVariants as shapes
 use Rattle.grid_code.specs.declared.register_set.RegisterSet.{RegisterSet}
 use Rattle.grid_code.specs.Uses.{numbers_of, is_in}
 use Rattle.grid_code.specs.Masked.{same_shape}
-use Rattle.grid_machine.specs.declared.cell.Cell.{Cell}
-use Rattle.grid_machine.specs.declared.bank.Bank.{Bank}
-use Rattle.grid_machine.specs.Cells.{value_of}
-use Rattle.grid_machine.specs.Banks.{held, shape_of_cell}
+use Rattle.place_values.specs.declared.cell.Cell.{Cell}
+use Rattle.place_rows.specs.declared.bank.Bank.{Bank}
+use Rattle.place_values.specs.Cells.{value_of}
+use Rattle.place_rows.specs.Banks.{held, shape_of_cell}
 use Rattle.grid_machine.specs.State.{rank}
 use Rattle.grid_machine.proofs.Ranks.{rank_same}
 

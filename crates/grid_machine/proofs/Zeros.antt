@@ -3,8 +3,8 @@ use Rattle.std.proofs.Common.{◌≡◌, ℕ, List, refl}
 use Rattle.std.specs.Borrow.{Bor}
 use Rattle.builtins.specs.declared.shape.Shape.{Shape}
 use Rattle.builtins.specs.declared.shape.Shape.TheVariants as shapes
-use Rattle.grid_machine.specs.Cells.{value_of}
-use Rattle.grid_machine.specs.Banks.{zero_cell}
+use Rattle.place_values.specs.Cells.{value_of}
+use Rattle.place_rows.specs.Banks.{zero_cell}
 use Rattle.grid_machine.specs.Run.{zero_value}
 
 pub zero_is : (ts : List (Bor (List ℕ))) (s : Shape) → zero_value s ≡ value_of ts (zero_cell s)

@@ -43,12 +43,3 @@ asked_all lines c many spaces codes values = map (λ n. asked lines c (spaces n)
 pub record IsLight (code : Code) (values : List Value) : Type 0 where
   pub kind : is_light code.kind ≡ true
   pub shapes : map shape values ≡ map register_shape (registers_from first_free code.params)
-
--- lights on a grid of so many places
-pub record Lighting : Type 0 where
-  pub places : ℕ
-  pub lights : List Asked
-
--- no light is asked behind the last one
-abbrev pub unasked : Asked
-unasked q i = unlit

@@ -9,7 +9,7 @@ use Rattle.grid_code.specs.Uses.{has, registers_from, given_registers, within}
 use Rattle.grid_code.specs.View.{block_of}
 use Rattle.grid_machine.specs.declared.frame.Frame.{Frame}
 use Rattle.grid_machine.specs.Asked.{IsLight}
-use Rattle.grid_machine.specs.State.{is_known}
+use Rattle.place_values.specs.Cells.{is_known}
 use Rattle.grid_machine.specs.Texts.{Holds, texts_in, texts_of_all}
 
 -- a frame's registers are those of code, and its texts those of values and of the code's constants

@@ -1,10 +1,7 @@
-pub mod Cells
-pub mod Banks
 pub mod State
 pub mod Operands
 pub mod Run
 pub mod Asked
-pub mod Seen
 pub mod Texts
 pub mod Fits
 pub mod Lamps

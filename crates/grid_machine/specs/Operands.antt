@@ -8,14 +8,14 @@ use Rattle.builtins.specs.Values.{as_shape}
 use Rattle.builtins.specs.Table.{applied}
 use Rattle.grid_code.specs.declared.code.Register.{Register}
 use Rattle.grid_code.specs.declared.code.Register.TheVariants.{Uniform, Varying}
-use Rattle.grid_machine.specs.declared.cell.Cell.{Cell}
+use Rattle.place_values.specs.declared.cell.Cell.{Cell}
 use Rattle.grid_machine.specs.declared.machine.Registers.{Registers}
 use Rattle.grid_machine.specs.declared.operand.Operand.{Operand}
 use Rattle.grid_machine.specs.declared.operand.Operand.TheVariants.{Row, Shared}
 use Rattle.grid_machine.specs.declared.operand.Work.{Work}
 use Rattle.grid_machine.specs.declared.operand.Work.TheVariants.{Constant, Copy, Into, One, Two, Three}
-use Rattle.grid_machine.specs.Cells.{value_of}
-use Rattle.grid_machine.specs.Banks.{size, held}
+use Rattle.place_values.specs.Cells.{value_of}
+use Rattle.place_rows.specs.Banks.{size, held}
 use Rattle.grid_machine.specs.State.{texts_of}
 
 abbrev pub cell_at : Registers → Operand → ℕ → Cell

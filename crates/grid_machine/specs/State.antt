@@ -22,8 +22,8 @@ use Rattle.grid_code.specs.Uses.{numbers_of, has, source_within}
 use Rattle.grid_code.specs.Valid.{has_operands}
 use Rattle.grid_code.specs.Masked.{Asked, State, Ground, turns_of, masked}
 use Rattle.grid_code.specs.Names.{name_at, lit_at}
-use Rattle.grid_machine.specs.Cells.{value_of}
-use Rattle.grid_machine.specs.Banks.{size, held}
+use Rattle.place_values.specs.Cells.{value_of, is_known}
+use Rattle.place_rows.specs.Banks.{size, held}
 use Rattle.grid_machine.specs.declared.frame.Frame.{Frame}
 use Rattle.grid_machine.specs.declared.machine.Machine.{Machine}
 use Rattle.grid_machine.specs.declared.machine.Registers.{Registers}
@@ -90,11 +90,6 @@ pub record Whole (m : Machine) : Type 0 where
 pub record Kept (m k : Machine) : Type 0 where
   pub frame : k.registers.frame ≡ m.registers.frame
   pub whole : Whole k
-
--- a text is in a list; other values are in any
-abbrev pub is_known : List (Bor (List ℕ)) → Value → Bool
-is_known ts (values.Word w) = list_any (λ t. bytes_eq t.now w) ts
-is_known ts _ = true
 
 abbrev pub source_known : List (Bor (List ℕ)) → Source → Bool
 source_known ts (Constant v) = is_known ts v

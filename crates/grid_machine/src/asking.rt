@@ -7,19 +7,18 @@ ghost use Rattle.sl_ast.specs.declared.kinds.Predefined.TheVariants as names;
 ghost use Rattle.grid_code.specs.Names.{name_at, lit_at, first_free};
 ghost use Rattle.grid_code.specs.Uses.{has, registers_from, kind_registers};
 ghost use Rattle.grid_code.specs.View.{block_of};
-ghost use Rattle.grid_machine.specs.declared.answers.Answer.TheVariants as answered;
+ghost use Rattle.place_rows.specs.declared.answers.Answer.TheVariants as answered;
 ghost use Rattle.grid_machine.specs.Asked.{IsLight, answer_at, asked};
-ghost use Rattle.grid_machine.specs.Seen.{light_of, answered_by};
-ghost use Rattle.grid_machine.specs.State.{state_of, lines_of, texts_of, is_known, HasRegister, ReadyIn, Whole, Kept};
+ghost use Rattle.place_rows.specs.Seen.{light_of, answered_by};
+ghost use Rattle.place_values.specs.Cells.{is_known};
+ghost use Rattle.grid_machine.specs.State.{state_of, lines_of, texts_of, HasRegister, ReadyIn, Whole, Kept};
 
-use crate::answers::{Answer, Answers};
 use crate::blocks::run_block;
-use crate::illumination::Dark;
 use crate::machine::Machine;
-use crate::points::Points;
 use builtins::Shape;
 use fixed_math::Vec3;
 use grid_code::{Code, Register};
+use place_rows::{Answer, Answers, Dark, Points};
 use sl_ast::Value;
 
 // The answer of a light by what its code left: its colour where it is ambient, else its direction and colour where it is lit.

@@ -13,11 +13,9 @@ ghost use Rattle.grid_code.specs.Uses.{has};
 ghost use Rattle.grid_code.specs.View.{with_node, block_of};
 ghost use Rattle.grid_machine.specs.State.{state_of, lit_ground, lights_registers, NearIn, HasRegister, ReadyIn, Runs, RunsTurns, Whole, Kept};
 
-use crate::illumination::Illumination;
 use crate::machine::Machine;
-use crate::mask::Mask;
-use crate::points::Points;
 use grid_code::{Node, Register};
+use place_rows::{Illumination, Mask, Points};
 use sl_ast::LightStmt;
 
 /// Runs a block: what each node does, one after another. A loop has at most that many turns.

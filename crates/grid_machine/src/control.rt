@@ -6,8 +6,8 @@ ghost use Rattle.grid_code.specs.Masked.{read, budgets, take_turn, State as Grid
 ghost use Rattle.grid_machine.specs.State.{state_of, Runs, NearIn, HasRegister, Whole, Kept};
 
 use crate::machine::Machine;
-use crate::mask::{Mask, both};
 use grid_code::Register;
+use place_rows::{Mask, both};
 
 // Takes one from the numbers at the places of a mask.
 fn spend(own: &mut [u32], mask: &Mask)

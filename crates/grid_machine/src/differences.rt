@@ -1,63 +1,23 @@
 // Differences between the neighbours of a grid.
 ghost use Rattle.std.specs.Prelude.{◌≡◌, ℕ, ◌<◌, ◌≤◌};
-ghost use Rattle.fixed_math.specs.Fixed.{div};
 ghost use Rattle.builtins.specs.Differences as spec;
-ghost use Rattle.builtins.specs.Values.{by_part};
-ghost use Rattle.builtins.specs.Triples.{negated as negated_of};
 ghost use Rattle.builtins.specs.Shapes.{shape as shape_of_value};
 ghost use Rattle.builtins.specs.declared.shape.Shape.{Shape as AnyShape};
-ghost use Rattle.grid_machine.specs.Banks.{size, held};
-ghost use Rattle.grid_machine.specs.Cells.{value_of};
+ghost use Rattle.place_rows.specs.Banks.{size, held};
+ghost use Rattle.place_values.specs.Cells.{value_of};
 ghost use Rattle.grid_machine.specs.State.{texts_of, lines_of};
 ghost use Rattle.grid_machine.specs.Operands.{operand_at, OperandIn};
 
-use crate::bank::Bank;
-use crate::cell::{Cell, Setting};
 use crate::machine::Registers;
 use crate::operand::Operand;
 use builtins::{cross, normalize};
-use fixed_math::{Num, Vec3};
-use sl_ast::{Difference, ValueOperation};
-
-/// The opposite of a direction.
-pub fn negated(v: Vec3) -> Vec3
-    ensures { result ≡ negated_of v }
-{
-    Vec3 {
-        x: v.x.neg(),
-        y: v.y.neg(),
-        z: v.z.neg(),
-    }
-}
-
-impl Setting<'_> {
-    fn divided(&self, v: &Cell, step: Num) -> Cell
-        ensures { value_of self.now.texts.now result ≡ by_part (λ d. div d step) (value_of self.now.texts.now v.now) }
-    {
-        match v {
-            Cell::Number(x) => Cell::Number(x.div(step)),
-            Cell::Triple(_) | Cell::Word(_) => {
-                let t = self.triple(v);
-                Cell::Triple(Vec3 {
-                    x: t.x.div(step),
-                    y: t.y.div(step),
-                    z: t.z.div(step),
-                })
-            }
-        }
-    }
-
-    // The quotient of a difference of values by a step.
-    fn slope(&self, step: Num, v: &Cell, w: &Cell) -> Cell
-        ensures { value_of self.now.texts.now result ≡ spec.slope step (value_of self.now.texts.now v.now) (value_of self.now.texts.now w.now) }
-    {
-        self.divided(&self.by_parts(ValueOperation::Subtract, v, w), step)
-    }
-}
+use place_rows::{Bank, negated};
+use place_values::Cell;
+use sl_ast::Difference;
 
 impl Registers<'_> {
     // The difference to the next column over the step of u; in the last column, that of the column before.
-    #[tactic(auto, using(crate::proofs::Rows::next_in), unfolding(builtins::specs::Differences::along_u))]
+    #[tactic(auto, using(place_rows::proofs::Rows::next_in), unfolding(builtins::specs::Differences::along_u))]
     fn along_u(&self, of: Operand, place: usize) -> Cell
         requires fits { OperandIn self.now of }
         requires place { place < self.now.frame.now.places }
@@ -72,7 +32,7 @@ impl Registers<'_> {
     }
 
     // The same of rows.
-    #[tactic(auto, using(crate::proofs::Rows::under_in, crate::proofs::Rows::over_in), unfolding(builtins::specs::Differences::along_v))]
+    #[tactic(auto, using(place_rows::proofs::Rows::under_in, place_rows::proofs::Rows::over_in), unfolding(builtins::specs::Differences::along_v))]
     fn along_v(&self, of: Operand, place: usize) -> Cell
         requires fits { OperandIn self.now of }
         requires place { place < self.now.frame.now.places }

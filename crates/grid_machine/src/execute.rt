@@ -12,14 +12,15 @@ ghost use Rattle.grid_code.specs.Shapes.{register_shape};
 ghost use Rattle.grid_code.specs.Uses.{has, names_at};
 ghost use Rattle.grid_code.specs.View.{block_of};
 ghost use Rattle.grid_machine.specs.Run.{row_length, rows_of, uniform_inputs, varying_inputs, started, fresh, begun};
-ghost use Rattle.grid_machine.specs.State.{state_of, lit_ground, texts_of, is_known, NearIn, HasRegister, ReadyIn, Whole, Kept};
+ghost use Rattle.place_values.specs.Cells.{is_known};
+ghost use Rattle.grid_machine.specs.State.{state_of, lit_ground, texts_of, NearIn, HasRegister, ReadyIn, Whole, Kept};
 
 use crate::blocks::run_block;
-use crate::illumination::Illumination;
 use crate::machine::Machine;
 use builtins::Shape;
 use fixed_math::Num;
 use grid_code::{Code, Register, Source};
+use place_rows::Illumination;
 use sl_ast::{SlKind, Value};
 
 impl Machine<'_> {

@@ -1,27 +1,15 @@
 // Machines before a run.
 ghost use Rattle.std.specs.Prelude.{◌≡◌, ℕ, ◌<◌, true, get_or, false, IfOk};
 ghost use Rattle.builtins.specs.declared.shape.Shape.{Shape as AnyShape};
-ghost use Rattle.grid_machine.specs.Banks.{held, zero_cell};
+ghost use Rattle.place_rows.specs.Banks.{held, zero_cell};
 ghost use Rattle.grid_machine.specs.Run.{fresh};
 ghost use Rattle.grid_machine.specs.State.{state_of, NearIn, Full, Whole};
 
-use crate::bank::Bank;
 use crate::frame::Frame;
 use crate::machine::{Machine, Registers};
-use crate::mask::Mask;
 use bumpalo::Bump;
 use fixed_math::NoMemory;
-
-impl Mask {
-    /// All places.
-    pub fn full() -> Mask
-        ensures { (i : ℕ) → i < 289 → get_or result.places i false ≡ true }
-    {
-        Mask {
-            places: [true; 289],
-        }
-    }
-}
+use place_rows::{Bank, Mask};
 
 impl<'a> Registers<'a> {
     // Registers that are 0; or want of memory.

@@ -5,17 +5,17 @@ ghost use Rattle.builtins.specs.Shapes.{shape as shape_of_value};
 ghost use Rattle.builtins.specs.declared.shape.Shape.{Shape as AnyShape};
 ghost use Rattle.grid_code.specs.Masked.{read, result_of};
 ghost use Rattle.grid_code.specs.Uses.{has};
-ghost use Rattle.grid_machine.specs.Banks.{size, held};
-ghost use Rattle.grid_machine.specs.Cells.{value_of};
+ghost use Rattle.place_rows.specs.Banks.{size, held};
+ghost use Rattle.place_values.specs.Cells.{value_of};
 ghost use Rattle.grid_machine.specs.State.{held_by, ground_of, texts_of, Full, SourceReady};
 ghost use Rattle.grid_machine.specs.Operands.{work_at, applied_to, WorkIn};
 
-use crate::bank::Bank;
-use crate::cell::Cell;
 use crate::machine::Registers;
 use crate::operand::Work;
 use fixed_math::Num;
 use grid_code::{Register, Source};
+use place_rows::Bank;
+use place_values::Cell;
 use sl_ast::ValueOperation;
 
 impl Registers<'_> {

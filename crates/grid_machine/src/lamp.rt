@@ -2,14 +2,13 @@
 ghost use Rattle.grid_machine.specs.Fits.{Fits};
 ghost use Rattle.grid_machine.specs.State.{Whole};
 
-use crate::answers::Answers;
 use crate::frame::Frame;
 use crate::given::parameters;
 use crate::machine::Machine;
-use crate::points::Points;
 use bumpalo::Bump;
 use fixed_math::NoMemory;
 use grid_code::{Code, Register};
+use place_rows::{Answers, Points};
 use sl_ast::Value;
 use transforms::Spaces;
 
@@ -28,10 +27,10 @@ impl<'a> Lamp<'a> {
     ghost use Rattle.std.specs.Prelude.{◌≡◌, ℕ, ◌<◌, get_or, IfOk};
     ghost use Rattle.fixed_math.specs.Axes.{origin};
     ghost use Rattle.fixed_math.specs.declared.vec3.Vec3.{Vec3};
-    ghost use Rattle.grid_machine.specs.declared.answers.Answer.TheVariants as answered;
+    ghost use Rattle.place_rows.specs.declared.answers.Answer.TheVariants as answered;
     ghost use Rattle.grid_machine.specs.Asked.{IsLight, asked};
     ghost use Rattle.grid_machine.specs.Lamps.{places_by, asked_by};
-    ghost use Rattle.grid_machine.specs.Seen.{light_of};
+    ghost use Rattle.place_rows.specs.Seen.{light_of};
     ghost use Rattle.grid_machine.specs.State.{lines_of};
 
     /// A light on a grid, with its spaces and a value for each parameter; or want of memory.

@@ -3,14 +3,12 @@ ghost use Rattle.std.specs.Prelude.{◌≡◌, ◌==◌, true, map};
 ghost use Rattle.std.specs.List.{list_all};
 ghost use Rattle.grid_machine.specs.Lamps.{places_by, asked_by};
 
-use crate::answers::Answers;
 use crate::frame::Frame;
-use crate::illumination::Illumination;
 use crate::inputs::Lights;
 use crate::lamp::Lamp;
-use crate::points::Points;
 use bumpalo::Bump;
 use fixed_math::NoMemory;
+use place_rows::{Answers, Illumination, Points};
 
 /// Lights on a grid of so many places.
 #[derive(Drop)]

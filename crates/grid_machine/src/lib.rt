@@ -4,41 +4,31 @@
 //! computes a row and stores it at the places that are live. Everything is laid out before the first instruction.
 #![tactic(auto)]
 
-mod answers;
 mod asking;
-mod bank;
 mod blocks;
 mod call;
-mod cell;
 mod collect;
 mod control;
 mod differences;
 mod execute;
-mod formulas;
 mod frame;
 mod fresh;
 mod given;
-mod illumination;
 mod inputs;
 mod instruction;
-mod known;
 mod lamp;
 mod lamps;
 mod leaving;
 mod lighting;
 mod loading;
 mod machine;
-mod mask;
 mod operand;
-mod placed;
-mod points;
+mod preparing;
 mod reading;
 mod reset;
 mod step;
 mod sums;
-mod table;
 mod unloading;
-mod viewing;
 
 pub use call::run;
 pub use inputs::{Inputs, Lights};

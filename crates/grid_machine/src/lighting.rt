@@ -2,70 +2,25 @@
 ghost use Rattle.std.specs.Prelude.{◌≡◌, ℕ, ◌<◌, ◌≤◌, Option, true, false, pos, get_or};
 ghost use Rattle.std.specs.List.{list_all};
 ghost use Rattle.fixed_math.specs.Axes.{origin};
-ghost use Rattle.fixed_math.specs.Fixed.{sub};
 ghost use Rattle.fixed_math.specs.declared.vec3.Vec3.{Vec3 as AnyVec3};
 ghost use Rattle.sl_ast.specs.declared.kinds.Predefined.TheVariants as names;
 ghost use Rattle.sl_ast.specs.declared.typed.Value.{Value as AnyValue};
 ghost use Rattle.sl_ast.specs.declared.typed.Value.TheVariants as values;
 ghost use Rattle.builtins.specs.Lights.{is_in_cone};
-ghost use Rattle.builtins.specs.Triples.{each_two};
 ghost use Rattle.builtins.specs.Values.{number_of, triple_of};
-ghost use Rattle.builtins.specs.declared.shape.Shape.{Shape as AnyShape};
 ghost use Rattle.builtins.specs.declared.shape.Shape.TheVariants as shapes;
 ghost use Rattle.grid_code.specs.Masked.{read, reads, write, entered, kindled, from_light as direction_of, State as Grid};
 ghost use Rattle.grid_code.specs.Names.{reg, name_at, lit_at};
 ghost use Rattle.grid_code.specs.Uses.{has};
-ghost use Rattle.grid_machine.specs.Banks.{size, held};
-ghost use Rattle.grid_machine.specs.Seen.{cone_at, Views};
+ghost use Rattle.place_rows.specs.Seen.{cone_at, Views};
 ghost use Rattle.grid_machine.specs.State.{state_of, NearIn, HasRegister, Whole, Kept};
-ghost use Rattle.grid_machine.specs.declared.cell.Cell.TheVariants as cells;
 
-use crate::bank::Bank;
-use crate::cell::Cell;
 use crate::machine::Machine;
-use crate::points::{Cone, Numbers, Points, View};
 use builtins::Shape;
-use fixed_math::{Num, Vec3};
+use fixed_math::Num;
 use grid_code::Register;
+use place_rows::{Cone, Numbers, Points, View};
 use sl_ast::Value;
-
-fn difference(a: &Vec3, b: &Vec3) -> Vec3
-    ensures { result ≡ each_two sub a.now b.now }
-{
-    Vec3 {
-        x: a.x.sub(b.x),
-        y: a.y.sub(b.y),
-        z: a.z.sub(b.z),
-    }
-}
-
-impl Points {
-    // The differences to other triples at the first places.
-    fn minus(&self, other: &Points, count: usize) -> Points
-        requires { count ≤ 289 }
-        ensures { (i : ℕ) → i < count → get_or result.at i origin ≡ each_two sub (get_or self.now.at i origin) (get_or other.now.at i origin) }
-    {
-        let mut points = Points::zero();
-        for place in 0..count {
-            let (a, b) = (self.get(place), other.get(place));
-            points.at[place] = difference(&a, &b);
-        }
-        points
-    }
-
-    /// Writes the triples of the first places into a row.
-    pub fn fill(&self, count: usize, row: &mut Bank)
-        requires count { count ≤ 289 }
-        requires room { count ≤ size row.old shapes.Triple }
-        ensures size { (s : AnyShape) → size row.new s ≡ size row.old s }
-        ensures each { (j : ℕ) → j < count → held row.new shapes.Triple j ≡ cells.Triple (get_or self.now.at j origin) }
-    {
-        for place in 0..count {
-            let triple = self.get(place);
-            row.set(place, &Cell::Triple(triple));
-        }
-    }
-}
 
 impl Machine<'_> {
     /// The triples that a register holds.
@@ -99,7 +54,7 @@ impl Machine<'_> {
     }
 
     /// The cone of a statement over lights, by the registers of its axis and its angle, where there are two.
-    #[tactic(auto, using(crate::proofs::Totals::no_cone))]
+    #[tactic(auto, using(place_rows::proofs::Totals::no_cone))]
     pub fn cone(&self, args: &[Register]) -> Cone
         requires whole { Whole self.now }
         requires has { list_all (has self.now.registers.frame.now.varying.now self.now.registers.frame.now.uniform.now) args.now ≡ true }

@@ -1,5 +1,6 @@
 // Registers that take given values.
-ghost use Rattle.std.specs.Prelude.{◌≡◌, ℕ, ℤ, ◌+◌, ◌-◌, ◌*◌, ◌<◌, ◌≤◌, pos, true, length, get_or, map};
+ghost use Rattle.std.specs.Prelude.{◌≡◌, ℕ, ℤ, ◌+◌, ◌-◌, ◌*◌, ◌<◌, ◌≤◌, pos, true, List, length, get_or, map};
+ghost use Rattle.std.specs.Borrow.{Bor};
 ghost use Rattle.std.specs.List.{list_all};
 ghost use Rattle.fixed_math.specs.Fixed.{IsRaw};
 ghost use Rattle.builtins.specs.Shapes.{shape as shape_of_value};
@@ -8,19 +9,19 @@ ghost use Rattle.builtins.specs.declared.shape.Shape.TheVariants as shapes;
 ghost use Rattle.sl_ast.specs.declared.typed.Value.TheVariants as values;
 ghost use Rattle.grid_code.specs.Masked.{write, State as Grid};
 ghost use Rattle.grid_code.specs.Shapes.{register_shape};
-ghost use Rattle.grid_machine.specs.Banks.{size, held};
-ghost use Rattle.grid_machine.specs.Cells.{value_of};
+ghost use Rattle.place_rows.specs.Banks.{size, held};
+ghost use Rattle.place_values.specs.Cells.{value_of, is_known};
 ghost use Rattle.grid_code.specs.Uses.{has};
 ghost use Rattle.grid_machine.specs.Run.{height, rows_of, value_in, assigned, loaded};
-ghost use Rattle.grid_machine.specs.State.{state_of, texts_of, is_known, NearIn, HasRegister, Whole, Kept};
+ghost use Rattle.grid_machine.specs.State.{state_of, texts_of, NearIn, HasRegister, Whole, Kept};
 
-use crate::bank::Bank;
-use crate::cell::{Cell, Setting};
 use crate::machine::Machine;
 use crate::operand::Work;
 use builtins::Shape;
 use fixed_math::{Num, Vec3};
 use grid_code::Register;
+use place_rows::Bank;
+use place_values::Cell;
 use sl_ast::Value;
 
 // A raw in range as a number.
@@ -65,40 +66,30 @@ fn triple_in(rows: &[i64], width: usize, at: usize) -> Vec3
     }
 }
 
-impl Setting<'_> {
-    // The value of a shape at an element of rows.
-    fn loaded(&self, shape: Shape, rows: &[i64], width: usize, at: usize) -> Cell
-        requires raws { (k : ℕ) → IsRaw (get_or rows.now k (pos 0)) }
-        requires room { at + (height shape - 1) * width < length rows.now }
-        ensures { value_of self.now.texts.now result ≡ value_in shape rows.now width at }
-    {
-        match shape {
-            Shape::Number => Cell::Number(number(rows[at])),
-            Shape::Triple => Cell::Triple(triple_in(rows, width, at)),
-            Shape::Word => Cell::Word(0),
-        }
+// The value of a shape at an element of rows. None is a text, and so it is the same among all lists of texts.
+fn loaded(shape: Shape, rows: &[i64], width: usize, at: usize) -> Cell
+    requires raws { (k : ℕ) → IsRaw (get_or rows.now k (pos 0)) }
+    requires room { at + (height shape - 1) * width < length rows.now }
+    ensures { (ts : List (Bor (List ℕ))) → value_of ts result ≡ value_in shape rows.now width at }
+{
+    match shape {
+        Shape::Number => Cell::Number(number(rows[at])),
+        Shape::Triple => Cell::Triple(triple_in(rows, width, at)),
+        Shape::Word => Cell::Word(0),
     }
+}
 
-    // The values of a shape at the first elements of rows from one on.
-    fn fill(
-        &self,
-        shape: Shape,
-        rows: &[i64],
-        width: usize,
-        start: usize,
-        count: usize,
-        row: &mut Bank,
-    )
-        requires raws { (k : ℕ) → IsRaw (get_or rows.now k (pos 0)) }
-        requires room { start + height shape * width ≤ length rows.now }
-        requires count { count ≤ width }
-        requires places { (s : AnyShape) → count ≤ size row.old s }
-        ensures size { (s : AnyShape) → size row.new s ≡ size row.old s }
-        ensures each { (j : ℕ) → j < count → value_of self.now.texts.now (held row.new (shape_of_value (value_in shape rows.now width (start + j))) j) ≡ value_in shape rows.now width (start + j) }
-    {
-        for place in 0..count {
-            row.set(place, &self.loaded(shape, rows, width, start + place));
-        }
+// The values of a shape at the first elements of rows from one on.
+fn fill(shape: Shape, rows: &[i64], width: usize, start: usize, count: usize, row: &mut Bank)
+    requires raws { (k : ℕ) → IsRaw (get_or rows.now k (pos 0)) }
+    requires room { start + height shape * width ≤ length rows.now }
+    requires count { count ≤ width }
+    requires places { (s : AnyShape) → count ≤ size row.old s }
+    ensures size { (s : AnyShape) → size row.new s ≡ size row.old s }
+    ensures each { (ts : List (Bor (List ℕ))) (j : ℕ) → j < count → value_of ts (held row.new (shape_of_value (value_in shape rows.now width (start + j))) j) ≡ value_in shape rows.now width (start + j) }
+{
+    for place in 0..count {
+        row.set(place, &loaded(shape, rows, width, start + place));
     }
 }
 
@@ -129,10 +120,7 @@ impl Machine<'_> {
         ensures near { NearIn self.old (write self.old.registers.frame.now.places to (λ i. value_in (register_shape to) rows.now width (start + i)) (state_of self.old)) (state_of self.new) }
     {
         let count = self.reach(to);
-        self.registers
-            .frame
-            .setting
-            .fill(shape_of(to), rows, width, start, count, &mut self.scratch);
+        fill(shape_of(to), rows, width, start, count, &mut self.scratch);
         self.commit(to);
     }
 

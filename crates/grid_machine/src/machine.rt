@@ -1,8 +1,7 @@
 // The machine's state.
-use crate::bank::Bank;
 use crate::frame::Frame;
-use crate::mask::Mask;
 use bumpalo::Bump;
+use place_rows::{Bank, Mask};
 
 /// The values of registers: the row of a varying register is its place among those of its shape, and so is the place of a uniform one.
 #[derive(Drop)]

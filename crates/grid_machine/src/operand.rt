@@ -1,6 +1,6 @@
 // Where the operands of instructions stand.
-use crate::cell::Cell;
 use builtins::Shape;
+use place_values::Cell;
 use sl_ast::ValueOperation;
 
 /// The row of a shape that begins at a place of the varying values, or a place of the uniform values.

@@ -1,22 +1,17 @@
 // Operands found, and values computed of them.
 ghost use Rattle.std.specs.Prelude.{◌≡◌, ℕ, ◌<◌, ◌≤◌, true, length};
-ghost use Rattle.builtins.specs.Shapes.{shape as shape_of_value};
-ghost use Rattle.builtins.specs.declared.shape.Shape.{Shape as AnyShape};
-ghost use Rattle.grid_code.specs.Masked.{read, result_of};
+ghost use Rattle.grid_code.specs.Masked.{read};
 ghost use Rattle.grid_code.specs.Uses.{is_in, has, numbers_of};
-ghost use Rattle.grid_machine.specs.Banks.{size, held};
-ghost use Rattle.grid_machine.specs.Cells.{value_of};
-ghost use Rattle.grid_machine.specs.State.{rank, held_by, ground_of, texts_of, is_known, Full, SourceReady};
+ghost use Rattle.place_rows.specs.Banks.{held};
+ghost use Rattle.place_values.specs.Cells.{value_of};
+ghost use Rattle.grid_machine.specs.State.{rank, held_by, texts_of, Full};
 ghost use Rattle.grid_machine.specs.Operands.{cell_at, operand_at, work_at, OperandIn, WorkIn};
 
-use crate::bank::Bank;
-use crate::cell::{Cell, Setting};
 use crate::machine::Registers;
 use crate::operand::{Operand, Work};
 use builtins::Shape;
-use fixed_math::Num;
-use grid_code::{Register, RegisterSet, Source};
-use sl_ast::Value;
+use grid_code::{Register, RegisterSet};
+use place_values::Cell;
 
 // The place of a register among those of its shape.
 #[tactic(auto, using(crate::proofs::Ranks::rank_found))]
@@ -28,20 +23,6 @@ pub(crate) fn row_of(set: &RegisterSet, shape: Shape, number: u32) -> usize
     match set.index(shape, number) {
         Some(row) => row,
         None => unreachable!(),
-    }
-}
-
-impl Setting<'_> {
-    /// The cell of a value; its text is one of the run's.
-    pub fn cell(&self, value: &Value) -> Cell
-        requires { is_known self.now.texts.now value.now ≡ true }
-        ensures { value_of self.now.texts.now result ≡ value.now }
-    {
-        match value {
-            Value::Number(x) => Cell::Number(*x),
-            Value::Triple(t) => Cell::Triple(*t),
-            Value::Word(w) => Cell::Word(self.place_of(w)),
-        }
     }
 }
 

@@ -6,8 +6,8 @@ ghost use Rattle.grid_code.specs.Masked.{read, result_of, write};
 ghost use Rattle.grid_code.specs.Names.{reg};
 ghost use Rattle.grid_code.specs.Shapes.{register_shape, source_shape, difference_shape};
 ghost use Rattle.grid_code.specs.Uses.{is_in};
-ghost use Rattle.grid_machine.specs.Banks.{held};
-ghost use Rattle.grid_machine.specs.Cells.{value_of};
+ghost use Rattle.place_rows.specs.Banks.{held};
+ghost use Rattle.place_values.specs.Cells.{value_of};
 ghost use Rattle.grid_machine.specs.State.{state_of, ground_of, lines_of, texts_of, NearIn, HasRegister, Whole, Kept, SourceReady};
 ghost use Rattle.grid_machine.specs.Operands.{reach};
 

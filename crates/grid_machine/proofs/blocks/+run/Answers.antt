@@ -10,8 +10,7 @@ use Rattle.builtins.specs.Lights.{is_in_cone}
 use Rattle.builtins.specs.Values.{triple_of}
 use Rattle.grid_code.specs.Names.{name_at, lit_at}
 use Rattle.grid_code.proofs.Both.{left, right}
-use Rattle.grid_machine.specs.Asked.{unasked}
-use Rattle.grid_machine.specs.Seen.{shown_by, cone_at, Views}
+use Rattle.place_rows.specs.Seen.{unasked, shown_by, cone_at, Views}
 use Rattle.grid_machine.proofs.Near.{read_near, reads_near}
 use Rattle.grid_machine.proofs.Lit.{from_near, in_cone_near, shown_is, view_from, part_steps, showing_init, showing_next, showing_end}
 use Rattle.grid_code.specs.Masked.{State, read, reads, from_light, entered, kindled}

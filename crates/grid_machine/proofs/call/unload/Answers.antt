@@ -1,15 +1,24 @@
-use Rattle.std.proofs.Common.{◌*◌, ap, ◌∙◌}
-use Rattle.grid_machine.specs.Run.{row_length}
-use Rattle.grid_machine.proofs.Ends.{two_registers, left_rows}
+use Rattle.std.proofs.Common.{◌*◌, map, sym, ap, ◌∙◌}
+use Rattle.grid_machine.specs.Asked.{asked_all}
+use Rattle.grid_machine.specs.Lamps.{asked_by}
+use Rattle.grid_machine.specs.Run.{row_length, rows_of, written_names, lines_given}
+use Rattle.grid_machine.proofs.Ends.{leaves_by}
 use Rattle.grid_machine.proofs.call.unload.Goals as goal
 
-pub unload_two-requires-clause-first : goal.unload_two-requires-clause-first
-unload_two-requires-clause-first g c = (two_registers c.in_ok-machine.machine.registers.frame.now.varying.now c.in_ok-machine.machine.registers.frame.now.uniform.now _ _ _ (c.written-first.ensures c.requires.kind) c.in_ok-machine.ensures.has).0
-
-pub unload_two-requires-clause-second : goal.unload_two-requires-clause-second
-unload_two-requires-clause-second g c = (two_registers c.in_ok-machine.machine.registers.frame.now.varying.now c.in_ok-machine.machine.registers.frame.now.uniform.now _ _ _ (c.written-first.ensures c.requires.kind) c.in_ok-machine.ensures.has).1
+pub leave-requires-clause-out : goal.leave-requires-clause-out
+leave-requires-clause-out g c = c.requires.out ∙ ap (λ p. rows_of (written_names c.args.code.now.kind) * row_length p) (sym c.execute.ensures.places)
 
 pub returns-clause-values : goal.returns-clause-values
 returns-clause-values g c =
-    left_rows c.in_ok-machine.machine c.args.code.now.kind _ (c.args.inputs.now.columns * c.args.inputs.now.rows) c.unload_two.new.rows c.written-first.result.0 c.written-first.result.1 c.row_of.result c.in_ok-machine.ensures.places c.in_ok-machine.ensures.near
-    (c.written-first.ensures c.requires.kind) c.in_ok-machine.ensures.has (c.row_of.ensures ∙ ap row_length c.places-places.ensures.value) c.unload_two.ensures.first c.unload_two.ensures.second
+    let code = c.args.code.now in
+    let given = c.args.inputs.now in
+    let f = c.in_ok-prepared.prepared.frame.now in
+    let many = g.L.Lights.many c.args.lights.now in
+    let places = g.L.Lights.places c.args.lights.now in
+    let codes = g.L.Lights.codes c.args.lights.now in
+    let values = g.L.Lights.params c.args.lights.now in
+    let p = given.columns * given.rows in
+    let lines = lines_given given.columns given.rows code.params given.uniforms.now in
+    let places_are = f.shape ∙ ap (λ l. l.columns * l.rows) c.in_ok-prepared.ensures.lines in
+    let lights_are = c.in_ok-lamps.ensures.lights ∙ ap (λ w. asked_all w f.places many places codes values) c.in_ok-prepared.ensures.lines ∙ ap (λ k. asked_all lines k many places codes values) places_are in
+    leaves_by code.kind c.leave.new.out code given c.execute.new.machine.registers.frame.now.places p (map asked_by c.in_ok-lamps.lamps.lamps.items) (asked_all lines p many places codes values) c.execute.ensures.places lights_are (c.leave.ensures.values _ c.execute.ensures.near)

@@ -2,7 +2,7 @@ use Rattle.std.proofs.Common.{◌≡◌, ◌<◌, List, length, sym, ap, ◌∙�
 use Rattle.std.proofs.Math.Seq.{map-set_same}
 use Rattle.std.proofs.lemmas.List.{get_or-map, length-map}
 use Rattle.grid_code.specs.Masked.{Asked}
-use Rattle.grid_machine.specs.Asked.{Lighting, unasked}
+use Rattle.place_rows.specs.Seen.{Lighting, unasked}
 use Rattle.grid_machine.specs.Lamps.{places_by, asked_by}
 use Rattle.grid_machine.proofs.Level.{level_at, level_set}
 use Rattle.grid_machine.proofs.lamps.LampsIllumination.ask.Goals as goal

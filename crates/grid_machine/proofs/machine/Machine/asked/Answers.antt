@@ -12,7 +12,8 @@ use Rattle.grid_code.specs.Uses.{has, registers_from}
 use Rattle.grid_code.specs.View.{block_of}
 use Rattle.grid_machine.specs.Asked.{begun_at, answer_at}
 use Rattle.grid_machine.specs.Run.{assigned, fresh}
-use Rattle.grid_machine.specs.State.{state_of, lit_ground, is_known, ReadyIn}
+use Rattle.place_values.specs.Cells.{is_known}
+use Rattle.grid_machine.specs.State.{state_of, lit_ground, ReadyIn}
 use Rattle.grid_machine.proofs.Answering.{answer_near, class_is}
 use Rattle.grid_machine.proofs.Kept.{kept_on, has_kept, ready_kept, runs_kept, NearBy, StepsBy}
 use Rattle.grid_machine.proofs.Validity.{light_registers_pass}

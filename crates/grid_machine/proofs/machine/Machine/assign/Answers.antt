@@ -1,7 +1,7 @@
 use Rattle.std.proofs.Common.{◌<◌, sym, ap, ◌∙◌, subst}
 use Rattle.builtins.specs.Shapes.{shape}
-use Rattle.grid_machine.specs.Banks.{held}
-use Rattle.grid_machine.specs.Cells.{value_of}
+use Rattle.place_rows.specs.Banks.{held}
+use Rattle.place_values.specs.Cells.{value_of}
 use Rattle.grid_machine.specs.State.{texts_of}
 use Rattle.grid_machine.proofs.machine.Machine.assign.Goals as goal
 

@@ -6,7 +6,8 @@ use Rattle.grid_code.specs.declared.code.Register.{Register}
 use Rattle.grid_code.specs.declared.code.Register.TheVariants.{Uniform}
 use Rattle.grid_code.specs.Shapes.{register_shape}
 use Rattle.grid_code.specs.Uses.{has}
-use Rattle.grid_machine.specs.State.{state_of, is_known}
+use Rattle.place_values.specs.Cells.{is_known}
+use Rattle.grid_machine.specs.State.{state_of}
 use Rattle.grid_machine.proofs.Kept.{kept_on, has_kept, written_kept}
 use Rattle.grid_machine.proofs.Loads.{item_passes, same_shapes, map_length, assigning_next, assigned_all}
 use Rattle.grid_machine.proofs.machine.Machine.assign_all.Goals as goal

@@ -2,8 +2,8 @@ use Rattle.std.proofs.Common.{◌≡◌, ℕ, ◌<◌, sym, subst, arith}
 use Rattle.sl_ast.specs.declared.typed.Value.{Value}
 use Rattle.grid_code.specs.Masked.{write}
 use Rattle.grid_code.specs.Shapes.{register_shape}
-use Rattle.grid_machine.specs.Banks.{held}
-use Rattle.grid_machine.specs.Cells.{value_of}
+use Rattle.place_rows.specs.Banks.{held}
+use Rattle.place_values.specs.Cells.{value_of}
 use Rattle.grid_machine.specs.State.{state_of, texts_of, Near}
 use Rattle.grid_machine.specs.Operands.{reach}
 use Rattle.grid_machine.proofs.machine.Machine.commit.Goals as goal

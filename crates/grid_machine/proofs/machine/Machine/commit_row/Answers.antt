@@ -1,6 +1,6 @@
 use Rattle.std.proofs.Common.{◌+◌, ◌*◌, get_or, false, refl}
 use Rattle.grid_code.specs.Uses.{numbers_of}
-use Rattle.grid_machine.specs.Banks.{size, held}
+use Rattle.place_rows.specs.Banks.{size, held}
 use Rattle.grid_machine.specs.State.{rank, texts_of}
 use Rattle.grid_machine.proofs.Writes.{written, stored_at}
 use Rattle.grid_machine.proofs.machine.Machine.commit_row.Goals as goal

@@ -1,8 +1,8 @@
 use Rattle.std.proofs.Common.{◌≡◌, true, get_or, false, refl, sym, ap, ◌∙◌}
 use Rattle.grid_code.specs.Masked.{any}
 use Rattle.grid_code.specs.Uses.{numbers_of}
-use Rattle.grid_machine.specs.Banks.{held, shape_of_cell}
-use Rattle.grid_machine.specs.Cells.{value_of}
+use Rattle.place_rows.specs.Banks.{held, shape_of_cell}
+use Rattle.place_values.specs.Cells.{value_of}
 use Rattle.grid_machine.specs.State.{rank, texts_of}
 use Rattle.grid_machine.proofs.Writes.{written_one, held_shape}
 use Rattle.grid_machine.proofs.machine.Machine.commit_shared.Goals as goal

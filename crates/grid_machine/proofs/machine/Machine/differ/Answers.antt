@@ -3,8 +3,8 @@ use Rattle.builtins.specs.Shapes.{shape}
 use Rattle.builtins.specs.Differences.{difference}
 use Rattle.grid_code.specs.Masked.{read}
 use Rattle.grid_code.specs.Shapes.{register_shape}
-use Rattle.grid_machine.specs.Banks.{held}
-use Rattle.grid_machine.specs.Cells.{value_of}
+use Rattle.place_rows.specs.Banks.{held}
+use Rattle.place_values.specs.Cells.{value_of}
 use Rattle.grid_machine.specs.State.{state_of, lines_of, texts_of}
 use Rattle.grid_machine.specs.Operands.{operand_at}
 use Rattle.grid_machine.proofs.Near.{difference_near}

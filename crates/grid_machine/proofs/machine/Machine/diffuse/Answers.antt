@@ -4,7 +4,7 @@ use Rattle.grid_code.specs.declared.code.Register.TheVariants.{Uniform}
 use Rattle.grid_code.specs.Uses.{has}
 use Rattle.grid_machine.specs.State.{state_of}
 use Rattle.grid_machine.proofs.Loads.{item_passes}
-use Rattle.grid_machine.proofs.Totals.{diffuse_is}
+use Rattle.place_rows.proofs.Totals.{diffuse_is}
 use Rattle.grid_machine.proofs.machine.Machine.diffuse.Goals as goal
 
 pub points-requires-clause-has : goal.points-requires-clause-has

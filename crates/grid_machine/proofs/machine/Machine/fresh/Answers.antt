@@ -1,7 +1,7 @@
 use Rattle.std.proofs.Common.{◌+◌, ◌*◌, refl, sym, ap, ◌∙◌, arith}
 use Rattle.std.proofs.lemmas.List.{get_or-replicate}
 use Rattle.grid_code.specs.Uses.{numbers_of}
-use Rattle.grid_machine.specs.Cells.{value_of}
+use Rattle.place_values.specs.Cells.{value_of}
 use Rattle.grid_machine.specs.State.{rank}
 use Rattle.grid_machine.proofs.Zeros.{zero_is}
 use Rattle.grid_machine.proofs.machine.Machine.fresh.Goals as goal

@@ -4,7 +4,7 @@ use Rattle.builtins.specs.Values.{is_true}
 use Rattle.std.proofs.lemmas.List.{length-set}
 use Rattle.grid_code.specs.Masked.{read, going}
 use Rattle.grid_machine.specs.State.{state_of}
-use Rattle.grid_machine.proofs.Sets.{set_next}
+use Rattle.place_rows.proofs.Sets.{set_next}
 use Rattle.grid_machine.proofs.machine.Machine.going.Goals as goal
 
 pub loop-place-preserved : goal.loop-place-preserved

@@ -5,9 +5,9 @@ use Rattle.sl_ast.specs.declared.kinds.Predefined.TheVariants as names
 use Rattle.builtins.specs.Values.{is_true, triple_of}
 use Rattle.grid_code.specs.Masked.{read}
 use Rattle.grid_code.specs.Names.{name_at, lit_at}
-use Rattle.grid_machine.specs.declared.answers.Answer.TheVariants.{Unlit}
+use Rattle.place_rows.specs.declared.answers.Answer.TheVariants.{Unlit}
 use Rattle.grid_machine.specs.Asked.{answer_at}
-use Rattle.grid_machine.specs.Seen.{light_of, answered_by}
+use Rattle.place_rows.specs.Seen.{light_of, answered_by}
 use Rattle.grid_machine.specs.State.{state_of}
 use Rattle.grid_machine.proofs.Answering.{answer_is, set_under}
 use Rattle.grid_machine.proofs.machine.Machine.left.Goals as goal

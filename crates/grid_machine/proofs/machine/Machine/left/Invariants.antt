@@ -1,8 +1,8 @@
 use Rattle.std.proofs.Common.{◌≡◌, ℕ, ◌<◌, length, get_or}
 use Rattle.std.specs.Prelude.{not}
-use Rattle.grid_machine.specs.declared.answers.Answer.TheVariants.{Unlit}
+use Rattle.place_rows.specs.declared.answers.Answer.TheVariants.{Unlit}
 use Rattle.grid_machine.specs.Asked.{answer_at}
-use Rattle.grid_machine.specs.Seen.{light_of}
+use Rattle.place_rows.specs.Seen.{light_of}
 use Rattle.grid_machine.specs.State.{state_of}
 use Rattle.grid_machine.proofs.machine.Machine.left.Given as goal
 

@@ -3,9 +3,9 @@ use Rattle.std.proofs.lemmas.List.{length-set}
 use Rattle.fixed_math.specs.Axes.{origin}
 use Rattle.builtins.specs.Values.{triple_of}
 use Rattle.grid_code.specs.Masked.{read}
-use Rattle.grid_machine.specs.Cells.{value_of}
+use Rattle.place_values.specs.Cells.{value_of}
 use Rattle.grid_machine.specs.State.{state_of, texts_of}
-use Rattle.grid_machine.proofs.Sets.{set_next}
+use Rattle.place_rows.proofs.Sets.{set_next}
 use Rattle.grid_machine.proofs.Shapes.{read_held}
 use Rattle.grid_machine.proofs.machine.Machine.points.Goals as goal
 

@@ -1,8 +1,8 @@
 use Rattle.std.proofs.Common.{◌<◌, sym, ap, ◌∙◌, subst}
 use Rattle.builtins.specs.Shapes.{shape}
 use Rattle.grid_code.specs.Masked.{result_of}
-use Rattle.grid_machine.specs.Banks.{held}
-use Rattle.grid_machine.specs.Cells.{value_of}
+use Rattle.place_rows.specs.Banks.{held}
+use Rattle.place_values.specs.Cells.{value_of}
 use Rattle.grid_machine.specs.State.{state_of, ground_of, texts_of}
 use Rattle.grid_machine.proofs.Shapes.{result_shape, result_held}
 use Rattle.grid_machine.proofs.machine.Machine.put.Goals as goal

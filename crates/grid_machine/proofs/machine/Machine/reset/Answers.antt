@@ -1,6 +1,6 @@
 use Rattle.std.proofs.Common.{◌+◌, ◌*◌, refl, sym, ap, ◌∙◌, arith}
 use Rattle.grid_code.specs.Uses.{numbers_of}
-use Rattle.grid_machine.specs.Cells.{value_of}
+use Rattle.place_values.specs.Cells.{value_of}
 use Rattle.grid_machine.specs.State.{rank}
 use Rattle.std.proofs.lemmas.List.{get_or-replicate}
 use Rattle.grid_machine.proofs.Zeros.{zero_is}

@@ -4,7 +4,7 @@ use Rattle.sl_ast.specs.declared.typed.Value.{Value}
 use Rattle.sl_ast.specs.declared.typed.Value.TheVariants.{Triple}
 use Rattle.builtins.specs.declared.shape.Shape.TheVariants as shapes
 use Rattle.grid_code.specs.Names.{reg}
-use Rattle.grid_machine.specs.Cells.{value_of}
+use Rattle.place_values.specs.Cells.{value_of}
 use Rattle.grid_machine.specs.State.{state_of, texts_of}
 use Rattle.grid_machine.proofs.Near.{near_on, write_near}
 use Rattle.grid_machine.proofs.machine.Machine.set_triples.Goals as goal

@@ -7,12 +7,13 @@ use Rattle.builtins.specs.Lights.{sum_of}
 use Rattle.builtins.specs.Values.{triple_of}
 use Rattle.grid_code.specs.Masked.{read, reads, all_answers}
 use Rattle.grid_code.specs.Names.{name_at}
-use Rattle.grid_machine.specs.Banks.{held}
-use Rattle.grid_machine.specs.Cells.{value_of}
-use Rattle.grid_machine.specs.Seen.{gain_at}
+use Rattle.place_rows.specs.Banks.{held}
+use Rattle.place_values.specs.Cells.{value_of}
+use Rattle.place_rows.specs.Seen.{gain_at}
 use Rattle.grid_machine.specs.State.{state_of, texts_of}
 use Rattle.grid_machine.proofs.Near.{near_on, write_near, read_near, reads_near}
-use Rattle.grid_machine.proofs.Totals.{sum_at, reach_in}
+use Rattle.place_rows.proofs.Totals.{sum_at}
+use Rattle.grid_machine.proofs.Operands.{reach_in}
 use Rattle.grid_machine.proofs.machine.Machine.sum.Goals as goal
 
 pub returns-clause-near : goal.returns-clause-near

@@ -5,7 +5,7 @@ use Rattle.builtins.specs.Values.{triple_of}
 use Rattle.fixed_math.specs.Fixed.{IsRaw}
 use Rattle.grid_code.specs.Masked.{read}
 use Rattle.grid_code.specs.Names.{reg}
-use Rattle.grid_machine.specs.Cells.{value_of}
+use Rattle.place_values.specs.Cells.{value_of}
 use Rattle.grid_machine.specs.State.{state_of, texts_of}
 use Rattle.grid_machine.specs.Run.{value_in}
 use Rattle.grid_machine.proofs.Elements.{unloaded_next, others_set, long_set, SetAt, raws_set}

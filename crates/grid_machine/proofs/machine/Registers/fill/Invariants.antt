@@ -1,6 +1,6 @@
 use Rattle.std.proofs.Common.{◌≡◌}
 use Rattle.builtins.specs.declared.shape.Shape.{Shape}
-use Rattle.grid_machine.specs.Banks.{size}
+use Rattle.place_rows.specs.Banks.{size}
 use Rattle.grid_machine.specs.State.{texts_of}
 use Rattle.grid_machine.specs.Operands.{work_at}
 use Rattle.grid_machine.proofs.Filled.{Filled}

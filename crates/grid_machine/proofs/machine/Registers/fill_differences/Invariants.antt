@@ -1,7 +1,7 @@
 use Rattle.std.proofs.Common.{◌≡◌}
 use Rattle.builtins.specs.declared.shape.Shape.{Shape}
 use Rattle.builtins.specs.Differences.{difference}
-use Rattle.grid_machine.specs.Banks.{size}
+use Rattle.place_rows.specs.Banks.{size}
 use Rattle.grid_machine.specs.State.{texts_of, lines_of}
 use Rattle.grid_machine.specs.Operands.{operand_at}
 use Rattle.grid_machine.proofs.Filled.{Filled}

@@ -1,9 +1,0 @@
-use Rattle.std.proofs.Common.{◌≡◌, ◌+◌}
-use Rattle.builtins.specs.declared.shape.Shape.{Shape}
-use Rattle.grid_machine.specs.Banks.{size}
-use Rattle.grid_machine.specs.Run.{value_in}
-use Rattle.grid_machine.proofs.Filled.{Filled}
-use Rattle.grid_machine.proofs.cell.Setting.fill.Given as goal
-
-abbrev pub invariant-loop-place : goal.invariant-loop-place
-invariant-loop-place l = ((s : Shape) → size l.row s ≡ size l.initial.row s) × Filled l.self.texts.now l.row (λ j. value_in l.shape l.rows l.width (l.start + j)) l.place

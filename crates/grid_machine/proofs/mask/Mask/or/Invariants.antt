@@ -1,6 +1,0 @@
-use Rattle.std.proofs.Common.{◌≡◌, ℕ, ◌<◌, length, get_or, false}
-use Rattle.std.specs.Prelude.{◌||◌}
-use Rattle.grid_machine.proofs.mask.Mask.or.Given as goal
-
-abbrev pub invariant-loop-place : goal.invariant-loop-place
-invariant-loop-place l = (length l.mask.places ≡ 289) × ((i : ℕ) → i < l.place → get_or l.mask.places i false ≡ (get_or l.self.places i false || get_or l.other.places i false))

@@ -1,0 +1,4 @@
+pub mod Sets
+pub mod Rows
+mod Views
+pub mod Totals

@@ -1,0 +1,29 @@
+-- What banks hold, by shape and place.
+use Rattle.std.specs.Prelude.{ℕ, pos, length, get_or}
+use Rattle.fixed_math.specs.Axes.{origin}
+use Rattle.builtins.specs.declared.shape.Shape.{Shape}
+use Rattle.builtins.specs.declared.shape.Shape.TheVariants as shapes
+use Rattle.place_values.specs.declared.cell.Cell.{Cell}
+use Rattle.place_values.specs.declared.cell.Cell.TheVariants.{Number, Triple, Word}
+use Rattle.place_rows.specs.declared.bank.Bank.{Bank}
+
+abbrev pub shape_of_cell : Cell → Shape
+shape_of_cell (Number x) = shapes.Number
+shape_of_cell (Triple t) = shapes.Triple
+shape_of_cell (Word k) = shapes.Word
+
+abbrev pub zero_cell : Shape → Cell
+zero_cell shapes.Number = Number (pos 0)
+zero_cell shapes.Triple = Triple origin
+zero_cell shapes.Word = Word 0
+
+-- how many values of a shape there are
+abbrev pub size : Bank → Shape → ℕ
+size b shapes.Number = length b.numbers.items
+size b shapes.Triple = length b.triples.items
+size b shapes.Word = length b.words.items
+
+abbrev pub held : Bank → Shape → ℕ → Cell
+held b shapes.Number k = Number (get_or b.numbers.items k (pos 0))
+held b shapes.Triple k = Triple (get_or b.triples.items k origin)
+held b shapes.Word k = Word (get_or b.words.items k 0)

@@ -1,0 +1,115 @@
+// Values of registers by shape, in an arena.
+ghost use Rattle.std.specs.Prelude.{◌≡◌, ℕ, ◌+◌, ◌*◌, ◌&&◌, ◌==◌, ◌<◌, ◌≤◌, cond, false, length, get_or, IfOk};
+ghost use Rattle.builtins.specs.declared.shape.Shape.{Shape as AnyShape};
+ghost use Rattle.builtins.specs.declared.shape.Shape.TheVariants as shapes;
+ghost use Rattle.grid_code.specs.Masked.{same_shape};
+ghost use Rattle.place_rows.specs.Banks.{size, held, shape_of_cell, zero_cell};
+
+use builtins::Shape;
+use bumpalo::Bump;
+use fixed_math::{NoMemory, Num, Vec3};
+use place_values::Cell;
+
+/// Rows of values: the numbers, the triples and the texts each by themselves.
+#[derive(Drop)]
+pub struct Bank<'a> {
+    pub numbers: Vec<Num, &'a Bump>,
+    pub triples: Vec<Vec3, &'a Bump>,
+    pub words: Vec<usize, &'a Bump>,
+}
+
+// Writes a row into the row of a register, at the places that are live.
+fn store_row<T: Copy>(rows: &mut [T], register: usize, live: &[bool], row: &[T])
+    requires live { length row.now ≤ length live.now }
+    requires fits { register * length row.now + length row.now ≤ length rows.old }
+    ensures long { length rows.new ≡ length rows.old }
+    ensures each { (d : T) (r j : ℕ) → j < length row.now → get_or rows.new (r * length row.now + j) d ≡ cond (r == register && get_or live.now j false) (get_or row.now j d) (get_or rows.old (r * length row.now + j) d) }
+{
+    for i in 0..row.len() {
+        if live[i] {
+            rows[register * row.len() + i] = row[i];
+        }
+    }
+}
+
+// Makes all elements that one.
+fn make_all<T: Copy>(row: &mut [T], value: T)
+    ensures long { length row.new ≡ length row.old }
+    ensures each { (i : ℕ) → get_or row.new i value ≡ value }
+{
+    for n in 0..row.len() {
+        row[n] = value;
+    }
+}
+
+impl<'a> Bank<'a> {
+    /// A bank of that many values of each shape, or want of memory.
+    pub fn zeros(
+        arena: &'a Bump,
+        numbers: usize,
+        triples: usize,
+        words: usize,
+    ) -> Result<Bank<'a>, NoMemory>
+        ensures numbers { IfOk result (λ b. size b shapes.Number ≡ numbers) }
+        ensures triples { IfOk result (λ b. size b shapes.Triple ≡ triples) }
+        ensures words { IfOk result (λ b. size b shapes.Word ≡ words) }
+        ensures zero { IfOk result (λ b. (shape : AnyShape) (k : ℕ) → held b shape k ≡ zero_cell shape) }
+    {
+        Ok(Bank {
+            numbers: vec![in arena; Num::sat(0); numbers]?,
+            triples: vec![in arena; Vec3::default(); triples]?,
+            words: vec![in arena; 0; words]?,
+        })
+    }
+}
+
+impl Bank<'_> {
+    /// The value at a place.
+    pub fn get(&self, shape: Shape, at: usize) -> Cell
+        requires { at < size self.now shape }
+        ensures { result ≡ held self.now shape at }
+    {
+        match shape {
+            Shape::Number => Cell::Number(self.numbers[at]),
+            Shape::Triple => Cell::Triple(self.triples[at]),
+            Shape::Word => Cell::Word(self.words[at]),
+        }
+    }
+
+    /// Sets the value at a place to one of its shape.
+    pub fn set(&mut self, at: usize, cell: &Cell)
+        requires at { at < size self.old (shape_of_cell cell.now) }
+        ensures size { (t : AnyShape) → size self.new t ≡ size self.old t }
+        ensures value { (t : AnyShape) (k : ℕ) → held self.new t k ≡ cond (same_shape t (shape_of_cell cell.now) && k == at) cell.now (held self.old t k) }
+    {
+        match cell {
+            Cell::Number(x) => self.numbers[at] = *x,
+            Cell::Triple(t) => self.triples[at] = *t,
+            Cell::Word(w) => self.words[at] = *w,
+        }
+    }
+
+    /// Writes the row of that shape into the row of a register, at the places that are live.
+    pub fn store(&mut self, shape: Shape, register: usize, live: &[bool], row: &Bank)
+        requires live { size row.now shape ≤ length live.now }
+        requires fits { register * size row.now shape + size row.now shape ≤ size self.old shape }
+        ensures size { (t : AnyShape) → size self.new t ≡ size self.old t }
+        ensures value { (t : AnyShape) (r j : ℕ) → j < size row.now shape → held self.new t (r * size row.now shape + j) ≡ cond (same_shape t shape && (r == register && get_or live.now j false)) (held row.now shape j) (held self.old t (r * size row.now shape + j)) }
+    {
+        match shape {
+            Shape::Number => store_row(&mut self.numbers, register, live, &row.numbers),
+            Shape::Triple => store_row(&mut self.triples, register, live, &row.triples),
+            Shape::Word => store_row(&mut self.words, register, live, &row.words),
+        }
+    }
+
+    /// Makes all values 0.
+    pub fn clear(&mut self)
+        ensures size { (s : AnyShape) → size self.new s ≡ size self.old s }
+        ensures zero { (s : AnyShape) (k : ℕ) → held self.new s k ≡ zero_cell s }
+    {
+        make_all(&mut self.numbers, Num::sat(0));
+        make_all(&mut self.triples, Vec3::default());
+        make_all(&mut self.words, 0);
+    }
+}
