@@ -15,7 +15,7 @@ use crate::sets::set_of;
 use fixed_math::{List, NoMemory};
 use grid_code::Code;
 use sl_ast::{ParamDecl, Tree};
-use sl_meaning::lower_body;
+use sl_lowering::lower_body;
 use std::alloc::Global;
 use std::marker::Model;
 
