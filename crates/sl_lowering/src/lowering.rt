@@ -1,9 +1,8 @@
 // The core tree of a typed tree.
-ghost use Rattle.std.specs.Prelude.{◌≡◌, ◌&&◌, map, true, false, [], IfOk, OnOk};
+ghost use Rattle.std.specs.Prelude.{◌≡◌, map, true, false, [], IfOk, OnOk};
 ghost use Rattle.sl_ast.specs.Typed as T;
 ghost use Rattle.sl_ast.specs.TypedView.{tree_expr, tree_stmt, default_of};
 ghost use Rattle.sl_ast.specs.TreeView.{tree_of};
-ghost use Rattle.sl_ast.specs.Classes as classes;
 ghost use Rattle.sl_meaning.specs.Core as C;
 ghost use Rattle.sl_meaning.specs.CoreView.{expr_of, exprs_of, args_of, stmt_of, stmts_of};
 ghost use Rattle.sl_meaning.specs.Lowered as spec;
