@@ -3,35 +3,18 @@ ghost use Rattle.std.specs.Prelude.{◌≡◌, ◌<◌, length, IfOk};
 ghost use Rattle.sl_ast.specs.Settled.{IsSettled};
 ghost use Rattle.sl_ast.specs.TreeView.{tree_of};
 ghost use Rattle.sl_ast.specs.TypedView.{default_of};
-ghost use Rattle.sl_meaning.specs.Alone.{value as value_at};
-ghost use Rattle.sl_meaning.specs.CoreView.{expr_of};
-ghost use Rattle.sl_meaning.specs.Dark.{dark};
 ghost use Rattle.sl_meaning.specs.Defaults as spec;
-ghost use Rattle.sl_evaluation.specs.PointView.{env_of};
 
 use crate::evaluate::{in_kind, value};
 use crate::point::Point;
 use fixed_math::NoMemory;
 use sl_ast::{ParamDefault, SlType, Tree, Value};
 use sl_lowering::lower_default;
-use sl_meaning::CoreExpr;
 use std::alloc::Global;
 use transforms::Spaces;
 
 // The turns that a budget has at first.
 const TURNS: u32 = 65536;
-
-// The value of an expression, which ends here.
-fn value_once(
-    expression: CoreExpr,
-    alloc: Global,
-    spaces: &Spaces,
-    point: &mut Point,
-) -> Result<Value, NoMemory>
-    ensures { IfOk result (λ v. v ≡ (value_at (expr_of expression) (dark spaces.now) 65536 (env_of point.old)).0) }
-{
-    value(&expression, alloc, spaces, TURNS, point)
-}
 
 fn evaluated(
     alloc: Global,
@@ -43,7 +26,7 @@ fn evaluated(
 {
     let mut point = Point::new(alloc, TURNS, TURNS)?;
     let expression = lower_default(alloc, default)?;
-    let found = value_once(expression, alloc, spaces, &mut point)?;
+    let found = value(&expression, alloc, spaces, TURNS, &mut point)?;
     in_kind(alloc, kind, &found)
 }
 
