@@ -29,7 +29,7 @@ use Rattle.sl_meaning.specs.Core as core
 use Rattle.sl_meaning.specs.Environment.{zero_value}
 use Rattle.sl_meaning.specs.Runs.{Names, ran}
 use Rattle.mask_codegen.specs.Compiled.{IsCodeOf}
-use Rattle.mask_codegen.specs.Correct.{Answers}
+use Rattle.core_codegen.specs.Correct.{Answers}
 use Rattle.displace_shade.specs.Points.{Leaf, columns, rows, lines}
 use Rattle.displace_shade.specs.Shaded.{Bound, spaces_of, around}
 use Rattle.grid_machine.specs.Run.{row_length, height, rows_of, same_class, params_of, step_names, uniform_inputs, varying_inputs, begun, lines_given, Leaves}

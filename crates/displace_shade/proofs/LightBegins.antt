@@ -25,8 +25,8 @@ use Rattle.sl_meaning.specs.Environment.{Around, zero_value}
 use Rattle.sl_meaning.specs.Lowered.{slots}
 use Rattle.sl_meaning.specs.Runs.{beginning, asked_at, nothing}
 use Rattle.sl_meaning.specs.Runs as runs
-use Rattle.mask_codegen.specs.Compile.{slot_at}
-use Rattle.mask_codegen.specs.Correct.{Begins}
+use Rattle.core_codegen.specs.Compile.{slot_at}
+use Rattle.core_codegen.specs.Correct.{Begins}
 use Rattle.grid_machine.specs.Asked.{begun_at}
 use Rattle.grid_machine.specs.Run.{assigned, fresh}
 use Rattle.displace_shade.specs.Rows.{slot_of}

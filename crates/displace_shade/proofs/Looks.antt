@@ -12,7 +12,7 @@ use Rattle.grid_code.specs.declared.code.Register.TheVariants.{Uniform, Varying}
 use Rattle.grid_code.specs.Names.{reg}
 use Rattle.grid_code.specs.Masked.{State, same_shape, read, write}
 use Rattle.grid_code.specs.Shapes.{register_class, register_shape}
-use Rattle.mask_codegen.proofs.Relation.{any_true}
+use Rattle.core_codegen.proofs.Relation.{any_true}
 use Rattle.grid_machine.specs.Run.{height, assigned, loaded}
 use Rattle.grid_machine.specs.Run as run
 use Rattle.displace_shade.specs.Rows.{value_in, HoldList}

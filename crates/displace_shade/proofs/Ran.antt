@@ -20,7 +20,7 @@ use Rattle.grid_code.specs.declared.slot.Slot.{Slot}
 use Rattle.sl_meaning.specs.Environment.{Around}
 use Rattle.sl_meaning.specs.Lowered.{body_of, slots}
 use Rattle.sl_meaning.specs.Runs.{Names, most_turns, beginning, ran}
-use Rattle.mask_codegen.specs.Correct.{IsGround, Holds, Begins, Means}
+use Rattle.core_codegen.specs.Correct.{IsGround, Holds, Begins, Means}
 use Rattle.grid_machine.specs.Run.{row_length, height, written_names, HoldRows, begun, Leaves}
 use Rattle.grid_machine.specs.Run as run
 use Rattle.displace_shade.specs.Rows.{HoldNames, AreRows, written_order, values_of, uniform_values, varying_values}

@@ -26,8 +26,8 @@ use Rattle.sl_meaning.specs.Environment.{zero_value}
 use Rattle.sl_meaning.specs.Lowered.{slots}
 use Rattle.sl_meaning.specs.Runs.{Names, nothing}
 use Rattle.sl_meaning.specs.Runs as runs
-use Rattle.mask_codegen.specs.Compile.{slot_at}
-use Rattle.mask_codegen.proofs.Relation.{place_small}
+use Rattle.core_codegen.specs.Compile.{slot_at}
+use Rattle.core_codegen.proofs.Relation.{place_small}
 use Rattle.displace_shade.specs.Sets.{AreValuesOf}
 use Rattle.grid_machine.specs.Run.{row_length, same_class, params_of, given_names, step_names, uniform_inputs, varying_inputs, assigned, loaded, started, fresh, begun}
 use Rattle.grid_machine.specs.Run as run

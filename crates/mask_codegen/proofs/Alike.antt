@@ -14,8 +14,8 @@ use Rattle.sl_meaning.specs.Core.{Slot, no_slot, class_in}
 use Rattle.sl_meaning.specs.Environment.{Env, Around, Signal, Next, Break, Continue, zero_value, read_of, scope_of, cut_to}
 use Rattle.sl_meaning.specs.Alone.{Gives, Runs, on_value, then_more, inlined, on_next, inside, answers_at, summed}
 use Rattle.sl_meaning.specs.Grid.{Envs, GivesAll, RunsAll, on_all, more_all, summed_all, inlined_all, next_all, inside_all}
-use Rattle.mask_codegen.specs.Fine.{InScope}
-use Rattle.mask_codegen.proofs.Scopes.{Extends}
+use Rattle.core_codegen.specs.Fine.{InScope}
+use Rattle.core_codegen.proofs.Scopes.{Extends}
 use Rattle.mask_codegen.proofs.Kept.{Kept}
 
 -- all points have the same uniform variables and the same uniform budget

@@ -9,7 +9,7 @@ use Rattle.sl_meaning.specs.Core.{Slot}
 use Rattle.sl_meaning.specs.Environment.{Env, Around, Signal, Next, Break, Continue, spend}
 use Rattle.sl_meaning.specs.Alone.{Gives, Runs, either, round, loop, over_lights, with_args}
 use Rattle.sl_meaning.specs.Grid.{Envs, GivesAll, RunsAll, each, choice_all, round_all, loop_all, with_args_all}
-use Rattle.mask_codegen.proofs.Varying.{over_next}
+use Rattle.core_codegen.proofs.Varying.{over_next}
 use Rattle.mask_codegen.proofs.Kept.{Kept, lights_kept}
 use Rattle.mask_codegen.proofs.Alike.{Exact, Alike, BodyAlike, each_exact}
 

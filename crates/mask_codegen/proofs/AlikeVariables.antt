@@ -14,7 +14,7 @@ use Rattle.sl_meaning.specs.Core.{Slot, no_slot, class_in}
 use Rattle.sl_meaning.specs.Environment.{Next, zero_value, with_variable, declared}
 use Rattle.sl_meaning.specs.Alone.{Gives}
 use Rattle.sl_meaning.specs.Grid.{Envs}
-use Rattle.mask_codegen.specs.Fine.{InScope}
+use Rattle.core_codegen.specs.Fine.{InScope}
 use Rattle.mask_codegen.proofs.Kept.{names_apart}
 use Rattle.mask_codegen.proofs.Alike.{Exact, Alike, StmtAlike}
 

@@ -8,10 +8,10 @@ use Rattle.sl_meaning.specs.Core.{Slot, slot, Expr, literal, read, apply, differ
 use Rattle.sl_meaning.specs.Environment.{Around}
 use Rattle.sl_meaning.specs.Alone.{Gives, on_value, inside, either, value, all_values, arg_values, run, run_all}
 use Rattle.sl_meaning.specs.Grid.{Envs, on_all, inside_all, choice_all, loops_all, values, all_of, args_of, grid, grid_all}
-use Rattle.mask_codegen.specs.Fine.{StaysAll, IsStep, When, FineExpr, FineAll, GridExpr, GridExprs, GridArgs, GridStmt, GridAll}
-use Rattle.mask_codegen.proofs.Scopes.{extends_stmt, extends_all}
-use Rattle.mask_codegen.proofs.Varying.{stays_all, loop_next, call_uniform}
-use Rattle.mask_codegen.proofs.Uniform.{all_stay}
+use Rattle.core_codegen.specs.Fine.{StaysAll, IsStep, When, FineExpr, FineAll, GridExpr, GridExprs, GridArgs, GridStmt, GridAll}
+use Rattle.core_codegen.proofs.Scopes.{extends_stmt, extends_all}
+use Rattle.core_codegen.proofs.Varying.{stays_all, loop_next, call_uniform}
+use Rattle.core_codegen.proofs.Uniform.{all_stay}
 use Rattle.mask_codegen.proofs.CorePlain.{PlainExpr, PlainExprs, PlainArgs, PlainStmt, PlainAll}
 use Rattle.mask_codegen.proofs.Keeps.{body_kept, repeat_kept}
 use Rattle.mask_codegen.proofs.Alike.{Exact, Alike, ArgsAlike, StmtAlike, BodyAlike, callees, read_alike, on_alike, more_alike, summed_alike, no_args_alike, arg_alike, call_alike, block_alike, step_alike, inside_alike, seq_alike}

@@ -17,14 +17,14 @@ use Rattle.grid_code.specs.View.{block_of}
 use Rattle.sl_meaning.specs.Core.{Stmts}
 use Rattle.sl_meaning.specs.Lowered.{slots, body_of}
 use Rattle.mask_codegen.specs.Collected.{registers_of, IsSetOf}
-use Rattle.mask_codegen.specs.Compile.{shader_code}
-use Rattle.mask_codegen.specs.Correct.{Means}
-use Rattle.mask_codegen.specs.Fine.{GridAll, StaysAll}
-use Rattle.mask_codegen.specs.Room.{all_room}
-use Rattle.mask_codegen.specs.Slots.{slots_of}
+use Rattle.core_codegen.specs.Compile.{shader_code}
+use Rattle.core_codegen.specs.Correct.{Means}
+use Rattle.core_codegen.specs.Fine.{GridAll, StaysAll}
+use Rattle.core_codegen.specs.Room.{all_room}
+use Rattle.core_codegen.specs.Slots.{slots_of}
 use Rattle.mask_codegen.proofs.LoweredGrid.{body_settled}
 use Rattle.mask_codegen.proofs.LoweredStays.{body_stays}
-use Rattle.mask_codegen.proofs.Slots.{length_slots}
+use Rattle.core_codegen.proofs.Slots.{length_slots}
 use Rattle.mask_codegen.proofs.TreeCode.{tree_fits, code_placed, code_shallow, code_given, code_named, code_few}
 
 module _ (t : T.Tree) (typed : well_typed t ≡ true) (settled : IsSettled t) (ps : List Slot) (same : slots_of ps ≡ slots t.params) where

@@ -4,7 +4,7 @@ use Rattle.std.proofs.Math.Nat.{max-le}
 use Rattle.grid_code.specs.Valid.{nesting}
 use Rattle.grid_code.proofs.ValidThen.{nesting_then}
 use Rattle.sl_meaning.specs.Core.{Slot, Expr, literal, read, apply, differ, sum, call, Exprs, none, more, Arguments, no_arguments, argument, Stmt, declare, assign, block, test, repeat, lights, leave, again, Stmts, done, first, formals, after, after_all}
-use Rattle.mask_codegen.specs.Compile.{behind, expr_code, exprs_code, args_code, stmt_code, all_code}
+use Rattle.core_codegen.specs.Compile.{behind, expr_code, exprs_code, args_code, stmt_code, all_code}
 use Rattle.mask_codegen.proofs.CoreNesting.{expr_nesting, exprs_nesting, args_nesting, stmt_nesting, all_nesting}
 use Rattle.mask_codegen.proofs.LoweredNesting.{max_parts}
 

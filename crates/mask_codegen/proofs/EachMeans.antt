@@ -17,8 +17,8 @@ use Rattle.sl_meaning.specs.Environment.{Around}
 use Rattle.sl_meaning.specs.Alone.{inside, run_all}
 use Rattle.sl_meaning.specs.Grid.{Envs}
 use Rattle.sl_meaning.specs.Lowered.{slots, body_of}
-use Rattle.mask_codegen.specs.Correct.{Holds, IsGround, Begins, Means}
-use Rattle.mask_codegen.specs.Fine.{GridAll}
+use Rattle.core_codegen.specs.Correct.{Holds, IsGround, Begins, Means}
+use Rattle.core_codegen.specs.Fine.{GridAll}
 use Rattle.mask_codegen.proofs.CorePlain.{PlainAll}
 use Rattle.mask_codegen.proofs.PlacedPlain.{plain_all}
 use Rattle.mask_codegen.proofs.LoweredPlaced.{body_placed}

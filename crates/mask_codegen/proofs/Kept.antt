@@ -19,7 +19,7 @@ use Rattle.builtins.specs.Lights.{is_in_cone}
 use Rattle.sl_meaning.specs.Core.{Slot, no_slot}
 use Rattle.sl_meaning.specs.Environment.{Env, Around, Signal, Next, Break, Continue, zero_value, with_name, budget, spend, cut_to}
 use Rattle.sl_meaning.specs.Alone.{Gives, Runs, on_next, either, round, loop, under_light, each_light, seen_from, lighting, over_lights}
-use Rattle.mask_codegen.proofs.Scopes.{Extends}
+use Rattle.core_codegen.proofs.Scopes.{Extends}
 
 -- a varying predefined variable is no uniform one
 pub names_apart : (p q : Predefined) → is_uniform_name p ≡ false → is_uniform_name q ≡ true → (place_of p == place_of q) ≡ false

@@ -22,7 +22,7 @@ use Rattle.sl_meaning.specs.Dark.{dark}
 use Rattle.sl_meaning.specs.Environment.{Env, Around}
 use Rattle.sl_meaning.specs.Lowered.{slots, body_of}
 use Rattle.sl_meaning.specs.Runs.{most_turns, beginning, lights_in_all, asked_at, answer_of, light_answer}
-use Rattle.mask_codegen.specs.Correct.{Answers, Holds, IsGround, Begins, Means}
+use Rattle.core_codegen.specs.Correct.{Answers, Holds, IsGround, Begins, Means}
 use Rattle.mask_codegen.proofs.EachMeans.{shader_means_each}
 use Rattle.mask_codegen.proofs.NoLines.{all_same}
 

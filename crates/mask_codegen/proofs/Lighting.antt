@@ -7,8 +7,8 @@ use Rattle.grid_code.specs.Code as c
 use Rattle.grid_code.specs.Valid.{has_light_statement}
 use Rattle.grid_code.specs.View.{with_node, block_of}
 use Rattle.grid_code.proofs.ValidThen.{lights_then}
-use Rattle.mask_codegen.proofs.NodeRows.{branch_shown, loop_shown, node_before}
-use Rattle.mask_codegen.proofs.ValueRegisters.{next_left}
+use Rattle.core_codegen.proofs.NodeRows.{branch_shown, loop_shown, node_before}
+use Rattle.core_codegen.proofs.ValueRegisters.{next_left}
 
 or_false : (a : Bool) → (a || false) ≡ a
 or_false true = refl

@@ -17,7 +17,7 @@ use Rattle.uniform_varying.proofs.Leaves.{function_stays}
 use Rattle.sl_meaning.specs.Core as C
 use Rattle.sl_meaning.specs.Core.{Slot}
 use Rattle.sl_meaning.specs.Lowered.{expr, exprs, arguments, stmt, stmts}
-use Rattle.mask_codegen.specs.Fine.{Takes, FineExpr, FineExprs, FineArgs, FineStmt, FineAll}
+use Rattle.core_codegen.specs.Fine.{Takes, FineExpr, FineExprs, FineArgs, FineStmt, FineAll}
 use Rattle.mask_codegen.proofs.LoweredScopes.{Scope, scope_after, scope_after_all, scope_of_formals, variable_class, read_in_scope, set_in_scope}
 use Rattle.mask_codegen.proofs.LoweredClasses.{expr_class}
 use Rattle.mask_codegen.proofs.LoweredNodes.{fine_read, fine_operated, fine_put}

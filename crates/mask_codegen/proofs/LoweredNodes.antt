@@ -16,7 +16,7 @@ use Rattle.sl_meaning.specs.Core as C
 use Rattle.sl_meaning.specs.Core.{Slot}
 use Rattle.sl_meaning.specs.Lowered as lowered
 use Rattle.sl_meaning.specs.Lowered.{put_into, read, with_last}
-use Rattle.mask_codegen.specs.Fine.{InScope, FineExpr, FineExprs, GridExpr, GridExprs}
+use Rattle.core_codegen.specs.Fine.{InScope, FineExpr, FineExprs, GridExpr, GridExprs}
 
 -- in varying control
 fine_predefined : (p : Predefined) (ss : List Slot) → FineExpr (read (variables.Predefined p)) ss

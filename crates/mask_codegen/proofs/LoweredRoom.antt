@@ -19,7 +19,7 @@ use Rattle.sl_ast.specs.Classes.{formal_classes, is_uniform, is_uniform_loop}
 use Rattle.sl_meaning.specs.Core as C
 use Rattle.sl_meaning.specs.Lowered as lowered
 use Rattle.sl_meaning.specs.Lowered.{expr, exprs, arguments, stmt, stmts, put_into, read, with_last, body_of}
-use Rattle.mask_codegen.specs.Room.{expr_room, exprs_room, args_room, stmt_room, all_room}
+use Rattle.core_codegen.specs.Room.{expr_room, exprs_room, args_room, stmt_room, all_room}
 
 last_room : (es : C.Exprs) → exprs_room (lowered.last es) ≤ exprs_room es
 last_room C.none = omega arith

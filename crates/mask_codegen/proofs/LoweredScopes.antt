@@ -15,7 +15,7 @@ use Rattle.sl_ast.specs.WellTyped.{Around, is_type, level_type, set_type, read_t
 use Rattle.sl_meaning.specs.Core as C
 use Rattle.sl_meaning.specs.Core.{Slot, slot, no_slot, class_in}
 use Rattle.sl_meaning.specs.Lowered.{stmt, stmts, arguments, slots}
-use Rattle.mask_codegen.specs.Fine.{InScope}
+use Rattle.core_codegen.specs.Fine.{InScope}
 
 abbrev pub classes_of : List Slot → List Bool
 classes_of [] = []

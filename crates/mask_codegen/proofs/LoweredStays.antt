@@ -14,7 +14,7 @@ use Rattle.uniform_varying.specs.Leaving.{stays, all_stay}
 use Rattle.uniform_varying.proofs.Leaves.{shader_stays}
 use Rattle.sl_meaning.specs.Core.{Slot}
 use Rattle.sl_meaning.specs.Lowered.{stmt, stmts, body_of}
-use Rattle.mask_codegen.specs.Fine.{Stays, StaysAll, IsStep}
+use Rattle.core_codegen.specs.Fine.{Stays, StaysAll, IsStep}
 
 -- nothing, or one assignment: none leaves it
 pub set_leaves : (a : T.Stmts) (us : List Bool) (u : Bool) → is_set a ≡ true → leave_together a us u ≡ true

@@ -6,7 +6,7 @@ use Rattle.builtins.specs.Values.{shape_of}
 use Rattle.grid_code.specs.declared.code.Register.{Register}
 use Rattle.grid_code.specs.Names.{reg}
 use Rattle.sl_meaning.specs.Core.{Slot, Expr, literal, read, apply, differ, sum, call, Exprs, none, more, Arguments, no_arguments, argument, Stmt, declare, assign, block, test, repeat, lights, leave, again, Stmts, done, first, formals, after, after_all, is_uniform, stmts_uniform}
-use Rattle.mask_codegen.specs.Compile.{at, shape_in, behind}
+use Rattle.core_codegen.specs.Compile.{at, shape_in, behind}
 use Rattle.mask_codegen.proofs.Made.{shared, shared_by, made, made_exprs, made_args, made_stmt, made_all, rows_at, weight, three_unless, load, load_exprs, load_args, load_stmt, load_all}
 
 pub weight_on : (a b : List Register) → weight (a ++ b) ≡ weight a + weight b

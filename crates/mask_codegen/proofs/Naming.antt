@@ -13,8 +13,8 @@ use Rattle.grid_code.specs.Code.{Block, end, put, differ, sum, branch, loops, li
 use Rattle.grid_code.specs.Uses.{source_within, within}
 use Rattle.grid_code.specs.View.{with_node, block_of}
 use Rattle.mask_codegen.specs.Collected.{source_registers, registers_of}
-use Rattle.mask_codegen.proofs.NodeRows.{branch_shown, loop_shown, lights_shown, node_before}
-use Rattle.mask_codegen.proofs.ValueRegisters.{next_left}
+use Rattle.core_codegen.proofs.NodeRows.{branch_shown, loop_shown, lights_shown, node_before}
+use Rattle.core_codegen.proofs.ValueRegisters.{next_left}
 
 pub registers_then : (x y : Block) → registers_of (x then y) ≡ registers_of x ++ registers_of y
 registers_then end y = refl

@@ -19,10 +19,10 @@ use Rattle.grid_code.specs.Valid.{is_placed, nesting}
 use Rattle.sl_meaning.specs.Core.{Stmts}
 use Rattle.sl_meaning.specs.Lowered.{slots, body_of}
 use Rattle.mask_codegen.specs.Collected.{registers_of, IsSetOf}
-use Rattle.mask_codegen.specs.Compile.{behind, shader_code}
-use Rattle.mask_codegen.specs.Fine.{GridAll}
-use Rattle.mask_codegen.specs.Room.{all_room}
-use Rattle.mask_codegen.specs.Slots.{slots_of}
+use Rattle.core_codegen.specs.Compile.{behind, shader_code}
+use Rattle.core_codegen.specs.Fine.{GridAll}
+use Rattle.core_codegen.specs.Room.{all_room}
+use Rattle.core_codegen.specs.Slots.{slots_of}
 use Rattle.mask_codegen.proofs.CodeNesting.{all_nest}
 use Rattle.mask_codegen.proofs.CodePlaced.{all_grid}
 use Rattle.mask_codegen.proofs.CodeWithin.{all_first, all_second, all_join, all_within}
@@ -37,7 +37,7 @@ use Rattle.mask_codegen.proofs.LoweredScopes.{classes_of, scope_of_params}
 use Rattle.mask_codegen.proofs.Made.{shared, made_all, weight, load_all}
 use Rattle.mask_codegen.proofs.MadeLoad.{weight_on, all_load}
 use Rattle.mask_codegen.proofs.Naming.{within_named}
-use Rattle.mask_codegen.proofs.Scoped.{grid_all}
+use Rattle.core_codegen.proofs.Scoped.{grid_all}
 use Rattle.mask_codegen.proofs.SetRows.{has_all, is_one_of, all_one_of, rows_fit}
 
 -- no more parameters than nodes

@@ -13,8 +13,8 @@ use Rattle.sl_meaning.specs.Lowered.{slots, body_of}
 use Rattle.sl_meaning.specs.Runs.{lights_in_all}
 use Rattle.mask_codegen.specs.declared.fault.CodeFault.{CodeFault}
 use Rattle.mask_codegen.specs.declared.fault.CodeFault.TheVariants.{M9, NoMemory}
-use Rattle.mask_codegen.specs.Correct.{Means}
-use Rattle.mask_codegen.specs.Slots.{slots_of}
+use Rattle.core_codegen.specs.Correct.{Means}
+use Rattle.core_codegen.specs.Slots.{slots_of}
 
 -- a code of a settled tree: of its kind, with its parameters, meaning its body, with a statement over lights where the tree has one, in at most
 -- sixteen rows for each one counted

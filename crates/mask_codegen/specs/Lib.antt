@@ -1,9 +1,2 @@
-pub mod Compile
-pub mod Fine
-pub mod Sizes
-pub mod Slots
-pub mod Registers
-pub mod Correct
-pub mod Room
 pub mod Collected
 pub mod Compiled

@@ -5,17 +5,16 @@ ghost use Rattle.sl_ast.specs.Settled.{IsSettled};
 ghost use Rattle.sl_ast.specs.TreeView.{tree_of};
 ghost use Rattle.mask_codegen.specs.Compiled.{IsCodeOf, Compiles};
 
-use crate::counted::rows;
-use crate::emission::emit;
 use crate::fault::CodeFault;
-use crate::given::{given, param_slots};
 use crate::lit::is_ambient;
 use crate::named::name_all;
 use crate::sets::set_of;
+use core_codegen::{emit, given, param_slots};
 use fixed_math::{List, NoMemory};
 use grid_code::Code;
+use row_count::rows;
 use sl_ast::{ParamDecl, Tree};
-use sl_meaning::lower_body;
+use sl_lowering::lower_body;
 use std::alloc::Global;
 use std::marker::Model;
 

@@ -11,7 +11,7 @@ use fixed_math::{List, Names, NoMemory, Num, Text, Vec3};
 use rib_reader::{Param, Values};
 use scene_state::ShaderUse;
 use sl_ast::{SlType, Tree, Value};
-use sl_meaning::default_value;
+use sl_evaluation::default_value;
 use std::alloc::Global;
 use transforms::{Affine, Spaces};
 

@@ -7,7 +7,7 @@ ghost use Rattle.sl_ast.specs.TreeView.{tree_of};
 use crate::shading::shaded;
 use fixed_math::Num;
 use sl_ast::{Tree, Value};
-use sl_meaning::default_value;
+use sl_evaluation::default_value;
 use sl_parser::parse;
 use sl_types::check;
 use std::alloc::Global;

@@ -9,7 +9,7 @@ use Rattle.builtins.specs.Values.{as_kind}
 use Rattle.sl_meaning.specs.Alone.{value}
 use Rattle.sl_meaning.specs.Dark.{dark}
 use Rattle.sl_meaning.specs.Lowered.{expr}
-use Rattle.sl_meaning.specs.PointView.{bare}
+use Rattle.sl_meaning.specs.Environment.{bare}
 
 -- the turns that a budget has at first
 abbrev pub full : ℕ

@@ -64,3 +64,7 @@ scope_of e after = record after { values = e.values }
 -- the variables that were in scope alone
 abbrev pub cut_to : Env → Env → Env
 cut_to e after = record after { values = take (length e.values) after.values }
+
+-- a point whose predefined variables are 0 and that has no others
+abbrev pub bare : ℕ → ℕ → Env
+bare turns own = record { named = λ q. zero_value; values = []; turns = turns; own = own; lit = false }

@@ -8,10 +8,9 @@ use Rattle.sl_ast.specs.declared.typed.Value.{Value}
 use Rattle.sl_ast.specs.declared.typed.Value.TheVariants.{Number, Triple}
 use Rattle.builtins.specs.Table.{of_two}
 use Rattle.sl_meaning.specs.Core.{Expr, literal, read, apply, call, none, more, no_arguments, argument, declare, assign, block, test, repeat, leave, again, Stmts, done, first}
-use Rattle.sl_meaning.specs.Environment.{Next}
+use Rattle.sl_meaning.specs.Environment.{Next, bare}
 use Rattle.sl_meaning.specs.Alone.{value, run_all}
 use Rattle.sl_meaning.specs.Dark.{dark}
-use Rattle.sl_meaning.specs.PointView.{bare}
 
 -- so many whole ones
 abbrev one : ℕ → Value

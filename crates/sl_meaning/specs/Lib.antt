@@ -1,8 +1,6 @@
 pub mod Core
 pub mod CoreView
 pub mod Environment
-pub mod PointView
-pub mod Signals
 pub mod Dark
 pub mod Alone
 pub mod Grid

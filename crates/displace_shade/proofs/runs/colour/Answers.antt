@@ -3,7 +3,7 @@ use Rattle.sl_ast.specs.Names.{is_light}
 use Rattle.sl_ast.specs.TreeView.{tree_of}
 use Rattle.grid_machine.specs.Run.{row_length, rows_of, written_names, lines_given}
 use Rattle.dice.proofs.Directions.{cells_from}
-use Rattle.mask_codegen.specs.Correct.{Answers}
+use Rattle.core_codegen.specs.Correct.{Answers}
 use Rattle.displace_shade.specs.Lamps.{lamp_light, lamp_asked}
 use Rattle.displace_shade.specs.Points.{columns, rows}
 use Rattle.displace_shade.specs.Variables.{values_at}

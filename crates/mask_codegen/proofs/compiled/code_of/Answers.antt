@@ -7,7 +7,7 @@ use Rattle.grid_code.specs.View.{block_of}
 use Rattle.sl_meaning.specs.CoreView.{stmts_of}
 use Rattle.sl_meaning.specs.Lowered.{slots, body_of}
 use Rattle.mask_codegen.specs.Collected.{registers_of, IsSetOf}
-use Rattle.mask_codegen.specs.Slots.{slots_of}
+use Rattle.core_codegen.specs.Slots.{slots_of}
 use Rattle.mask_codegen.proofs.CoreLights.{shader_code_lights}
 use Rattle.mask_codegen.proofs.Assembled.{emits_settled, emits_stays, emits_fits, params_fit, code_is, means_tree, nodes_placed, nodes_shallow, sets_given, sets_named, sets_few}
 use Rattle.mask_codegen.proofs.compiled.code_of.Goals as goal

@@ -1,0 +1,333 @@
+// From the core tree to grid code.
+ghost use Rattle.std.specs.Prelude.{◌≡◌, ◌+◌, ◌^◌, ◌<◌, ◌≤◌, ◌++◌, ◌&&◌, length, IfOk, OnOk};
+ghost use Rattle.grid_code.specs.Code.{◌then◌};
+ghost use Rattle.grid_code.specs.Names.{first_free};
+ghost use Rattle.grid_code.specs.View.{block_of};
+ghost use Rattle.sl_meaning.specs.Core.{formals, after, after_all, all_uniform, args_uniform, stmt_uniform, stmts_uniform};
+ghost use Rattle.sl_meaning.specs.CoreView.{expr_of, exprs_of, args_of, stmt_of, stmts_of, loop_of};
+ghost use Rattle.core_codegen.specs.Compile.{at, all_at, locals, all_locals, behind, expr_code, exprs_code, args_code, stmt_code, all_code, shader_code};
+ghost use Rattle.core_codegen.specs.Correct.{Means};
+ghost use Rattle.core_codegen.specs.Fine.{GridAll, StaysAll};
+ghost use Rattle.core_codegen.specs.Room.{expr_room, exprs_room, args_room, stmt_room, all_room, temps as temps_of, all_temps};
+ghost use Rattle.core_codegen.specs.Sizes.{ScopedExpr, ScopedExprs, ScopedArgs, ScopedStmt, ScopedAll};
+ghost use Rattle.core_codegen.specs.Slots.{slots_of, scope_of};
+
+use crate::locals::all_declared;
+use crate::nodes::{again, apply, branch, differ, into, leave, lights, literal, read, sum, turns};
+use crate::registers::{are_uniform, is_uniform, register};
+use crate::slot::Scope;
+use builtins::shape_of;
+use fixed_math::NoMemory;
+use grid_code::{Node, Register, Slot};
+use sl_meaning::{Argument, CoreExpr, CoreLoop, CoreStmt};
+use std::alloc::Global;
+
+// The first register behind those of the predefined variables.
+const FIRST_FREE: u32 = 22;
+
+/// The code of a settled tree, whose parameters are in scope, or want of memory.
+pub fn emit(alloc: Global, body: &[CoreStmt], scope: &[Slot]) -> Result<Vec<Node>, NoMemory>
+    requires settled { GridAll (stmts_of body.now) (slots_of scope.now) }
+    requires stays { StaysAll (stmts_of body.now) }
+    requires fits { first_free + length (slots_of scope.now) + all_room (stmts_of body.now) < 2 ^ 32 }
+    ensures means { IfOk result (λ code. Means (stmts_of body.now) (slots_of scope.now) (block_of code.items)) }
+    ensures code { IfOk result (λ code. block_of code.items ≡ shader_code (stmts_of body.now) (slots_of scope.now)) }
+{
+    let mut scope = Scope::of(alloc, scope)?;
+    let mut code = Vec::new(alloc);
+    let temps = first_behind(body, &scope, FIRST_FREE);
+    block(body, alloc, &mut code, &mut scope, FIRST_FREE, temps)?;
+    Ok(code)
+}
+
+// Whether both hold: a call, so that what follows has one case and not two.
+fn both(a: bool, b: bool) -> bool
+    ensures { result ≡ a && b }
+{
+    a && b
+}
+
+// The first register behind all variables of a frame that begins at `base`: those in scope and those that its statements
+// declare. What assignments need on the way stands from there on.
+fn first_behind(body: &[CoreStmt], scope: &Scope, base: u32) -> u32
+    requires fits { behind (scope_of scope.now) base (stmts_of body.now) < 2 ^ 32 }
+    ensures { result ≡ behind (scope_of scope.now) base (stmts_of body.now) }
+{
+    scope.end(base) + all_declared(body)
+}
+
+// Puts the value of an expression into register `next`, over the variables from register `base` on, and gives that
+// register with its class and shape.
+#[cycle(emission)]
+fn expression(
+    e: &CoreExpr,
+    alloc: Global,
+    code: &mut Vec<Node>,
+    scope: &Scope,
+    base: u32,
+    next: u32,
+) -> Result<Register, NoMemory>
+    requires scoped { ScopedExpr (expr_of e.now) (scope_of scope.now) }
+    requires frame { base + length (scope_of scope.now) ≤ next }
+    requires fits { next + expr_room (expr_of e.now) < 2 ^ 32 }
+    ensures at { IfOk result (λ q. q ≡ at (expr_of e.now) (scope_of scope.now) next) }
+    ensures code { OnOk result (block_of code.new.items ≡ block_of code.old.items then expr_code (expr_of e.now) (scope_of scope.now) base next) }
+{
+    match e {
+        CoreExpr::Literal(value) => {
+            let to = literal(alloc, code, value, next)?;
+            Ok(to)
+        }
+        CoreExpr::Read(variable) => {
+            let from = scope.register_of(*variable, base);
+            let to = read(code, from, next)?;
+            Ok(to)
+        }
+        CoreExpr::Apply(op, args) => {
+            let operands = expressions(args.as_slice(), alloc, code, scope, base, next)?;
+            let to = apply(code, *op, operands, next)?;
+            Ok(to)
+        }
+        CoreExpr::Differ(difference, operand) => {
+            let of = expression(operand, alloc, code, scope, base, next)?;
+            let to = differ(code, *difference, of, next)?;
+            Ok(to)
+        }
+        CoreExpr::Sum(over, args) => {
+            let operands = expressions(args.as_slice(), alloc, code, scope, base, next)?;
+            let to = sum(code, *over, operands, next)?;
+            Ok(to)
+        }
+        CoreExpr::Call(args, body, kind, returned) => {
+            let mut inner = Scope::new(alloc);
+            let passed = arguments(args.as_slice(), alloc, code, scope, base, next, &mut inner)?;
+            let body = body.as_slice();
+            let temps = first_behind(body, &inner, next);
+            let ran = statements(body, alloc, code, &mut inner, next, temps)?;
+            let end = inner.end(next);
+            let from = expression(returned, alloc, code, &inner, next, end)?;
+            let uniform = both(passed, both(ran, is_uniform(from)));
+            let to = register(uniform, shape_of(*kind), next);
+            into(code, to, *kind, from)?;
+            Ok(to)
+        }
+    }
+}
+
+// Puts the values of expressions into registers one behind another.
+#[cycle(emission)]
+fn expressions(
+    args: &[CoreExpr],
+    alloc: Global,
+    code: &mut Vec<Node>,
+    scope: &Scope,
+    base: u32,
+    next: u32,
+) -> Result<Vec<Register>, NoMemory>
+    requires scoped { ScopedExprs (exprs_of args.now) (scope_of scope.now) }
+    requires frame { base + length (scope_of scope.now) ≤ next }
+    requires fits { next + exprs_room (exprs_of args.now) < 2 ^ 32 }
+    ensures at { IfOk result (λ qs. qs.items ≡ all_at (exprs_of args.now) (scope_of scope.now) next) }
+    ensures code { OnOk result (block_of code.new.items ≡ block_of code.old.items then exprs_code (exprs_of args.now) (scope_of scope.now) base next) }
+{
+    let mut registers = Vec::new(alloc);
+    let mut target = next;
+    for e in args {
+        let from = expression(e, alloc, code, scope, base, target)?;
+        registers.push(from)?;
+        target += 1;
+    }
+    Ok(registers)
+}
+
+// Puts arguments into the registers of the variables of the function's frame, which begins at `next`, and tells whether
+// they and those variables are uniform.
+#[cycle(emission)]
+fn arguments(
+    args: &[Argument],
+    alloc: Global,
+    code: &mut Vec<Node>,
+    scope: &Scope,
+    base: u32,
+    next: u32,
+    inner: &mut Scope,
+) -> Result<bool, NoMemory>
+    requires scoped { ScopedArgs (args_of args.now) (scope_of scope.now) }
+    requires frame { base + length (scope_of scope.now) ≤ next }
+    requires fits { next + args_room (args_of args.now) < 2 ^ 32 }
+    ensures class { IfOk result (λ u. u ≡ args_uniform (args_of args.now) (scope_of scope.now) && all_uniform (formals (args_of args.now))) }
+    ensures formals { OnOk result (scope_of inner.new ≡ scope_of inner.old ++ formals (args_of args.now)) }
+    ensures code { OnOk result (block_of code.new.items ≡ block_of code.old.items then args_code (args_of args.now) (scope_of scope.now) base next) }
+{
+    let mut uniform = true;
+    let mut target = next;
+    for argument in args {
+        let from = expression(&argument.value, alloc, code, scope, base, target)?;
+        let to = register(argument.uniform, shape_of(argument.kind), target);
+        into(code, to, argument.kind, from)?;
+        inner.declare(argument.uniform, argument.kind)?;
+        uniform = both(uniform, both(argument.uniform, is_uniform(from)));
+        target += 1;
+    }
+    Ok(uniform)
+}
+
+// Statements one behind another, whose variables stay in scope, and whether all in them is uniform.
+#[cycle(emission)]
+fn statements(
+    all: &[CoreStmt],
+    alloc: Global,
+    code: &mut Vec<Node>,
+    scope: &mut Scope,
+    base: u32,
+    temps: u32,
+) -> Result<bool, NoMemory>
+    requires scoped { ScopedAll (stmts_of all.now) (scope_of scope.old) }
+    requires fits { base + length (scope_of scope.old) + all_room (stmts_of all.now) < 2 ^ 32 }
+    requires room { base + length (scope_of scope.old) + all_locals (stmts_of all.now) ≤ temps }
+    requires spare { temps + all_temps (stmts_of all.now) < 2 ^ 32 }
+    ensures class { IfOk result (λ u. u ≡ stmts_uniform (stmts_of all.now) (scope_of scope.old)) }
+    ensures scope { OnOk result (scope_of scope.new ≡ after_all (stmts_of all.now) (scope_of scope.old)) }
+    ensures code { OnOk result (block_of code.new.items ≡ block_of code.old.items then all_code (stmts_of all.now) (scope_of scope.old) base temps) }
+{
+    let mut uniform = true;
+    for s in all {
+        let u = statement(s, alloc, code, scope, base, temps)?;
+        uniform = both(uniform, u);
+    }
+    Ok(uniform)
+}
+
+// Statements whose variables end with them.
+#[cycle(emission)]
+fn block(
+    all: &[CoreStmt],
+    alloc: Global,
+    code: &mut Vec<Node>,
+    scope: &mut Scope,
+    base: u32,
+    temps: u32,
+) -> Result<bool, NoMemory>
+    requires scoped { ScopedAll (stmts_of all.now) (scope_of scope.old) }
+    requires fits { base + length (scope_of scope.old) + all_room (stmts_of all.now) < 2 ^ 32 }
+    requires room { base + length (scope_of scope.old) + all_locals (stmts_of all.now) ≤ temps }
+    requires spare { temps + all_temps (stmts_of all.now) < 2 ^ 32 }
+    ensures class { IfOk result (λ u. u ≡ stmts_uniform (stmts_of all.now) (scope_of scope.old)) }
+    ensures scope { OnOk result (scope_of scope.new ≡ scope_of scope.old) }
+    ensures code { OnOk result (block_of code.new.items ≡ block_of code.old.items then all_code (stmts_of all.now) (scope_of scope.old) base temps) }
+{
+    let depth = scope.depth();
+    let uniform = statements(all, alloc, code, scope, base, temps)?;
+    scope.cut(depth);
+    Ok(uniform)
+}
+
+#[cycle(emission)]
+fn statement(
+    s: &CoreStmt,
+    alloc: Global,
+    code: &mut Vec<Node>,
+    scope: &mut Scope,
+    base: u32,
+    temps: u32,
+) -> Result<bool, NoMemory>
+    requires scoped { ScopedStmt (stmt_of s.now) (scope_of scope.old) }
+    requires fits { base + length (scope_of scope.old) + stmt_room (stmt_of s.now) < 2 ^ 32 }
+    requires room { base + length (scope_of scope.old) + locals (stmt_of s.now) ≤ temps }
+    requires spare { temps + temps_of (stmt_of s.now) < 2 ^ 32 }
+    ensures class { IfOk result (λ u. u ≡ stmt_uniform (stmt_of s.now) (scope_of scope.old)) }
+    ensures scope { OnOk result (scope_of scope.new ≡ after (stmt_of s.now) (scope_of scope.old)) }
+    ensures code { OnOk result (block_of code.new.items ≡ block_of code.old.items then stmt_code (stmt_of s.now) (scope_of scope.old) base temps) }
+{
+    let next = scope.end(base);
+    match s {
+        CoreStmt::Declare(uniform, kind, e) => {
+            let from = expression(e, alloc, code, scope, base, next)?;
+            let to = register(*uniform, shape_of(*kind), next);
+            into(code, to, *kind, from)?;
+            scope.declare(*uniform, *kind)?;
+            Ok(both(*uniform, is_uniform(from)))
+        }
+        CoreStmt::Assign(variable, kind, e) => {
+            let from = expression(e, alloc, code, scope, base, temps)?;
+            let to = scope.register_of(*variable, base);
+            into(code, to, *kind, from)?;
+            Ok(both(is_uniform(to), is_uniform(from)))
+        }
+        CoreStmt::Block(body) => {
+            let uniform = block(body.as_slice(), alloc, code, scope, base, temps)?;
+            Ok(uniform)
+        }
+        CoreStmt::Test(test, then, otherwise) => {
+            let asked = expression(test, alloc, code, scope, base, next)?;
+            let mut one = Vec::new(alloc);
+            let a = block(then.as_slice(), alloc, &mut one, scope, base, temps)?;
+            let mut other = Vec::new(alloc);
+            let b = block(otherwise.as_slice(), alloc, &mut other, scope, base, temps)?;
+            branch(code, asked, one, other)?;
+            Ok(both(is_uniform(asked), both(a, b)))
+        }
+        CoreStmt::Repeat(repeated) => {
+            let uniform = repeat(repeated, alloc, code, scope, base, temps)?;
+            Ok(uniform)
+        }
+        CoreStmt::Lights(word, args, body) => {
+            let operands = expressions(args.as_slice(), alloc, code, scope, base, next)?;
+            let a = are_uniform(&operands);
+            let mut lit = Vec::new(alloc);
+            let b = block(body.as_slice(), alloc, &mut lit, scope, base, temps)?;
+            lights(code, *word, operands, lit)?;
+            Ok(both(a, b))
+        }
+        CoreStmt::Break => {
+            leave(code)?;
+            Ok(true)
+        }
+        CoreStmt::Continue => {
+            again(code)?;
+            Ok(true)
+        }
+    }
+}
+
+#[cycle(emission)]
+fn repeat(
+    repeated: &CoreLoop,
+    alloc: Global,
+    code: &mut Vec<Node>,
+    scope: &mut Scope,
+    base: u32,
+    temps: u32,
+) -> Result<bool, NoMemory>
+    requires scoped { ScopedStmt (loop_of repeated.now) (scope_of scope.old) }
+    requires fits { base + length (scope_of scope.old) + stmt_room (loop_of repeated.now) < 2 ^ 32 }
+    requires room { base + length (scope_of scope.old) + locals (loop_of repeated.now) ≤ temps }
+    requires spare { temps + temps_of (loop_of repeated.now) < 2 ^ 32 }
+    ensures class { IfOk result (λ u. u ≡ stmt_uniform (loop_of repeated.now) (scope_of scope.old)) }
+    ensures scope { OnOk result (scope_of scope.new ≡ scope_of scope.old) }
+    ensures code { OnOk result (block_of code.new.items ≡ block_of code.old.items then stmt_code (loop_of repeated.now) (scope_of scope.old) base temps) }
+{
+    let mut ask = Vec::new(alloc);
+    let next = scope.end(base);
+    let asked = expression(&repeated.test, alloc, &mut ask, scope, base, next)?;
+    let mut step = Vec::new(alloc);
+    let a = block(
+        repeated.step.as_slice(),
+        alloc,
+        &mut step,
+        scope,
+        base,
+        temps,
+    )?;
+    let mut body = Vec::new(alloc);
+    let b = block(
+        repeated.body.as_slice(),
+        alloc,
+        &mut body,
+        scope,
+        base,
+        temps,
+    )?;
+    turns(code, repeated.uniform, ask, asked, step, body)?;
+    Ok(both(is_uniform(asked), both(a, b)))
+}

@@ -1,0 +1,13 @@
+//! The code of a core tree, and the registers that it begins with.
+#![tactic(auto)]
+
+mod beginning;
+mod emission;
+mod locals;
+mod nodes;
+mod registers;
+mod scope;
+mod slot;
+
+pub use beginning::{given, param_slots};
+pub use emission::emit;

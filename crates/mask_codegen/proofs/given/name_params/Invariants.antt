@@ -1,9 +1,0 @@
-use Rattle.std.proofs.Common.{◌≡◌, ◌+◌, ◌++◌, drop}
-use Rattle.grid_code.specs.Uses.{registers_from}
-use Rattle.mask_codegen.proofs.given.name_params.Given as goal
-
-abbrev pub invariant-loop-slot : goal.invariant-loop-slot
-invariant-loop-slot l = record {
-  registers : l.seen.items ++ registers_from l.next (drop l.slot-index l.params) ≡ l.initial.seen.items ++ registers_from 22 l.params;
-  count : l.next ≡ 22 + l.slot-index;
-}

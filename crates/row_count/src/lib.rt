@@ -1,0 +1,6 @@
+//! How many rows of registers a tree counts.
+#![tactic(auto)]
+
+mod counted;
+
+pub use counted::rows;

@@ -1,0 +1,2 @@
+pub mod PointView
+pub mod Signals

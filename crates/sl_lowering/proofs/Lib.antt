@@ -1,0 +1,2 @@
+mod CoreParts
+mod Walks
