@@ -6,8 +6,8 @@ use Rattle.rib_reader.specs.declared.faults.RibCode.{RibCode}
 use Rattle.rib_reader.specs.declared.faults.RibCode.TheVariants as rib
 use Rattle.scene_state.specs.declared.fault.StateCode.{StateCode}
 use Rattle.scene_state.specs.declared.fault.StateCode.TheVariants as state
-use Rattle.sl_parser.specs.declared.fault.SlCode.{SlCode}
-use Rattle.sl_parser.specs.declared.fault.SlCode.TheVariants as grammar
+use Rattle.sl_expression_grammar.specs.declared.fault.SlCode.{SlCode}
+use Rattle.sl_expression_grammar.specs.declared.fault.SlCode.TheVariants as grammar
 use Rattle.sl_typing.specs.declared.fault.TypeCode.{TypeCode}
 use Rattle.sl_typing.specs.declared.fault.TypeCode.TheVariants as types
 use Rattle.render.specs.declared.code.Code.{Code}

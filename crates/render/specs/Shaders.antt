@@ -7,7 +7,7 @@ use Rattle.stock.specs.Texts.{text_of, stock_texts}
 use Rattle.sl_ast.specs.Syntax as syntax
 use Rattle.sl_ast.specs.Typed.{Tree}
 use Rattle.sl_ast.specs.Settled.{IsSettled}
-use Rattle.sl_parser.specs.declared.fault.SlCode.{SlCode}
+use Rattle.sl_expression_grammar.specs.declared.fault.SlCode.{SlCode}
 use Rattle.sl_parser.specs.Files.{parsed}
 use Rattle.sl_typing.specs.Found.{Found}
 use Rattle.sl_types.specs.Checked.{checked}

@@ -1,11 +1,11 @@
 -- What is read depends only on the tokens up to the place that is reached.
 use Rattle.std.proofs.Common.{◌≡◌, ℕ, zero, suc, ◌+◌, ◌≤◌, ◌<◌, ◌∷◌, [], ◌++◌, ◌⊎◌, inl, inr, List, Option, Some, None, Ok, Err, Bool, true, false, cond, length, refl, sym, ap, subst, arith}
-use Rattle.sl_parser.specs.declared.token.Token.{Token}
-use Rattle.sl_parser.specs.declared.token.TokenKind.{TokenKind}
-use Rattle.sl_parser.specs.declared.token.Mark.{Mark}
-use Rattle.sl_parser.specs.declared.fault.SlCode.{SlCode}
-use Rattle.sl_parser.specs.declared.fault.SlCode.TheVariants.{P3}
-use Rattle.sl_parser.specs.Reading.{Reads, ◌>>=◌, with_front, many_then, many, unexpected, too_deep, is_bad, code_for, go_on, past, is_mark}
+use Rattle.sl_lexer.specs.declared.token.Token.{Token}
+use Rattle.sl_lexer.specs.declared.token.TokenKind.{TokenKind}
+use Rattle.sl_lexer.specs.declared.token.Mark.{Mark}
+use Rattle.sl_expression_grammar.specs.declared.fault.SlCode.{SlCode}
+use Rattle.sl_expression_grammar.specs.declared.fault.SlCode.TheVariants.{P3}
+use Rattle.sl_expression_grammar.specs.Reading.{Reads, ◌>>=◌, with_front, many_then, many, unexpected, too_deep, is_bad, code_for, go_on, past, is_mark}
 
 -- how many tokens are left at the place that was reached
 abbrev pub left_of : {A : Type 0} → Reads A → ℕ

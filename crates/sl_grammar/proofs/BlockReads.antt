@@ -7,14 +7,14 @@ use Rattle.sl_ast.specs.declared.kinds.SlType.{SlType}
 use Rattle.sl_ast.specs.declared.kinds.Class.{Class}
 use Rattle.sl_ast.specs.declared.syntax.LightWord.{LightWord}
 use Rattle.sl_ast.specs.declared.syntax.LightWord.TheVariants as light_words
+use Rattle.sl_lexer.specs.declared.token.Token.{Token}
+use Rattle.sl_lexer.specs.declared.token.TokenKind.{TokenKind}
+use Rattle.sl_lexer.specs.declared.token.TokenKind.TheVariants as kinds
+use Rattle.sl_lexer.specs.declared.token.Word.TheVariants as words
+use Rattle.sl_lexer.specs.declared.token.Mark.TheVariants.{LeftParen, LeftBrace, RightBrace, Semicolon}
+use Rattle.sl_expression_grammar.specs.Reading.{Reads, ◌>>=◌, many, past, behind, is_mark}
+use Rattle.sl_expression_grammar.specs.Expressions.{expr_at}
 use Rattle.sl_parser.specs.declared.declarations.Valued.TheVariants.{Freely}
-use Rattle.sl_parser.specs.declared.token.Token.{Token}
-use Rattle.sl_parser.specs.declared.token.TokenKind.{TokenKind}
-use Rattle.sl_parser.specs.declared.token.TokenKind.TheVariants as kinds
-use Rattle.sl_parser.specs.declared.token.Word.TheVariants as words
-use Rattle.sl_parser.specs.declared.token.Mark.TheVariants.{LeftParen, LeftBrace, RightBrace, Semicolon}
-use Rattle.sl_parser.specs.Reading.{Reads, ◌>>=◌, many, past, behind, is_mark}
-use Rattle.sl_parser.specs.Expressions.{expr_at}
 use Rattle.sl_parser.specs.Statements.{set_with, group_with, begins_stmt, is_else, stmt_unless, next_stmt, block_in, test_with, else_then, for_head, pair_with, lights_head, lights_with, solar_head, stmt_opened, stmt_at}
 use Rattle.sl_parser.specs.Spelled.{kinds_of, spelled, spelled_set, spelled_cone, spelled_pair, spelled_class, spelled_names, spelled_group, spelled_light, spelled_test, spelled_for, spelled_stmt, spelled_stmts}
 use Rattle.sl_grammar.specs.Bare.{bare, bare_set, bare_pair, bare_stmt, bare_stmts, bare_group}

@@ -11,22 +11,22 @@ use Rattle.sl_ast.specs.declared.kinds.SlKind.{SlKind}
 use Rattle.sl_ast.specs.declared.kinds.SlType.{SlType}
 use Rattle.sl_ast.specs.declared.kinds.Class.{Class}
 use Rattle.sl_ast.specs.declared.syntax.Space.{Space}
+use Rattle.sl_lexer.specs.declared.token.Token.{Token}
+use Rattle.sl_lexer.specs.declared.token.TokenKind.{TokenKind}
+use Rattle.sl_lexer.specs.declared.token.TokenKind.TheVariants as kinds
+use Rattle.sl_lexer.specs.declared.token.Mark.{Mark}
+use Rattle.sl_lexer.specs.declared.token.Mark.TheVariants.{LeftParen, RightParen, LeftBrace, RightBrace, Semicolon, Comma, Question, Colon}
+use Rattle.sl_lexer.specs.declared.token.Word.{Word}
+use Rattle.sl_lexer.specs.declared.token.Word.TheVariants as words
+use Rattle.sl_expression_grammar.specs.declared.fault.SlCode.TheVariants.{P3}
+use Rattle.sl_expression_grammar.specs.Reading.{Reads, ◌>>=◌, with_front, many_then, many, after_comma, commas, go_on, past, behind, line_behind, is_mark, is_bad, code_for, head_is, unexpected, too_deep}
+use Rattle.sl_expression_grammar.specs.Expressions.{link, next_link, operator_at, most_links, chain_of, links_in, chain, chains, choice_then, expr_with, args_with, args_in, name_then, paren_with, space_at, triple_then, value_then, typed_with, prim_in, prim_with, prefix_at, unary_then, unary_with, deep_typed, deep_operand, begins_expr, expr_at, unary_at, prim_at}
+use Rattle.sl_expression_grammar.specs.Rows.{typed_at, operand_at}
+use Rattle.sl_expression_grammar.proofs.Levels.{prim_is, unary_is}
 use Rattle.sl_parser.specs.declared.declarations.Valued.{Valued}
 use Rattle.sl_parser.specs.declared.declarations.Valued.TheVariants.{Always, Never, Freely}
-use Rattle.sl_parser.specs.declared.fault.SlCode.TheVariants.{P3}
-use Rattle.sl_parser.specs.declared.token.Token.{Token}
-use Rattle.sl_parser.specs.declared.token.TokenKind.{TokenKind}
-use Rattle.sl_parser.specs.declared.token.TokenKind.TheVariants as kinds
-use Rattle.sl_parser.specs.declared.token.Mark.{Mark}
-use Rattle.sl_parser.specs.declared.token.Mark.TheVariants.{LeftParen, RightParen, LeftBrace, RightBrace, Semicolon, Comma, Question, Colon}
-use Rattle.sl_parser.specs.declared.token.Word.{Word}
-use Rattle.sl_parser.specs.declared.token.Word.TheVariants as words
-use Rattle.sl_parser.specs.Reading.{Reads, ◌>>=◌, with_front, many_then, many, after_comma, commas, go_on, past, behind, line_behind, is_mark, is_bad, code_for, head_is, unexpected, too_deep}
-use Rattle.sl_parser.specs.Expressions.{link, next_link, operator_at, most_links, chain_of, links_in, chain, chains, choice_then, expr_with, args_with, args_in, name_then, paren_with, space_at, triple_then, value_then, typed_with, prim_in, prim_with, prefix_at, unary_then, unary_with, deep_typed, deep_operand, begins_expr, expr_at, unary_at, prim_at}
-use Rattle.sl_parser.specs.Rows.{typed_at, operand_at}
 use Rattle.sl_parser.specs.Statements as T
 use Rattle.sl_parser.specs.Files as F
-use Rattle.sl_parser.proofs.Levels.{prim_is, unary_is}
 
 -- the same, but where a level is missing in the first
 abbrev pub Kept : {A : Type 0} → Reads A → Reads A → Type 0

@@ -5,12 +5,12 @@ use Rattle.sl_ast.specs.declared.kinds.Prefix.{Prefix}
 use Rattle.sl_ast.specs.declared.kinds.Prefix.TheVariants as prefixes
 use Rattle.sl_ast.specs.declared.kinds.SlType.{SlType}
 use Rattle.sl_ast.specs.declared.syntax.Space.{Space}
-use Rattle.sl_parser.specs.declared.token.Token.{Token}
-use Rattle.sl_parser.specs.declared.token.TokenKind.{TokenKind}
-use Rattle.sl_parser.specs.declared.token.TokenKind.TheVariants as kinds
-use Rattle.sl_parser.specs.declared.token.Mark.TheVariants.{LeftParen, RightParen}
-use Rattle.sl_parser.specs.Reading.{Reads, is_mark, head_is}
-use Rattle.sl_parser.specs.Expressions.{begins_expr, begins_prim, prefix_in, space_when, space_in, space_at, value_with}
+use Rattle.sl_lexer.specs.declared.token.Token.{Token}
+use Rattle.sl_lexer.specs.declared.token.TokenKind.{TokenKind}
+use Rattle.sl_lexer.specs.declared.token.TokenKind.TheVariants as kinds
+use Rattle.sl_lexer.specs.declared.token.Mark.TheVariants.{LeftParen, RightParen}
+use Rattle.sl_expression_grammar.specs.Reading.{Reads, is_mark, head_is}
+use Rattle.sl_expression_grammar.specs.Expressions.{begins_expr, begins_prim, prefix_in, space_when, space_in, space_at, value_with}
 use Rattle.sl_parser.specs.Spelled.{kinds_of, spelled, spelled_prefix, spelled_space}
 use Rattle.sl_grammar.specs.Bare.{bare_space}
 use Rattle.sl_grammar.specs.Grammatical.{looseness, goes_on_from, Ends}

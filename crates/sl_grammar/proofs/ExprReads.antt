@@ -11,17 +11,17 @@ use Rattle.sl_ast.specs.declared.kinds.Row.{Row}
 use Rattle.sl_ast.specs.declared.kinds.Row.TheVariants as rows
 use Rattle.sl_ast.specs.declared.kinds.SlType.{SlType}
 use Rattle.sl_ast.specs.declared.syntax.Space.{Space}
-use Rattle.sl_parser.specs.declared.token.Token.{Token}
-use Rattle.sl_parser.specs.declared.token.TokenKind.{TokenKind}
-use Rattle.sl_parser.specs.declared.token.TokenKind.TheVariants as kinds
-use Rattle.sl_parser.specs.declared.token.Mark.TheVariants.{LeftParen, RightParen, Comma, Question, Colon}
-use Rattle.sl_parser.specs.Reading.{◌>>=◌, with_front, many, after_comma, commas, past, behind, line_behind, is_mark}
-use Rattle.sl_parser.specs.Expressions.{row_of, same_row, is_single, most_links, link, next_link, chain_of, links_in, chain, choice_then, args_with, args_in, name_then, triple_then, value_then, prim_with, prefix_in, prefix_at, unary_then, expr_at, unary_at, prim_at}
-use Rattle.sl_parser.specs.Rows.{rows_from, typed_at, operand_at}
+use Rattle.sl_lexer.specs.declared.token.Token.{Token}
+use Rattle.sl_lexer.specs.declared.token.TokenKind.{TokenKind}
+use Rattle.sl_lexer.specs.declared.token.TokenKind.TheVariants as kinds
+use Rattle.sl_lexer.specs.declared.token.Mark.TheVariants.{LeftParen, RightParen, Comma, Question, Colon}
+use Rattle.sl_expression_grammar.specs.Reading.{◌>>=◌, with_front, many, after_comma, commas, past, behind, line_behind, is_mark}
+use Rattle.sl_expression_grammar.specs.Expressions.{row_of, same_row, is_single, most_links, link, next_link, chain_of, links_in, chain, choice_then, args_with, args_in, name_then, triple_then, value_then, prim_with, prefix_in, prefix_at, unary_then, expr_at, unary_at, prim_at}
+use Rattle.sl_expression_grammar.specs.Rows.{rows_from, typed_at, operand_at}
 use Rattle.sl_parser.specs.Spelled.{kinds_of, spelled, spelled_args, spelled_more, spelled_links, spelled_prefix, spelled_space}
 use Rattle.sl_grammar.specs.Bare.{bare_space, bare, bare_args, bare_links}
 use Rattle.sl_grammar.specs.Grammatical.{looseness, count, Grammatical, GrammaticalArgs, GrammaticalLinks, Ends}
-use Rattle.sl_parser.proofs.Levels.{prim_is, unary_is}
+use Rattle.sl_expression_grammar.proofs.Levels.{prim_is, unary_is}
 use Rattle.sl_grammar.proofs.Got.{Got, got_bind, got_front, got_more, got_past, at_front, token, Lacks, not_behind, many_more, many_none, got_both, tokens_for, tokens_for_is}
 use Rattle.sl_grammar.proofs.ExprFronts.{is_paren, Front, front_of, lacks_paren, opens_not_closed, spaced}
 use Rattle.sl_grammar.proofs.Rises.{Same, from_unary, reader, no_link, loosened, tightens}

@@ -7,13 +7,13 @@ use Rattle.sl_ast.specs.declared.kinds.Row.{Row}
 use Rattle.sl_ast.specs.declared.kinds.Row.TheVariants as rows
 use Rattle.sl_ast.specs.declared.kinds.SlType.{SlType}
 use Rattle.sl_ast.specs.declared.syntax.Space.{Space}
-use Rattle.sl_parser.specs.declared.token.Token.{Token}
-use Rattle.sl_parser.specs.declared.token.TokenKind.{TokenKind}
-use Rattle.sl_parser.specs.declared.token.TokenKind.TheVariants as kinds
-use Rattle.sl_parser.specs.declared.token.Mark.TheVariants.{LeftParen, RightParen, Comma, Question, Colon}
-use Rattle.sl_parser.specs.Reading.{Reads, ◌>>=◌, with_front, many, after_comma, commas, past, behind, line_behind, is_mark, too_deep}
-use Rattle.sl_parser.specs.Expressions.{row_of, same_row, is_single, most_links, operator_in, operator_at, link, next_link, chain_of, links_in, chain, chains, choice_then, expr_with, args_with, args_in, name_then, paren_with, space_at, triple_then, value_then, typed_with, prim_in, prim_with, prefix_at, unary_then, unary_with, deep_typed, deep_operand, begins_expr, expr_at, unary_at, prim_at}
-use Rattle.sl_parser.specs.Rows.{rows_from}
+use Rattle.sl_lexer.specs.declared.token.Token.{Token}
+use Rattle.sl_lexer.specs.declared.token.TokenKind.{TokenKind}
+use Rattle.sl_lexer.specs.declared.token.TokenKind.TheVariants as kinds
+use Rattle.sl_lexer.specs.declared.token.Mark.TheVariants.{LeftParen, RightParen, Comma, Question, Colon}
+use Rattle.sl_expression_grammar.specs.Reading.{Reads, ◌>>=◌, with_front, many, after_comma, commas, past, behind, line_behind, is_mark, too_deep}
+use Rattle.sl_expression_grammar.specs.Expressions.{row_of, same_row, is_single, most_links, operator_in, operator_at, link, next_link, chain_of, links_in, chain, chains, choice_then, expr_with, args_with, args_in, name_then, paren_with, space_at, triple_then, value_then, typed_with, prim_in, prim_with, prefix_at, unary_then, unary_with, deep_typed, deep_operand, begins_expr, expr_at, unary_at, prim_at}
+use Rattle.sl_expression_grammar.specs.Rows.{rows_from}
 use Rattle.sl_grammar.specs.Grammatical.{looseness, count, Grammatical, GrammaticalArgs, GrammaticalLinks}
 use Rattle.sl_parser.specs.Spelled.{spelled, spelled_args, spelled_more, spelled_links, spelled_prefix, spelled_space}
 use Rattle.sl_parser.proofs.Fronts.{passed, mapped, operator_at_is, line_behind_is, mark_behind, prefix_at_is, space_at_is}

@@ -1,11 +1,11 @@
 -- What is read from tokens of these kinds.
 use Rattle.std.proofs.Common.{◌≡◌, ℕ, zero, suc, ◌∷◌, [], List, Option, Some, None, Ok, Err, Bool, true, false, cond, map, refl, sym, ap, subst}
-use Rattle.sl_parser.specs.declared.token.Token.{Token}
-use Rattle.sl_parser.specs.declared.token.TokenKind.{TokenKind}
-use Rattle.sl_parser.specs.declared.token.TokenKind.TheVariants as kinds
-use Rattle.sl_parser.specs.declared.token.Mark.{Mark}
-use Rattle.sl_parser.specs.declared.token.Mark.TheVariants as marks
-use Rattle.sl_parser.specs.Reading.{Reads, ◌>>=◌, with_front, many_then, many, go_on, past, behind, same_mark}
+use Rattle.sl_lexer.specs.declared.token.Token.{Token}
+use Rattle.sl_lexer.specs.declared.token.TokenKind.{TokenKind}
+use Rattle.sl_lexer.specs.declared.token.TokenKind.TheVariants as kinds
+use Rattle.sl_lexer.specs.declared.token.Mark.{Mark}
+use Rattle.sl_lexer.specs.declared.token.Mark.TheVariants as marks
+use Rattle.sl_expression_grammar.specs.Reading.{Reads, ◌>>=◌, with_front, many_then, many, go_on, past, behind, same_mark}
 use Rattle.sl_parser.specs.Spelled.{kinds_of}
 
 abbrev pub Got : {A : Type 0} → Reads A → (A → List Token → Type 0) → Type 0

@@ -8,13 +8,13 @@ use Rattle.sl_ast.specs.declared.kinds.Row.{Row}
 use Rattle.sl_ast.specs.declared.kinds.Row.TheVariants as rows
 use Rattle.sl_ast.specs.declared.kinds.SlType.{SlType}
 use Rattle.sl_ast.specs.declared.syntax.Space.{Space}
-use Rattle.sl_parser.specs.declared.token.Token.{Token}
-use Rattle.sl_parser.specs.declared.token.TokenKind.{TokenKind}
-use Rattle.sl_parser.specs.declared.token.TokenKind.TheVariants as kinds
-use Rattle.sl_parser.specs.declared.token.Mark.TheVariants.{LeftParen, RightParen, LeftBrace, RightBrace, Semicolon, Comma, Question, Colon}
-use Rattle.sl_parser.specs.declared.fault.SlCode.TheVariants.{P3}
-use Rattle.sl_parser.specs.Reading.{Reads, ◌>>=◌, many, commas, head_is, is_bad, code_for, too_deep, past, behind, line_behind, is_mark}
-use Rattle.sl_parser.specs.Expressions.{is_single, link, next_link, operator_at, chain_of, links_in, chain, chains, choice_then, expr_with, args_with, args_in, name_then, name_with, paren_with, begins_prim, space_when, space_in, triple_then, inside_with, value_then, value_with, typed_with, prim_in, prim_with, prefix_in, unary_then, unary_with, deep_typed, deep_operand, begins_expr, expr_at, unary_at, prim_at}
+use Rattle.sl_lexer.specs.declared.token.Token.{Token}
+use Rattle.sl_lexer.specs.declared.token.TokenKind.{TokenKind}
+use Rattle.sl_lexer.specs.declared.token.TokenKind.TheVariants as kinds
+use Rattle.sl_lexer.specs.declared.token.Mark.TheVariants.{LeftParen, RightParen, LeftBrace, RightBrace, Semicolon, Comma, Question, Colon}
+use Rattle.sl_expression_grammar.specs.declared.fault.SlCode.TheVariants.{P3}
+use Rattle.sl_expression_grammar.specs.Reading.{Reads, ◌>>=◌, many, commas, head_is, is_bad, code_for, too_deep, past, behind, line_behind, is_mark}
+use Rattle.sl_expression_grammar.specs.Expressions.{is_single, link, next_link, operator_at, chain_of, links_in, chain, chains, choice_then, expr_with, args_with, args_in, name_then, name_with, paren_with, begins_prim, space_when, space_in, triple_then, inside_with, value_then, value_with, typed_with, prim_in, prim_with, prefix_in, unary_then, unary_with, deep_typed, deep_operand, begins_expr, expr_at, unary_at, prim_at}
 use Rattle.sl_grammar.proofs.Agreeing.{left_of, Agree, Fine, FineBehind, behind_fine, fine_head, fine_ok, fault_behind, fine_deep, fine_bind, bind_behind, fine_past, fine_many, fine_each}
 use Rattle.sl_grammar.proofs.Looking.{only, paired, placed_at, behind_looks, line_looks, operator_looks, with_token, fine_look, fine_step, strict_step, fine_commas}
 

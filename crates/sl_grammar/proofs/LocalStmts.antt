@@ -4,15 +4,15 @@ use Rattle.sl_ast.specs.Syntax as S
 use Rattle.sl_ast.specs.declared.kinds.Class.{Class}
 use Rattle.sl_ast.specs.declared.syntax.LightWord.{LightWord}
 use Rattle.sl_ast.specs.declared.syntax.LightWord.TheVariants as light_words
+use Rattle.sl_lexer.specs.declared.token.Token.{Token}
+use Rattle.sl_lexer.specs.declared.token.TokenKind.{TokenKind}
+use Rattle.sl_lexer.specs.declared.token.TokenKind.TheVariants as kinds
+use Rattle.sl_lexer.specs.declared.token.Word.{Word}
+use Rattle.sl_lexer.specs.declared.token.Word.TheVariants as words
+use Rattle.sl_lexer.specs.declared.token.Mark.TheVariants.{LeftParen, RightParen, LeftBrace, RightBrace, Semicolon, Comma, Question, Colon}
+use Rattle.sl_expression_grammar.specs.Reading.{Reads, ◌>>=◌, many, commas, is_bad, code_for, unexpected, past, behind, is_mark}
 use Rattle.sl_parser.specs.declared.declarations.Valued.{Valued}
 use Rattle.sl_parser.specs.declared.declarations.Valued.TheVariants.{Always, Never, Freely}
-use Rattle.sl_parser.specs.declared.token.Token.{Token}
-use Rattle.sl_parser.specs.declared.token.TokenKind.{TokenKind}
-use Rattle.sl_parser.specs.declared.token.TokenKind.TheVariants as kinds
-use Rattle.sl_parser.specs.declared.token.Word.{Word}
-use Rattle.sl_parser.specs.declared.token.Word.TheVariants as words
-use Rattle.sl_parser.specs.declared.token.Mark.TheVariants.{LeftParen, RightParen, LeftBrace, RightBrace, Semicolon, Comma, Question, Colon}
-use Rattle.sl_parser.specs.Reading.{Reads, ◌>>=◌, many, commas, is_bad, code_for, unexpected, past, behind, is_mark}
 use Rattle.sl_parser.specs.Statements.{front_line, name_at, named_then, named, set_at, set_then, set_with, type_at, class_in, is_equals, value_behind, value_then, value_with, declared_with, group_then, group_behind, group_with, is_else, stmt_unless, next_stmt, block_in, test_with, else_then, if_with, while_with, set_or, is_name, set_maybe, For, for_head, for_with, pair_with, cone_then, cone_in, lights_head, lights_with, solar_head, solar_with, return_with, assign_with, declare_with, word_with, stmt_in, stmt_opened}
 use Rattle.sl_grammar.proofs.Agreeing.{left_of, StepAgree, Fine, FineBehind, FineStep, behind_fine, fine_head, fine_ok, fault_behind, fine_unexpected, fine_bind, fine_past, fine_turns}
 use Rattle.sl_grammar.proofs.Looking.{only, paired, placed_at, behind_looks, name_looks, set_looks, type_looks, with_token, fine_look, fine_commas}

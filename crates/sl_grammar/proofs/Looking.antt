@@ -2,12 +2,12 @@
 use Rattle.std.proofs.Common.{◌≡◌, ℕ, ◌+◌, ◌≤◌, ◌<◌, ◌∷◌, [], ◌++◌, ◌⊎◌, inl, inr, List, Option, Some, None, Ok, Bool, true, false, cond, length, refl, sym, ap, subst, ◌∙◌, arith}
 use Rattle.std.specs.Prelude.{option_map}
 use Rattle.sl_ast.specs.declared.kinds.Row.{Row}
-use Rattle.sl_parser.specs.declared.token.Token.{Token}
-use Rattle.sl_parser.specs.declared.token.TokenKind.{TokenKind}
-use Rattle.sl_parser.specs.declared.token.Mark.{Mark}
-use Rattle.sl_parser.specs.declared.token.Mark.TheVariants.{Comma}
-use Rattle.sl_parser.specs.Reading.{Reads, with_front, many, after_comma, commas, behind, line_behind, is_mark}
-use Rattle.sl_parser.specs.Expressions.{operator_in, operator_at, prefix_in, prefix_at}
+use Rattle.sl_lexer.specs.declared.token.Token.{Token}
+use Rattle.sl_lexer.specs.declared.token.TokenKind.{TokenKind}
+use Rattle.sl_lexer.specs.declared.token.Mark.{Mark}
+use Rattle.sl_lexer.specs.declared.token.Mark.TheVariants.{Comma}
+use Rattle.sl_expression_grammar.specs.Reading.{Reads, with_front, many, after_comma, commas, behind, line_behind, is_mark}
+use Rattle.sl_expression_grammar.specs.Expressions.{operator_in, operator_at, prefix_in, prefix_at}
 use Rattle.sl_parser.specs.Statements.{name_in, name_at, set_in, set_at, type_in, type_at}
 use Rattle.sl_parser.specs.Files.{sort_in, sort_at}
 use Rattle.sl_grammar.proofs.Agreeing.{left_of, Agree, StepAgree, Fine, FineBehind, FineStep, behind_fine, fine_head, fine_bind, fine_front, fine_each}

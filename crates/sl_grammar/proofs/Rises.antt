@@ -4,13 +4,13 @@ use Rattle.std.specs.Prelude.{option_map}
 use Rattle.sl_ast.specs.Syntax as S
 use Rattle.sl_ast.specs.declared.kinds.Row.{Row}
 use Rattle.sl_ast.specs.declared.kinds.Row.TheVariants.{Or, And, Equality, Relation, Sum, Cross, Product, Dot}
-use Rattle.sl_parser.specs.declared.token.Token.{Token}
-use Rattle.sl_parser.specs.declared.token.TokenKind.{TokenKind}
-use Rattle.sl_parser.specs.declared.token.TokenKind.TheVariants as kinds
-use Rattle.sl_parser.specs.declared.token.Mark.TheVariants as marks
-use Rattle.sl_parser.specs.Reading.{Reads, ◌>>=◌, is_mark, line_behind}
-use Rattle.sl_parser.specs.Expressions.{same_row, row_of, operator_in, link, next_link, most_links, chain_of, links_in, chain, choice_then, expr_at, unary_at, prim_at}
-use Rattle.sl_parser.specs.Rows.{rows_from}
+use Rattle.sl_lexer.specs.declared.token.Token.{Token}
+use Rattle.sl_lexer.specs.declared.token.TokenKind.{TokenKind}
+use Rattle.sl_lexer.specs.declared.token.TokenKind.TheVariants as kinds
+use Rattle.sl_lexer.specs.declared.token.Mark.TheVariants as marks
+use Rattle.sl_expression_grammar.specs.Reading.{Reads, ◌>>=◌, is_mark, line_behind}
+use Rattle.sl_expression_grammar.specs.Expressions.{same_row, row_of, operator_in, link, next_link, most_links, chain_of, links_in, chain, choice_then, expr_at, unary_at, prim_at}
+use Rattle.sl_expression_grammar.specs.Rows.{rows_from}
 use Rattle.sl_parser.specs.Spelled.{kinds_of}
 use Rattle.sl_grammar.specs.Bare.{bare}
 use Rattle.sl_grammar.specs.Grammatical.{goes_on_from, Ends}

@@ -5,14 +5,14 @@ use Rattle.sl_ast.specs.Syntax as S
 use Rattle.sl_ast.specs.Levels.{levels_of, levels_where, levels_set, levels_cone, levels_names}
 use Rattle.sl_ast.specs.declared.kinds.Class.{Class}
 use Rattle.sl_ast.specs.declared.kinds.SetOperator.TheVariants as sets
+use Rattle.sl_lexer.specs.declared.token.Token.{Token}
+use Rattle.sl_lexer.specs.declared.token.TokenKind.{TokenKind}
+use Rattle.sl_lexer.specs.declared.token.TokenKind.TheVariants as kinds
+use Rattle.sl_lexer.specs.declared.token.Mark.TheVariants.{LeftParen, RightParen, Semicolon, Comma}
+use Rattle.sl_expression_grammar.specs.Reading.{◌>>=◌, with_front, many, after_comma, commas, past, is_mark, head_is}
+use Rattle.sl_expression_grammar.specs.Expressions.{expr_at}
 use Rattle.sl_parser.specs.declared.declarations.Valued.{Valued}
 use Rattle.sl_parser.specs.declared.declarations.Valued.TheVariants.{Always, Never, Freely}
-use Rattle.sl_parser.specs.declared.token.Token.{Token}
-use Rattle.sl_parser.specs.declared.token.TokenKind.{TokenKind}
-use Rattle.sl_parser.specs.declared.token.TokenKind.TheVariants as kinds
-use Rattle.sl_parser.specs.declared.token.Mark.TheVariants.{LeftParen, RightParen, Semicolon, Comma}
-use Rattle.sl_parser.specs.Reading.{◌>>=◌, with_front, many, after_comma, commas, past, is_mark, head_is}
-use Rattle.sl_parser.specs.Expressions.{expr_at}
 use Rattle.sl_parser.specs.Statements.{front_line, set_at, set_then, set_with, type_at, is_equals, value_then, value_with, declared_with, group_then, group_with, test_with, set_or, is_name, set_maybe, For, for_head, pair_with, cone_in, lights_head}
 use Rattle.sl_parser.specs.Spelled.{kinds_of, spelled, spelled_set, spelled_maybe, spelled_value, spelled_declared, spelled_further, spelled_names, spelled_class, spelled_group, spelled_pair, spelled_cone, spelled_test, spelled_for}
 use Rattle.sl_grammar.specs.Bare.{bare, bare_set, bare_declared, bare_pair, bare_group}

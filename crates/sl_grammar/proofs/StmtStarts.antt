@@ -9,16 +9,16 @@ use Rattle.sl_ast.specs.declared.kinds.SlType.{SlType}
 use Rattle.sl_ast.specs.declared.kinds.SlType.TheVariants as types
 use Rattle.sl_ast.specs.declared.syntax.LightWord.{LightWord}
 use Rattle.sl_ast.specs.declared.syntax.LightWord.TheVariants as light_words
+use Rattle.sl_lexer.specs.declared.token.Token.{Token}
+use Rattle.sl_lexer.specs.declared.token.TokenKind.{TokenKind}
+use Rattle.sl_lexer.specs.declared.token.TokenKind.TheVariants as kinds
+use Rattle.sl_lexer.specs.declared.token.Word.{Word}
+use Rattle.sl_lexer.specs.declared.token.Word.TheVariants as words
+use Rattle.sl_lexer.specs.declared.token.Mark.TheVariants.{LeftParen, RightParen, LeftBrace, RightBrace, Semicolon, Comma}
+use Rattle.sl_expression_grammar.specs.Reading.{Reads, ◌>>=◌, with_front, many, after_comma, commas, past, behind, is_mark, head_is}
+use Rattle.sl_expression_grammar.specs.Expressions.{expr_at}
 use Rattle.sl_parser.specs.declared.declarations.Valued.{Valued}
 use Rattle.sl_parser.specs.declared.declarations.Valued.TheVariants.{Always, Never, Freely}
-use Rattle.sl_parser.specs.declared.token.Token.{Token}
-use Rattle.sl_parser.specs.declared.token.TokenKind.{TokenKind}
-use Rattle.sl_parser.specs.declared.token.TokenKind.TheVariants as kinds
-use Rattle.sl_parser.specs.declared.token.Word.{Word}
-use Rattle.sl_parser.specs.declared.token.Word.TheVariants as words
-use Rattle.sl_parser.specs.declared.token.Mark.TheVariants.{LeftParen, RightParen, LeftBrace, RightBrace, Semicolon, Comma}
-use Rattle.sl_parser.specs.Reading.{Reads, ◌>>=◌, with_front, many, after_comma, commas, past, behind, is_mark, head_is}
-use Rattle.sl_parser.specs.Expressions.{expr_at}
 use Rattle.sl_parser.specs.Statements.{front_line, name_at, named_then, named, set_at, set_then, set_with, type_at, class_at, is_equals, value_behind, value_then, value_with, declared_with, group_then, group_with, begins_stmt, is_else, stmt_unless, next_stmt, block_in, test_with, else_then, if_with, while_with, set_or, is_name, set_maybe, For, for_head, for_with, pair_with, cone_then, cone_in, lights_head, lights_with, solar_head, solar_with, return_with, assign_with, declare_with, word_with, stmt_in, stmt_opened, stmt_at}
 use Rattle.sl_grammar.specs.Grammatical.{Grammatical, GrammaticalValue, GrammaticalValues, GrammaticalNames, GrammaticalSet, GrammaticalCone, takes_else, GrammaticalStmt, GrammaticalStmts}
 use Rattle.sl_parser.specs.Spelled.{spelled, spelled_set, spelled_maybe, spelled_value, spelled_declared, spelled_further, spelled_names, spelled_class, spelled_group, spelled_pair, spelled_cone, spelled_light, spelled_test, spelled_for, spelled_stmt, spelled_stmts}

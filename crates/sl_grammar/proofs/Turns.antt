@@ -1,21 +1,20 @@
 -- The tokens of a text stand one behind another.
 use Rattle.std.proofs.Common.{◌≡◌, ℕ, ◌+◌, ◌-◌, ◌≤◌, ◌∷◌, [], List, Option, Some, None, Bool, true, false, cond, refl, ap, arith}
-use Rattle.std.specs.Prelude.{◌==◌, ◌||◌, ◌&&◌}
-use Rattle.std.specs.List.{prefix_len, take_while}
+use Rattle.std.specs.Prelude.{◌==◌}
+use Rattle.std.specs.List.{prefix_len}
 use Rattle.sl_ast.specs.declared.kinds.Operator.TheVariants as operators
 use Rattle.sl_ast.specs.declared.kinds.SetOperator.TheVariants as sets
-use Rattle.sl_parser.specs.declared.found.Found.{Found}
-use Rattle.sl_parser.specs.declared.found.Found.TheVariants.{Blank, Whole, Bad}
-use Rattle.sl_parser.specs.declared.token.Mark.{Mark}
-use Rattle.sl_parser.specs.declared.token.TokenKind.{TokenKind}
-use Rattle.sl_parser.specs.declared.token.TokenKind.TheVariants as kinds
-use Rattle.sl_parser.specs.Bytes.{is_white, is_letter, is_name, is_in_line, is_equals, head_byte}
-use Rattle.sl_parser.specs.Numbers.{number_len}
-use Rattle.sl_parser.specs.Words.{kind_named}
-use Rattle.sl_parser.specs.Found.{string_in, found_string, comment_in, found_comment, with_equals, twice, found_slash, found_number, begins_number, found_word, mark_at, found_operator, found_sign, found_at, found_in}
-use Rattle.sl_parser.specs.Tokens.{tokens_from, found_then, line_after}
-use Rattle.sl_parser.proofs.Spans.{number_some, name_some}
-use Rattle.sl_parser.proofs.Steps.{passes}
+use Rattle.sl_lexer.specs.declared.found.Found.{Found}
+use Rattle.sl_lexer.specs.declared.found.Found.TheVariants.{Blank, Whole, Bad}
+use Rattle.sl_lexer.specs.declared.token.Mark.{Mark}
+use Rattle.sl_lexer.specs.declared.token.TokenKind.{TokenKind}
+use Rattle.sl_lexer.specs.declared.token.TokenKind.TheVariants as kinds
+use Rattle.sl_lexer.specs.Bytes.{is_white, is_letter, is_in_line, is_equals, head_byte}
+use Rattle.sl_lexer.specs.Numbers.{number_len}
+use Rattle.sl_lexer.specs.Found.{string_in, found_string, comment_in, found_comment, with_equals, twice, found_slash, found_number, begins_number, found_word, mark_at, found_operator, found_sign, found_at, found_in}
+use Rattle.sl_lexer.specs.Tokens.{tokens_from, found_then, line_after}
+use Rattle.sl_lexer.proofs.Spans.{number_some, name_some}
+use Rattle.sl_lexer.proofs.Steps.{passes}
 use Rattle.sl_grammar.specs.Laws.{in_turn}
 
 abbrev size : Found → ℕ

@@ -2,20 +2,20 @@
 use Rattle.std.specs.Prelude.{◌≡◌, ◌≤◌, ◌<◌, ◌==◌, ℕ, ◌+◌, List, [], ◌∷◌, ◌++◌, take, drop, count_by, Ok, Err}
 use Rattle.sl_ast.specs.Syntax.{Expr, Shader}
 use Rattle.sl_ast.specs.Levels.{levels_of, levels_file}
-use Rattle.sl_parser.specs.declared.token.Token.{Token}
-use Rattle.sl_parser.specs.declared.token.TokenKind.{TokenKind}
-use Rattle.sl_parser.specs.declared.token.TokenKind.TheVariants as kinds
-use Rattle.sl_parser.specs.declared.found.Found.{Found}
-use Rattle.sl_parser.specs.declared.found.Found.TheVariants.{Blank, Whole, Bad}
-use Rattle.sl_parser.specs.declared.fault.SlCode.{SlCode}
-use Rattle.sl_parser.specs.declared.fault.SlCode.TheVariants.{P3}
+use Rattle.sl_lexer.specs.declared.token.Token.{Token}
+use Rattle.sl_lexer.specs.declared.token.TokenKind.{TokenKind}
+use Rattle.sl_lexer.specs.declared.token.TokenKind.TheVariants as kinds
+use Rattle.sl_lexer.specs.declared.found.Found.{Found}
+use Rattle.sl_lexer.specs.declared.found.Found.TheVariants.{Blank, Whole, Bad}
+use Rattle.sl_expression_grammar.specs.declared.fault.SlCode.{SlCode}
+use Rattle.sl_expression_grammar.specs.declared.fault.SlCode.TheVariants.{P3}
 use Rattle.sl_grammar.specs.Bare.{bare, bare_shader}
-use Rattle.sl_parser.specs.Expressions.{expr_at}
+use Rattle.sl_expression_grammar.specs.Expressions.{expr_at}
 use Rattle.sl_parser.specs.Files.{file_of, parsed}
 use Rattle.sl_grammar.specs.Grammatical.{Grammatical, Ends, GrammaticalShader}
+use Rattle.sl_lexer.specs.Found.{found_in}
+use Rattle.sl_lexer.specs.Tokens.{tokens_from, tokens_of}
 use Rattle.sl_parser.specs.Spelled.{kinds_of, spelled, spelled_shader}
-use Rattle.sl_parser.specs.Found.{found_in}
-use Rattle.sl_parser.specs.Tokens.{tokens_from, tokens_of}
 
 -- the tokens of the bytes behind so many, on the line that these lead to
 abbrev pub tokens_behind : ℕ → ℕ → List ℕ → List Token

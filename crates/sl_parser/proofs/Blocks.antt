@@ -3,13 +3,13 @@ use Rattle.std.proofs.Common.{◌≡◌, ℕ, ◌+◌, ◌-◌, ◌≤◌, ◌�
 use Rattle.std.specs.Prelude.{option_map}
 use Rattle.sl_ast.specs.Syntax as S
 use Rattle.sl_ast.specs.declared.kinds.SlType.{SlType}
-use Rattle.sl_parser.specs.declared.token.Token.{Token}
-use Rattle.sl_parser.specs.declared.token.Mark.TheVariants.{RightBrace}
-use Rattle.sl_parser.specs.declared.fault.SlCode.{SlCode}
-use Rattle.sl_parser.specs.Reading.{Reads, ◌>>=◌, with_front, many, go_on, past, behind, is_mark}
+use Rattle.sl_lexer.specs.declared.token.Token.{Token}
+use Rattle.sl_lexer.specs.declared.token.Mark.TheVariants.{RightBrace}
+use Rattle.sl_expression_grammar.specs.declared.fault.SlCode.{SlCode}
+use Rattle.sl_expression_grammar.specs.Reading.{Reads, ◌>>=◌, with_front, many, go_on, past, behind, is_mark}
+use Rattle.sl_expression_grammar.proofs.Readers.{many-turn, many-err, many-end}
 use Rattle.sl_parser.specs.Statements.{stmt_unless, next_stmt, block_in, type_at}
 use Rattle.sl_parser.specs.Files.{semicolon_at, next_group, function_with, next_function}
-use Rattle.sl_parser.proofs.Readers.{many-turn, many-err, many-end}
 
 module _ (stmt : List Token → Reads S.Stmt) where
   pub stmt-turn : (n : ℕ) (rest : List Token) (s : S.Stmt) (left : List Token)

@@ -4,12 +4,12 @@ use Rattle.sl_ast.specs.Syntax as S
 use Rattle.sl_ast.specs.Levels.{within}
 use Rattle.sl_ast.specs.declared.kinds.Prefix.{Prefix}
 use Rattle.sl_ast.specs.declared.kinds.SlType.{SlType}
-use Rattle.sl_parser.specs.declared.token.Token.{Token}
-use Rattle.sl_parser.specs.declared.token.TokenKind.{TokenKind}
-use Rattle.sl_parser.specs.declared.token.TokenKind.TheVariants as kinds
-use Rattle.sl_parser.specs.declared.token.Mark.TheVariants.{LeftParen, RightParen, LeftBrace, RightBrace, Semicolon, Comma, Question, Colon}
-use Rattle.sl_parser.specs.Reading.{Reads, behind, line_behind, is_mark, too_deep}
-use Rattle.sl_parser.specs.Expressions.{expr_with, space_at, typed_with, prim_in, prim_with, prefix_at, unary_then, unary_with, deep_typed, deep_operand, begins_expr, expr_at, unary_at, prim_at}
+use Rattle.sl_lexer.specs.declared.token.Token.{Token}
+use Rattle.sl_lexer.specs.declared.token.TokenKind.{TokenKind}
+use Rattle.sl_lexer.specs.declared.token.TokenKind.TheVariants as kinds
+use Rattle.sl_lexer.specs.declared.token.Mark.TheVariants.{LeftParen, RightParen, LeftBrace, RightBrace, Semicolon, Comma, Question, Colon}
+use Rattle.sl_expression_grammar.specs.Reading.{Reads, behind, line_behind, is_mark, too_deep}
+use Rattle.sl_expression_grammar.specs.Expressions.{expr_with, space_at, typed_with, prim_in, prim_with, prefix_at, unary_then, unary_with, deep_typed, deep_operand, begins_expr, expr_at, unary_at, prim_at}
 use Rattle.sl_parser.specs.Spelled.{spelled, spelled_space, spelled_prefix}
 use Rattle.sl_parser.proofs.Fronts.{prefix_at_is, space_at_is}
 use Rattle.sl_parser.proofs.Good.{Good, good_bind, good_deep, good_more, Takes, and_then}

@@ -6,12 +6,12 @@ use Rattle.sl_ast.specs.declared.kinds.Row.{Row}
 use Rattle.sl_ast.specs.declared.kinds.Row.TheVariants as rows
 use Rattle.sl_ast.specs.declared.kinds.SlType.{SlType}
 use Rattle.sl_ast.specs.declared.syntax.Space.{Space}
-use Rattle.sl_parser.specs.declared.token.Token.{Token}
-use Rattle.sl_parser.specs.declared.token.TokenKind.{TokenKind}
-use Rattle.sl_parser.specs.declared.token.TokenKind.TheVariants as kinds
-use Rattle.sl_parser.specs.declared.token.Mark.TheVariants.{LeftParen, RightParen, Comma, Question, Colon}
-use Rattle.sl_parser.specs.Reading.{Reads, with_front, many, after_comma, commas, behind, line_behind, is_mark}
-use Rattle.sl_parser.specs.Expressions.{link, next_link, operator_at, most_links, chain_of, links_in, chain, chains, choice_then, expr_with, args_with, args_in, name_then, paren_with, triple_then, value_then}
+use Rattle.sl_lexer.specs.declared.token.Token.{Token}
+use Rattle.sl_lexer.specs.declared.token.TokenKind.{TokenKind}
+use Rattle.sl_lexer.specs.declared.token.TokenKind.TheVariants as kinds
+use Rattle.sl_lexer.specs.declared.token.Mark.TheVariants.{LeftParen, RightParen, Comma, Question, Colon}
+use Rattle.sl_expression_grammar.specs.Reading.{Reads, with_front, many, after_comma, commas, behind, line_behind, is_mark}
+use Rattle.sl_expression_grammar.specs.Expressions.{link, next_link, operator_at, most_links, chain_of, links_in, chain, chains, choice_then, expr_with, args_with, args_in, name_then, paren_with, triple_then, value_then}
 use Rattle.sl_parser.specs.Spelled.{spelled, spelled_args, spelled_more, spelled_links, spelled_space}
 use Rattle.sl_parser.proofs.Fronts.{mapped, operator_at_is, line_behind_is, mark_behind}
 use Rattle.sl_parser.proofs.Good.{Good, good_bind, good_past, good_front, good_many, comma_each, Takes, and_then}

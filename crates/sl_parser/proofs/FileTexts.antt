@@ -4,15 +4,15 @@ use Rattle.sl_ast.specs.Syntax as S
 use Rattle.sl_ast.specs.Levels.{levels_stmt, levels_stmts, levels_groups, levels_function, levels_functions, levels_file}
 use Rattle.sl_ast.specs.declared.kinds.SlType.{SlType}
 use Rattle.sl_ast.specs.declared.kinds.SlKind.{SlKind}
+use Rattle.sl_lexer.specs.declared.token.Token.{Token}
+use Rattle.sl_lexer.specs.declared.token.TokenKind.TheVariants as kinds
+use Rattle.sl_lexer.specs.declared.token.Mark.TheVariants.{LeftParen, RightParen, LeftBrace, Semicolon}
+use Rattle.sl_lexer.specs.Tokens.{tokens_of, last_line}
+use Rattle.sl_expression_grammar.specs.Reading.{Reads, ◌>>=◌, with_front, many, behind, is_mark}
+use Rattle.sl_expression_grammar.specs.Expressions.{expr_at}
 use Rattle.sl_parser.specs.declared.declarations.Valued.{Valued}
 use Rattle.sl_parser.specs.declared.declarations.Valued.TheVariants.{Always, Never}
-use Rattle.sl_parser.specs.declared.token.Token.{Token}
-use Rattle.sl_parser.specs.declared.token.TokenKind.TheVariants as kinds
-use Rattle.sl_parser.specs.declared.token.Mark.TheVariants.{LeftParen, RightParen, LeftBrace, Semicolon}
-use Rattle.sl_parser.specs.Reading.{Reads, ◌>>=◌, with_front, many, behind, is_mark}
-use Rattle.sl_parser.specs.Expressions.{expr_at}
 use Rattle.sl_parser.specs.Statements.{type_at, group_with, block_in, begins_stmt, stmt_opened, stmt_at}
-use Rattle.sl_parser.specs.Tokens.{tokens_of, last_line}
 use Rattle.sl_parser.specs.Files.{unless_closed, goes_on, semicolon_at, next_group, Groups, groups_end, some_groups, groups_in, groups_with, body_at, function_with, next_function, functions_in, sort_at, shader_then, ended, file_of, placed, parsed}
 use Rattle.sl_parser.specs.Spelled.{kinds_of, spelled_stmt, spelled_end, further_groups, spelled_groups, spelled_list, spelled_block, spelled_function, spelled_functions, spelled_shader}
 use Rattle.sl_parser.proofs.Fronts.{mapped, mark_behind}

@@ -4,10 +4,10 @@ use Rattle.sl_ast.specs.declared.kinds.SetOperator.{SetOperator}
 use Rattle.sl_ast.specs.declared.kinds.SetOperator.TheVariants as sets
 use Rattle.sl_ast.specs.declared.kinds.SlType.{SlType}
 use Rattle.sl_ast.specs.declared.kinds.SlKind.{SlKind}
-use Rattle.sl_parser.specs.declared.token.Token.{Token}
-use Rattle.sl_parser.specs.declared.token.TokenKind.{TokenKind}
-use Rattle.sl_parser.specs.declared.token.TokenKind.TheVariants as kinds
-use Rattle.sl_parser.specs.declared.token.Word.TheVariants as words
+use Rattle.sl_lexer.specs.declared.token.Token.{Token}
+use Rattle.sl_lexer.specs.declared.token.TokenKind.{TokenKind}
+use Rattle.sl_lexer.specs.declared.token.TokenKind.TheVariants as kinds
+use Rattle.sl_lexer.specs.declared.token.Word.TheVariants as words
 use Rattle.sl_parser.specs.Statements.{name_in, name_at, set_in, set_at, type_in, type_at, class_in, class_at, is_equals, is_else}
 use Rattle.sl_parser.specs.Files.{sort_in, sort_at}
 use Rattle.sl_parser.specs.Spelled.{kinds_of, spelled_class}

@@ -3,16 +3,16 @@ use Rattle.std.proofs.Common.{◌≡◌, ℕ, ◌∷◌, [], ◌++◌, List, Opt
 use Rattle.std.specs.Prelude.{option_map}
 use Rattle.sl_ast.specs.declared.kinds.Operator.{Operator}
 use Rattle.sl_ast.specs.declared.kinds.Row.{Row}
-use Rattle.sl_parser.specs.declared.token.Token.{Token}
-use Rattle.sl_parser.specs.declared.token.TokenKind.{TokenKind}
-use Rattle.sl_parser.specs.declared.token.TokenKind.TheVariants as kinds
-use Rattle.sl_parser.specs.declared.token.Mark.{Mark}
-use Rattle.sl_parser.specs.declared.token.Mark.TheVariants as marks
+use Rattle.sl_lexer.specs.declared.token.Token.{Token}
+use Rattle.sl_lexer.specs.declared.token.TokenKind.{TokenKind}
+use Rattle.sl_lexer.specs.declared.token.TokenKind.TheVariants as kinds
+use Rattle.sl_lexer.specs.declared.token.Mark.{Mark}
+use Rattle.sl_lexer.specs.declared.token.Mark.TheVariants as marks
 use Rattle.sl_ast.specs.declared.kinds.Operator.TheVariants as operators
 use Rattle.sl_ast.specs.declared.kinds.Prefix.{Prefix}
 use Rattle.sl_ast.specs.declared.kinds.Prefix.TheVariants as prefixes
-use Rattle.sl_parser.specs.Reading.{same_mark, is_mark, behind, line_behind, head_is}
-use Rattle.sl_parser.specs.Expressions.{same_row, row_of, operator_in, operator_at, prefix_in, prefix_at, begins_prim, space_when, space_in, space_at}
+use Rattle.sl_expression_grammar.specs.Reading.{same_mark, is_mark, behind, line_behind, head_is}
+use Rattle.sl_expression_grammar.specs.Expressions.{same_row, row_of, operator_in, operator_at, prefix_in, prefix_at, begins_prim, space_when, space_in, space_at}
 use Rattle.sl_parser.specs.Spelled.{kinds_of, spelled_prefix, spelled_space}
 use Rattle.sl_parser.proofs.Never.{not_true, not_some}
 

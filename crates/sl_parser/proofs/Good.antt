@@ -1,13 +1,13 @@
 -- What is read meets a fact.
 use Rattle.std.proofs.Common.{◌≡◌, ℕ, zero, suc, ◌∷◌, [], ◌++◌, List, Option, Some, None, Ok, Err, Bool, true, false, cond, refl, sym, ap, subst, ◌∙◌, append_assoc}
-use Rattle.sl_parser.specs.declared.token.Token.{Token}
-use Rattle.sl_parser.specs.declared.token.TokenKind.{TokenKind}
-use Rattle.sl_parser.specs.declared.token.TokenKind.TheVariants as kinds
-use Rattle.sl_parser.specs.declared.token.Mark.{Mark}
-use Rattle.sl_parser.specs.declared.token.Mark.TheVariants.{Comma}
-use Rattle.sl_parser.specs.Reading.{Reads, ◌>>=◌, with_front, many_then, many, after_comma, go_on, past, behind, is_mark, is_bad, code_for, head_is, too_deep}
-use Rattle.sl_parser.specs.declared.fault.SlCode.{SlCode}
-use Rattle.sl_parser.specs.declared.fault.SlCode.TheVariants.{P3}
+use Rattle.sl_lexer.specs.declared.token.Token.{Token}
+use Rattle.sl_lexer.specs.declared.token.TokenKind.{TokenKind}
+use Rattle.sl_lexer.specs.declared.token.TokenKind.TheVariants as kinds
+use Rattle.sl_lexer.specs.declared.token.Mark.{Mark}
+use Rattle.sl_lexer.specs.declared.token.Mark.TheVariants.{Comma}
+use Rattle.sl_expression_grammar.specs.Reading.{Reads, ◌>>=◌, with_front, many_then, many, after_comma, go_on, past, behind, is_mark, is_bad, code_for, head_is, too_deep}
+use Rattle.sl_expression_grammar.specs.declared.fault.SlCode.{SlCode}
+use Rattle.sl_expression_grammar.specs.declared.fault.SlCode.TheVariants.{P3}
 use Rattle.sl_parser.specs.Spelled.{kinds_of}
 use Rattle.sl_parser.proofs.Fronts.{mark_behind, mapped}
 

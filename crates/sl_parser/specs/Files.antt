@@ -3,17 +3,17 @@ use Rattle.std.specs.Prelude.{ℕ, Bool, true, false, List, [], ◌∷◌, lengt
 use Rattle.sl_ast.specs.Syntax as S
 use Rattle.sl_ast.specs.declared.kinds.SlType.{SlType}
 use Rattle.sl_ast.specs.declared.kinds.SlKind.{SlKind}
-use Rattle.sl_parser.specs.declared.token.Token.{Token}
-use Rattle.sl_parser.specs.declared.token.TokenKind.{TokenKind}
-use Rattle.sl_parser.specs.declared.token.TokenKind.TheVariants as kinds
-use Rattle.sl_parser.specs.declared.token.Mark.TheVariants.{LeftParen, RightParen, LeftBrace, Semicolon}
-use Rattle.sl_parser.specs.declared.fault.SlCode.{SlCode}
-use Rattle.sl_parser.specs.Reading.{Reads, ◌>>=◌, with_front, many, unexpected, is_mark, behind, past}
-use Rattle.sl_parser.specs.Expressions.{expr_at}
+use Rattle.sl_lexer.specs.declared.token.Token.{Token}
+use Rattle.sl_lexer.specs.declared.token.TokenKind.{TokenKind}
+use Rattle.sl_lexer.specs.declared.token.TokenKind.TheVariants as kinds
+use Rattle.sl_lexer.specs.declared.token.Mark.TheVariants.{LeftParen, RightParen, LeftBrace, Semicolon}
+use Rattle.sl_lexer.specs.Tokens.{tokens_of, last_line}
+use Rattle.sl_expression_grammar.specs.declared.fault.SlCode.{SlCode}
+use Rattle.sl_expression_grammar.specs.Reading.{Reads, ◌>>=◌, with_front, many, unexpected, is_mark, behind, past}
+use Rattle.sl_expression_grammar.specs.Expressions.{expr_at}
 use Rattle.sl_parser.specs.Statements.{named, type_at, group_with, block_in, stmt_at}
 use Rattle.sl_parser.specs.declared.declarations.Valued.{Valued}
 use Rattle.sl_parser.specs.declared.declarations.Valued.TheVariants.{Always, Never}
-use Rattle.sl_parser.specs.Tokens.{tokens_of, last_line}
 
 -- the tokens behind a semicolon, unless the closing parenthesis stands there
 abbrev pub unless_closed : Option (List Token) → Option (List Token) → Option (List Token)

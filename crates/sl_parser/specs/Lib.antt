@@ -1,13 +1,3 @@
-pub mod Bytes
-pub mod Numbers
-pub mod Words
-pub mod Found
-pub mod StringBytes
-pub mod Tokens
-pub mod Reading
-pub mod Expressions
-pub mod Parsing
-pub mod Rows
 pub mod Statements
 pub mod Boxes
 pub mod Naming

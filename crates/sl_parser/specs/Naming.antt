@@ -1,10 +1,10 @@
 -- What a reader of a name answers.
 use Rattle.std.specs.Prelude.{◌≡◌, ℕ, List, Some, None, Result, Ok, Err}
 use Rattle.std.specs.Borrow.{Bor}
-use Rattle.sl_parser.specs.declared.token.Token.{Token}
-use Rattle.sl_parser.specs.declared.reading.Stop.{Stop}
-use Rattle.sl_parser.specs.declared.reading.Stop.TheVariants.{At, NoMemory}
-use Rattle.sl_parser.specs.Reading.{head_is, is_bad, code_for}
+use Rattle.sl_lexer.specs.declared.token.Token.{Token}
+use Rattle.sl_expression_grammar.specs.declared.reading.Stop.{Stop}
+use Rattle.sl_expression_grammar.specs.declared.reading.Stop.TheVariants.{At, NoMemory}
+use Rattle.sl_expression_grammar.specs.Reading.{head_is, is_bad, code_for}
 use Rattle.sl_parser.specs.Statements.{name_at}
 
 -- the name with its line and the tokens behind it, or that none stands there

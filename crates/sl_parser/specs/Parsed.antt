@@ -3,7 +3,7 @@ use Rattle.std.specs.Prelude.{◌≡◌, ℕ, Result, Ok, Err}
 use Rattle.sl_ast.specs.Syntax as S
 use Rattle.sl_ast.specs.ShaderView.{shader_of}
 use Rattle.sl_ast.specs.declared.shader.Shader.{Shader}
-use Rattle.sl_parser.specs.declared.fault.SlCode.{SlCode}
+use Rattle.sl_expression_grammar.specs.declared.fault.SlCode.{SlCode}
 use Rattle.sl_parser.specs.declared.fault.SlFault.{SlFault}
 use Rattle.sl_parser.specs.declared.fault.SlFault.TheVariants.{At, NoMemory}
 

@@ -9,11 +9,11 @@ use Rattle.sl_ast.specs.declared.kinds.SetOperator.TheVariants as sets
 use Rattle.sl_ast.specs.declared.syntax.LightWord.{LightWord}
 use Rattle.sl_ast.specs.declared.syntax.LightWord.TheVariants as lights_words
 use Rattle.sl_ast.specs.declared.syntax.Space.{Space}
-use Rattle.sl_parser.specs.declared.token.Token.{Token}
-use Rattle.sl_parser.specs.declared.token.TokenKind.{TokenKind}
-use Rattle.sl_parser.specs.declared.token.TokenKind.TheVariants as kinds
-use Rattle.sl_parser.specs.declared.token.Mark.TheVariants.{LeftParen, RightParen, LeftBrace, RightBrace, Semicolon, Comma, Question, Colon}
-use Rattle.sl_parser.specs.declared.token.Word.TheVariants as words
+use Rattle.sl_lexer.specs.declared.token.Token.{Token}
+use Rattle.sl_lexer.specs.declared.token.TokenKind.{TokenKind}
+use Rattle.sl_lexer.specs.declared.token.TokenKind.TheVariants as kinds
+use Rattle.sl_lexer.specs.declared.token.Mark.TheVariants.{LeftParen, RightParen, LeftBrace, RightBrace, Semicolon, Comma, Question, Colon}
+use Rattle.sl_lexer.specs.declared.token.Word.TheVariants as words
 
 abbrev pub kinds_of : List Token → List TokenKind
 kinds_of ts = map (λ t. t.kind) ts

@@ -7,16 +7,16 @@ use Rattle.sl_ast.specs.declared.kinds.SetOperator.{SetOperator}
 use Rattle.sl_ast.specs.declared.kinds.SetOperator.TheVariants as sets
 use Rattle.sl_ast.specs.declared.syntax.LightWord.{LightWord}
 use Rattle.sl_ast.specs.declared.syntax.LightWord.TheVariants as lights
-use Rattle.sl_parser.specs.declared.token.Token.{Token}
-use Rattle.sl_parser.specs.declared.token.TokenKind.{TokenKind}
-use Rattle.sl_parser.specs.declared.token.TokenKind.TheVariants as kinds
+use Rattle.sl_lexer.specs.declared.token.Token.{Token}
+use Rattle.sl_lexer.specs.declared.token.TokenKind.{TokenKind}
+use Rattle.sl_lexer.specs.declared.token.TokenKind.TheVariants as kinds
+use Rattle.sl_lexer.specs.declared.token.Word.{Word}
+use Rattle.sl_lexer.specs.declared.token.Word.TheVariants as words
+use Rattle.sl_lexer.specs.declared.token.Mark.TheVariants.{LeftParen, RightParen, LeftBrace, RightBrace, Semicolon, Comma}
+use Rattle.sl_expression_grammar.specs.Reading.{Reads, ◌>>=◌, many, commas, head_is, unexpected, too_deep, is_mark, behind, past}
+use Rattle.sl_expression_grammar.specs.Expressions.{expr_at}
 use Rattle.sl_parser.specs.declared.declarations.Valued.{Valued}
 use Rattle.sl_parser.specs.declared.declarations.Valued.TheVariants.{Always, Never, Freely}
-use Rattle.sl_parser.specs.declared.token.Word.{Word}
-use Rattle.sl_parser.specs.declared.token.Word.TheVariants as words
-use Rattle.sl_parser.specs.declared.token.Mark.TheVariants.{LeftParen, RightParen, LeftBrace, RightBrace, Semicolon, Comma}
-use Rattle.sl_parser.specs.Reading.{Reads, ◌>>=◌, many, commas, head_is, unexpected, too_deep, is_mark, behind, past}
-use Rattle.sl_parser.specs.Expressions.{expr_at}
 
 -- a name at the front with its line, and the tokens behind it
 abbrev pub name_in : TokenKind → Option (List ℕ)

@@ -1,20 +1,19 @@
 // Names, types and what declares them.
 ghost use Rattle.std.specs.Prelude.{◌≡◌, ◌≤◌, ◌<◌, [], ◌∷◌, IfOk, IfSome, length, option_map};
 ghost use Rattle.sl_ast.specs.SyntaxView.{declared_of, group_of};
-ghost use Rattle.sl_parser.specs.Reading.{head_is, behind, with_front, many, after_comma};
-ghost use Rattle.sl_parser.specs.Expressions.{expr_at};
-ghost use Rattle.sl_parser.specs.Statements.{front_line, name_at, set_at, set_with, type_at, class_at, is_equals, is_name, set_maybe, value_with, declared_with, group_with, IsClassAt};
-ghost use Rattle.sl_parser.specs.Parsing.{Gives, GivesItems};
+ghost use Rattle.sl_expression_grammar.specs.Reading.{head_is, behind, with_front, many, after_comma};
+ghost use Rattle.sl_expression_grammar.specs.Expressions.{expr_at};
+ghost use Rattle.sl_expression_grammar.specs.Parsing.{Gives, GivesItems};
+ghost use Rattle.sl_expression_grammar.specs.Boxes.{boxed_expr};
+ghost use Rattle.sl_parser.specs.Statements.{front_line, set_at, set_with, type_at, class_at, is_equals, is_name, set_maybe, value_with, declared_with, group_with, IsClassAt};
 ghost use Rattle.sl_parser.specs.Naming.{MatchName};
-ghost use Rattle.sl_parser.specs.Boxes.{boxed_expr, boxed_assignment};
+ghost use Rattle.sl_parser.specs.Boxes.{boxed_assignment};
 
-use crate::boxes::push;
-use crate::expressions::expr;
 use crate::nodes::{make_assignment, make_declared};
-use crate::reading::{Stop, behind, code_at};
-use crate::token::{Mark, Token, TokenKind};
 use fixed_math::{List, Text};
 use sl_ast::{Assignment, Class, Declared, Expr, Group, SetOperator, SlType};
+use sl_expression_grammar::{Stop, behind, code_at, expr, push};
+use sl_lexer::{Mark, Token, TokenKind};
 use std::alloc::Global;
 
 /// Whether a declared name has a value: a parameter's must be there, a formal has none, a local's may be there.
@@ -54,10 +53,12 @@ fn set_at(ts: &[Token]) -> Option<(SetOperator, &[Token])>
     ensures at { option_map (λ o. (o.0, o.1.now)) result ≡ set_at ts.now }
     ensures within { IfSome result (λ o. length o.1.now < length ts.now) }
 {
-    let (first, rest) = ts.split_first()?;
-    match &first.kind {
-        TokenKind::Set(operator) => Some((*operator, rest)),
-        _ => None,
+    match ts {
+        [first, rest @ ..] => match &first.kind {
+            TokenKind::Set(operator) => Some((*operator, rest)),
+            _ => None,
+        },
+        [] => None,
     }
 }
 
@@ -66,10 +67,12 @@ pub fn type_at(ts: &[Token]) -> Option<(SlType, &[Token])>
     ensures at { option_map (λ o. (o.0, o.1.now)) result ≡ type_at ts.now }
     ensures within { IfSome result (λ o. length o.1.now < length ts.now) }
 {
-    let (first, rest) = ts.split_first()?;
-    match &first.kind {
-        TokenKind::Type(kind) => Some((*kind, rest)),
-        _ => None,
+    match ts {
+        [first, rest @ ..] => match &first.kind {
+            TokenKind::Type(kind) => Some((*kind, rest)),
+            _ => None,
+        },
+        [] => None,
     }
 }
 
@@ -78,12 +81,12 @@ fn class_at(ts: &[Token]) -> (Option<Class>, &[Token])
     ensures at { IsClassAt result.0 result.1.now ts.now }
     ensures within { length result.1.now ≤ length ts.now }
 {
-    let Some((first, rest)) = ts.split_first() else {
-        return (None, ts);
-    };
-    match &first.kind {
-        TokenKind::Class(class) => (Some(*class), rest),
-        _ => (None, ts),
+    match ts {
+        [first, rest @ ..] => match &first.kind {
+            TokenKind::Class(class) => (Some(*class), rest),
+            _ => (None, ts),
+        },
+        [] => (None, ts),
     }
 }
 
@@ -92,10 +95,12 @@ fn behind_equals(ts: &[Token]) -> Option<&[Token]>
     ensures at { option_map (λ o. o.now) result ≡ behind is_equals ts.now }
     ensures within { IfSome result (λ o. length o.now < length ts.now) }
 {
-    let (first, rest) = ts.split_first()?;
-    match &first.kind {
-        TokenKind::Set(SetOperator::Set) => Some(rest),
-        _ => None,
+    match ts {
+        [first, rest @ ..] => match &first.kind {
+            TokenKind::Set(SetOperator::Set) => Some(rest),
+            _ => None,
+        },
+        [] => None,
     }
 }
 

@@ -3,17 +3,7 @@ ghost use Rattle.std.specs.Prelude.{◌≡◌};
 ghost use Rattle.sl_parser.specs.declared.fault.SlFault.TheVariants.{NoMemory as OutOfMemory};
 
 use fixed_math::NoMemory;
-
-/// What is wrong at a place of a shader's text.
-#[derive(Clone, Copy, Debug, PartialEq, Eq)]
-pub enum SlCode {
-    /// No token begins here.
-    P1,
-    /// No text of the grammar goes on with this token, or ends here.
-    P2,
-    /// The 65th level would open here.
-    P3,
-}
+use sl_expression_grammar::SlCode;
 
 /// The first fault of a shader's text with the line on which its token begins, or want of memory.
 #[derive(Clone, Copy, Debug, PartialEq, Eq)]

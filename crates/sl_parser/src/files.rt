@@ -3,21 +3,20 @@ ghost use Rattle.std.specs.Prelude.{◌≡◌, ◌≤◌, ◌<◌, [], ◌∷◌
 ghost use Rattle.sl_ast.specs.SyntaxView.{stmt_of, group_of, function_of};
 ghost use Rattle.sl_ast.specs.ShaderView.{shader_of};
 ghost use Rattle.sl_ast.specs.Levels.{levels_functions};
-ghost use Rattle.sl_parser.specs.Reading.{with_front, many, behind, is_mark};
-ghost use Rattle.sl_parser.specs.declared.token.Mark.TheVariants.{Semicolon};
-ghost use Rattle.sl_parser.specs.Expressions.{expr_at};
+ghost use Rattle.sl_lexer.specs.declared.token.Mark.TheVariants.{Semicolon};
+ghost use Rattle.sl_expression_grammar.specs.Reading.{with_front, many, behind, is_mark};
+ghost use Rattle.sl_expression_grammar.specs.Expressions.{expr_at};
+ghost use Rattle.sl_expression_grammar.specs.Parsing.{Gives, GivesItems};
 ghost use Rattle.sl_parser.specs.Statements.{group_with};
 ghost use Rattle.sl_parser.specs.Files.{semicolon_at, next_group, some_groups, groups_end, groups_with, body_at, function_with, functions_in, sort_at, shader_then, file_of};
-ghost use Rattle.sl_parser.specs.Parsing.{Gives, GivesItems};
 
-use crate::boxes::push;
 use crate::declarations::{Valued, group, name, type_at};
 use crate::nodes::make_function;
-use crate::reading::{Stop, behind, closed, code_at, past};
 use crate::statements::block;
-use crate::token::{Mark, Token, TokenKind};
 use fixed_math::List;
 use sl_ast::{Function, Group, Shader, SlKind, SlType, Stmt};
+use sl_expression_grammar::{Stop, behind, closed, code_at, past, push};
+use sl_lexer::{Mark, Token, TokenKind};
 use std::alloc::Global;
 
 /// Groups of declared names, and whether a semicolon stands behind the last.
@@ -32,10 +31,12 @@ fn behind_semicolon(ts: &[Token]) -> Option<&[Token]>
     ensures at { option_map (λ o. o.now) result ≡ semicolon_at ts.now }
     ensures within { IfSome result (λ o. length o.now < length ts.now) }
 {
-    let rest = behind(Mark::Semicolon, ts)?;
-    match behind(Mark::RightParen, rest) {
-        Some(_) => None,
-        None => Some(rest),
+    match behind(Mark::Semicolon, ts) {
+        Some(rest) => match behind(Mark::RightParen, rest) {
+            Some(_) => None,
+            None => Some(rest),
+        },
+        None => None,
     }
 }
 
@@ -136,9 +137,10 @@ fn function<'a>(
     ensures within { IfOk result (λ f. length f.1.now < length ts.now) }
 {
     let (name, line, rest) = name(ts)?;
+    let name = name.copied(alloc)?;
     let (formals, rest) = groups(alloc, levels, Valued::Never, rest)?;
     let (body, rest) = body(alloc, levels, rest)?;
-    make_function(alloc, returns, name, formals, body, line, rest)
+    Ok((make_function(returns, name, formals, body, line), rest))
 }
 
 // The functions before the shader.
@@ -164,10 +166,12 @@ fn functions<'a>(
 fn sort_at(ts: &[Token]) -> Option<(SlKind, u32, &[Token])>
     ensures at { option_map (λ o. (o.0, o.1, o.2.now)) result ≡ sort_at ts.now }
 {
-    let (first, rest) = ts.split_first()?;
-    match &first.kind {
-        TokenKind::Kind(kind) => Some((*kind, first.line, rest)),
-        _ => None,
+    match ts {
+        [first, rest @ ..] => match &first.kind {
+            TokenKind::Kind(kind) => Some((*kind, first.line, rest)),
+            _ => None,
+        },
+        [] => None,
     }
 }
 
@@ -186,13 +190,14 @@ fn shader<'a>(
         return Err(Stop::At(code_at(ts), ts));
     };
     let (name, _, rest) = name(rest)?;
+    let name = name.copied(alloc)?;
     let (params, rest) = groups(alloc, levels, Valued::Always, rest)?;
     let (body, rest) = body(alloc, levels, rest)?;
     Ok((
         Shader {
             functions: List(functions),
             kind,
-            name: name.copied(alloc)?,
+            name,
             params: List(params.groups),
             ended: params.ended,
             body: List(body),

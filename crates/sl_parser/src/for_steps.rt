@@ -1,17 +1,16 @@
 // What stands behind the first assignment in the parentheses of a `for`.
 ghost use Rattle.std.specs.Prelude.{◌<◌, IfOk, length, option_map};
-ghost use Rattle.sl_parser.specs.Expressions.{expr_at};
+ghost use Rattle.sl_expression_grammar.specs.Expressions.{expr_at};
+ghost use Rattle.sl_expression_grammar.specs.Parsing.{Gives};
+ghost use Rattle.sl_expression_grammar.specs.Boxes.{boxed_expr};
 ghost use Rattle.sl_parser.specs.Statements.{steps_with, step_with};
-ghost use Rattle.sl_parser.specs.Parsing.{Gives};
-ghost use Rattle.sl_parser.specs.Boxes.{boxed_expr, boxed_assignment, for_of};
+ghost use Rattle.sl_parser.specs.Boxes.{boxed_assignment, for_of};
 
-use crate::boxes::boxed;
 use crate::declarations::maybe_assignment;
-use crate::expressions::expr;
-use crate::reading::{Stop, closed};
 use crate::statement_heads::ForHead;
-use crate::token::{Mark, Token};
 use sl_ast::{Assignment, Expr};
+use sl_expression_grammar::{Stop, boxed, closed, expr};
+use sl_lexer::{Mark, Token};
 use std::alloc::Global;
 
 // The test and a semicolon, and the rest of the head.

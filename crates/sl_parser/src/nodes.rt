@@ -2,16 +2,16 @@
 ghost use Rattle.std.specs.Prelude.{◌≡◌, Ok, IfOk, length, map, option_map};
 ghost use Rattle.sl_ast.specs.Syntax as S;
 ghost use Rattle.sl_ast.specs.SyntaxView.{expr_of, stmt_of, group_of, assignment_of, declared_of, cone_of, function_of};
-ghost use Rattle.sl_parser.specs.Parsing.{Gives};
-ghost use Rattle.sl_parser.specs.Boxes.{boxed_expr, boxed_stmt, boxed_assignment, boxed_cone, for_of, lights_of};
+ghost use Rattle.sl_expression_grammar.specs.Parsing.{Gives};
+ghost use Rattle.sl_expression_grammar.specs.Boxes.{boxed_expr};
+ghost use Rattle.sl_parser.specs.Boxes.{boxed_stmt, boxed_assignment, boxed_cone, for_of, lights_of};
 
-use crate::boxes::boxed;
 use crate::files::GroupList;
-use crate::reading::Stop;
 use crate::statement_heads::{ForHead, LightsHead};
-use crate::token::Token;
 use fixed_math::{List, Text};
 use sl_ast::{Assignment, Cone, Declared, Expr, Function, LightWord, SetOperator, SlType, Stmt};
+use sl_expression_grammar::{Stop, boxed};
+use sl_lexer::Token;
 use std::alloc::Global;
 
 pub fn make_assignment<'a>(
@@ -239,26 +239,21 @@ pub fn make_solar<'a>(
 }
 
 #[tactic(auto, using(sl_ast::proofs::Rows::held_stmts))]
-pub fn make_function<'a>(
-    alloc: Global,
+pub fn make_function(
     returns: SlType,
-    name: &Text,
+    name: Text,
     formals: GroupList,
     body: Vec<Stmt>,
     line: u32,
-    rest: &'a [Token],
-) -> Result<(Function, &'a [Token]), Stop<'a>>
-    ensures gives { Gives function_of result (Ok (record { returns = returns; name = name.now; formals = map group_of formals.groups.items; ended = formals.ended; body = S.stmts (map stmt_of body.items); line = line }, rest.now)) }
-    ensures within { IfOk result (λ n. length n.1.now ≡ length rest.now) }
+) -> Function
+    ensures { function_of result ≡ record { returns = returns; name = name; formals = map group_of formals.groups.items; ended = formals.ended; body = S.stmts (map stmt_of body.items); line = line } }
 {
-    let name = name.copied(alloc)?;
-    let function = Function {
+    Function {
         returns,
         name,
         formals: List(formals.groups),
         ended: formals.ended,
         body: List(body),
         line,
-    };
-    Ok((function, rest))
+    }
 }

@@ -1,15 +1,15 @@
 ghost use Rattle.std.specs.Prelude.{◌≡◌, ◌≤◌, IfOk, length};
 ghost use Rattle.sl_ast.specs.ShaderView.{shader_of};
-ghost use Rattle.sl_parser.specs.Tokens.{tokens_of};
+ghost use Rattle.sl_lexer.specs.Tokens.{tokens_of};
 ghost use Rattle.sl_parser.specs.Parsed.{GivesShader};
 ghost use Rattle.sl_parser.specs.Files.{parsed};
 ghost use Rattle.sl_parser.specs.Spelled.{kinds_of, spelled_shader};
 
 use crate::fault::SlFault;
 use crate::files::file;
-use crate::lexer::{line_feeds, tokens};
-use crate::reading::Stop;
 use sl_ast::Shader;
+use sl_expression_grammar::Stop;
+use sl_lexer::{line_feeds, tokens};
 use std::alloc::Global;
 
 // How many levels may be open at once.

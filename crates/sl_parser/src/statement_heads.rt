@@ -1,18 +1,17 @@
 // What stands in the parentheses of statements, in boxes, since it is held while a statement is read behind it.
 ghost use Rattle.std.specs.Prelude.{◌<◌, IfOk, length, option_map};
-ghost use Rattle.sl_parser.specs.Expressions.{expr_at};
+ghost use Rattle.sl_expression_grammar.specs.Expressions.{expr_at};
+ghost use Rattle.sl_expression_grammar.specs.Parsing.{Gives};
+ghost use Rattle.sl_expression_grammar.specs.Boxes.{boxed_expr};
 ghost use Rattle.sl_parser.specs.Statements.{test_with, for_head, pair_with, cone_in, lights_head, solar_head};
-ghost use Rattle.sl_parser.specs.Parsing.{Gives};
-ghost use Rattle.sl_parser.specs.Boxes.{boxed_expr, boxed_cone, for_of, lights_of};
+ghost use Rattle.sl_parser.specs.Boxes.{boxed_cone, for_of, lights_of};
 
-use crate::boxes::boxed;
 use crate::declarations::maybe_assignment;
-use crate::expressions::expr;
 use crate::for_steps::for_test;
 use crate::nodes::make_cone;
-use crate::reading::{Stop, behind, closed, past};
-use crate::token::{Mark, Token};
 use sl_ast::{Assignment, Cone, Expr};
+use sl_expression_grammar::{Stop, behind, boxed, closed, expr, past};
+use sl_lexer::{Mark, Token};
 use std::alloc::Global;
 
 // An expression in parentheses.

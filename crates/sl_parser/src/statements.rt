@@ -1,23 +1,20 @@
 // Statements from tokens.
-ghost use Rattle.std.specs.Prelude.{◌≡◌, ◌≤◌, ◌<◌, IfOk, IfSome, length, option_map};
+ghost use Rattle.std.specs.Prelude.{◌≡◌, ◌<◌, IfOk, IfSome, length, option_map};
 ghost use Rattle.sl_ast.specs.SyntaxView.{stmt_of};
-ghost use Rattle.sl_parser.specs.Reading.{head_is, behind};
-ghost use Rattle.sl_parser.specs.Expressions.{expr_at};
+ghost use Rattle.sl_expression_grammar.specs.Reading.{head_is, behind};
+ghost use Rattle.sl_expression_grammar.specs.Expressions.{expr_at};
+ghost use Rattle.sl_expression_grammar.specs.Parsing.{Gives, GivesItems};
 ghost use Rattle.sl_parser.specs.Statements.{begins_stmt, is_else, block_in, if_with, while_with, for_with, lights_with, solar_with, return_with, assign_with, declare_with, leave_with, again_with, word_with, stmt_opened, stmt_at};
-ghost use Rattle.sl_parser.specs.Parsing.{Gives, GivesItems};
 ghost use Rattle.sl_parser.specs.Boxes.{boxed_stmt};
 
-use crate::boxes::{boxed, push_boxed};
 use crate::declarations::{Valued, assignment, group};
-use crate::expressions::expr;
-use crate::fault::SlCode;
 use crate::nodes::{
     make_block, make_for, make_if, make_if_else, make_lights, make_solar, make_while,
 };
-use crate::reading::{Stop, behind, closed, code_at, past};
 use crate::statement_heads::{for_head, lights_head, solar_head, test};
-use crate::token::{Mark, Token, TokenKind, Word};
 use sl_ast::{LightWord, Stmt};
+use sl_expression_grammar::{SlCode, Stop, behind, boxed, closed, code_at, expr, past, push_boxed};
+use sl_lexer::{Mark, Token, TokenKind, Word};
 use std::alloc::Global;
 
 fn begins_stmt(ts: &[Token]) -> bool
@@ -41,10 +38,12 @@ fn behind_else(ts: &[Token]) -> Option<&[Token]>
     ensures at { option_map (λ o. o.now) result ≡ behind is_else ts.now }
     ensures within { IfSome result (λ o. length o.now < length ts.now) }
 {
-    let (first, rest) = ts.split_first()?;
-    match &first.kind {
-        TokenKind::Word(Word::Else) => Some(rest),
-        _ => None,
+    match ts {
+        [first, rest @ ..] => match &first.kind {
+            TokenKind::Word(Word::Else) => Some(rest),
+            _ => None,
+        },
+        [] => None,
     }
 }
 

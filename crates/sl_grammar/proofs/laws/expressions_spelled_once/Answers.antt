@@ -1,4 +1,4 @@
-use Rattle.sl_parser.specs.Expressions.{expr_at}
+use Rattle.sl_expression_grammar.specs.Expressions.{expr_at}
 use Rattle.sl_grammar.proofs.ExprReads.{whole_read, spelled_once}
 use Rattle.sl_grammar.proofs.Got.{got_is}
 use Rattle.sl_grammar.proofs.Rises.{Same}

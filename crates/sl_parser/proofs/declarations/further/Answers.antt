@@ -2,11 +2,11 @@ use Rattle.std.proofs.Common.{rules, arith, ap, sym, ◌∙◌, ◌≡◌, ◌�
 use Rattle.std.proofs.lemmas.List.{map-append}
 use Rattle.std.proofs.lemmas.Result.{err_from_is_err_and}
 use Rattle.sl_ast.specs.SyntaxView.{declared_of}
-use Rattle.sl_parser.specs.declared.token.Mark.TheVariants.{Comma}
-use Rattle.sl_parser.specs.Reading.{with_front, many, after_comma, behind, is_mark}
-use Rattle.sl_parser.specs.Expressions.{expr_at}
+use Rattle.sl_lexer.specs.declared.token.Mark.TheVariants.{Comma}
+use Rattle.sl_expression_grammar.specs.Reading.{with_front, many, after_comma, behind, is_mark}
+use Rattle.sl_expression_grammar.specs.Expressions.{expr_at}
+use Rattle.sl_expression_grammar.proofs.Readers.{with_front-append, handed_on, comma-turn, comma-err, comma-end}
 use Rattle.sl_parser.specs.Statements.{declared_with}
-use Rattle.sl_parser.proofs.Readers.{with_front-append, handed_on, comma-turn, comma-err, comma-end}
 use Rattle.sl_parser.proofs.declarations.further.Goals as goal
 
 pub loop-after-init : goal.loop-after-init

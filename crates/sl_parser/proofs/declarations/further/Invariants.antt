@@ -1,7 +1,7 @@
 use Rattle.std.proofs.Common.{◌≡◌, ◌≤◌, ◌+◌, ◌-◌, [], ◌∷◌, length, map}
 use Rattle.sl_ast.specs.SyntaxView.{declared_of}
-use Rattle.sl_parser.specs.Reading.{with_front, many, after_comma}
-use Rattle.sl_parser.specs.Expressions.{expr_at}
+use Rattle.sl_expression_grammar.specs.Reading.{with_front, many, after_comma}
+use Rattle.sl_expression_grammar.specs.Expressions.{expr_at}
 use Rattle.sl_parser.specs.Statements.{declared_with}
 use Rattle.sl_parser.proofs.declarations.further.Given as goal
 

@@ -2,10 +2,10 @@ use Rattle.std.proofs.Common.{rules, arith, ap, sym, ◌∙◌, ◌≡◌, ◌�
 use Rattle.std.proofs.lemmas.List.{map-append}
 use Rattle.std.proofs.lemmas.Result.{err_from_is_err_and}
 use Rattle.sl_ast.specs.SyntaxView.{function_of}
-use Rattle.sl_parser.specs.Reading.{with_front, many}
+use Rattle.sl_expression_grammar.specs.Reading.{with_front, many}
+use Rattle.sl_expression_grammar.proofs.Readers.{with_front-append, handed_on}
 use Rattle.sl_parser.specs.Statements.{type_at}
 use Rattle.sl_parser.specs.Files.{function_with, next_function}
-use Rattle.sl_parser.proofs.Readers.{with_front-append, handed_on}
 use Rattle.sl_parser.proofs.Blocks.{function-turn, function-err, function-end}
 use Rattle.sl_parser.proofs.files.functions.Goals as goal
 

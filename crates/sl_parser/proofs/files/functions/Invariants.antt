@@ -1,6 +1,6 @@
 use Rattle.std.proofs.Common.{◌≡◌, ◌≤◌, ◌+◌, ◌-◌, length, map}
 use Rattle.sl_ast.specs.SyntaxView.{function_of}
-use Rattle.sl_parser.specs.Reading.{with_front, many}
+use Rattle.sl_expression_grammar.specs.Reading.{with_front, many}
 use Rattle.sl_parser.specs.Files.{next_function, functions_in}
 use Rattle.sl_parser.proofs.files.functions.Given as goal
 

@@ -2,11 +2,11 @@ use Rattle.std.proofs.Common.{rules, arith, ap, sym, ◌∙◌, ◌≡◌, ◌�
 use Rattle.std.proofs.lemmas.List.{map-append}
 use Rattle.std.proofs.lemmas.Result.{err_from_is_err_and}
 use Rattle.sl_ast.specs.SyntaxView.{group_of}
-use Rattle.sl_parser.specs.Reading.{with_front, many}
-use Rattle.sl_parser.specs.Expressions.{expr_at}
+use Rattle.sl_expression_grammar.specs.Reading.{with_front, many}
+use Rattle.sl_expression_grammar.specs.Expressions.{expr_at}
+use Rattle.sl_expression_grammar.proofs.Readers.{with_front-append, handed_on}
 use Rattle.sl_parser.specs.Statements.{group_with}
 use Rattle.sl_parser.specs.Files.{semicolon_at, next_group}
-use Rattle.sl_parser.proofs.Readers.{with_front-append, handed_on}
 use Rattle.sl_parser.proofs.Blocks.{group-turn, group-err, group-end}
 use Rattle.sl_parser.proofs.files.further.Goals as goal
 

@@ -1,7 +1,7 @@
 use Rattle.std.proofs.Common.{◌≡◌, ◌≤◌, ◌+◌, ◌-◌, [], ◌∷◌, length, map}
 use Rattle.sl_ast.specs.SyntaxView.{group_of}
-use Rattle.sl_parser.specs.Reading.{with_front, many}
-use Rattle.sl_parser.specs.Expressions.{expr_at}
+use Rattle.sl_expression_grammar.specs.Reading.{with_front, many}
+use Rattle.sl_expression_grammar.specs.Expressions.{expr_at}
 use Rattle.sl_parser.specs.Statements.{group_with}
 use Rattle.sl_parser.specs.Files.{next_group}
 use Rattle.sl_parser.proofs.files.further.Given as goal

@@ -1,6 +1,6 @@
 use Rattle.std.proofs.Common.{◌≡◌, ap, sym, ◌∙◌, Ok}
 use Rattle.sl_ast.specs.ShaderView.{shader_of}
-use Rattle.sl_parser.specs.Tokens.{tokens_of, last_line}
+use Rattle.sl_lexer.specs.Tokens.{tokens_of, last_line}
 use Rattle.sl_parser.specs.Files.{file_of, placed, parsed}
 use Rattle.sl_parser.proofs.FileTexts.{parsed_spelled}
 use Rattle.sl_parser.proofs.parser.parse.Goals as goal

@@ -2,12 +2,12 @@ use Rattle.std.proofs.Common.{rules, arith, ap, sym, subst, ◌∙◌, ◌≡◌
 use Rattle.std.proofs.lemmas.List.{map-append}
 use Rattle.std.proofs.lemmas.Result.{err_from_is_err_and}
 use Rattle.sl_ast.specs.SyntaxView.{stmt_of}
-use Rattle.sl_parser.specs.declared.token.Mark.TheVariants.{RightBrace}
-use Rattle.sl_parser.specs.Reading.{with_front, many, behind, is_mark}
+use Rattle.sl_lexer.specs.declared.token.Mark.TheVariants.{RightBrace}
+use Rattle.sl_expression_grammar.specs.Reading.{with_front, many, behind, is_mark}
+use Rattle.sl_expression_grammar.specs.Parsing.{Gives}
+use Rattle.sl_expression_grammar.proofs.Readers.{with_front-append, handed_on}
 use Rattle.sl_parser.specs.Statements.{next_stmt, stmt_at}
-use Rattle.sl_parser.specs.Parsing.{Gives}
 use Rattle.sl_parser.specs.Boxes.{boxed_stmt}
-use Rattle.sl_parser.proofs.Readers.{with_front-append, handed_on}
 use Rattle.sl_parser.proofs.Blocks.{stmt-turn, block-fails, block-done}
 use Rattle.sl_parser.proofs.statements.+statements.Goals as goal
 

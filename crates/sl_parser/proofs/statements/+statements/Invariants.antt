@@ -1,6 +1,6 @@
 use Rattle.std.proofs.Common.{◌≡◌, ◌≤◌, ◌+◌, ◌-◌, ◌*◌, length, map}
 use Rattle.sl_ast.specs.SyntaxView.{stmt_of}
-use Rattle.sl_parser.specs.Reading.{with_front, many}
+use Rattle.sl_expression_grammar.specs.Reading.{with_front, many}
 use Rattle.sl_parser.specs.Statements.{next_stmt, stmt_at}
 use Rattle.sl_parser.proofs.statements.+statements.Given as goal
 

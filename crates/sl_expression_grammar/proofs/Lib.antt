@@ -1,0 +1,3 @@
+mod Chains
+pub mod Levels
+pub mod Readers

@@ -1,0 +1,12 @@
+// The codes of faults of a shader's text.
+
+/// What is wrong at a place of a shader's text.
+#[derive(Clone, Copy, Debug, PartialEq, Eq)]
+pub enum SlCode {
+    /// No token begins here.
+    P1,
+    /// No text of the grammar goes on with this token, or ends here.
+    P2,
+    /// The 65th level would open here.
+    P3,
+}
