@@ -1,21 +1,21 @@
 // Statements that hold others, from what was found of their parts: the first fault in the order of the text, or the node.
 ghost use Rattle.std.specs.Prelude.{List, ◌≡◌, Ok, map};
-ghost use Rattle.sl_typing.specs.Found.{Found};
-ghost use Rattle.sl_typing.specs.Scope.{Local};
+ghost use Rattle.sl_expressions.specs.Found.{Found};
+ghost use Rattle.sl_expressions.specs.Scope.{Local};
+ghost use Rattle.sl_expressions.specs.Typed as T;
+ghost use Rattle.sl_expressions.specs.TypedView.{typed_of, tstmt_of};
+ghost use Rattle.sl_expressions.specs.Views.{Gives, GivesAll};
 ghost use Rattle.sl_typing.specs.Stmts as spec;
-ghost use Rattle.sl_typing.specs.Typed as T;
-ghost use Rattle.sl_typing.specs.TypedView.{typed_of, tstmt_of};
-ghost use Rattle.sl_typing.specs.Views.{Gives, GivesAll, GivesOne, GivesTested, boxed_of, head_of};
+ghost use Rattle.sl_typing.specs.Views.{GivesOne, GivesTested, boxed_of, head_of};
 
-use crate::fault::{TypeCode, TypeFault, fault};
 use crate::sets::is_test;
-use crate::typed::{TypedExpr, TypedStmt};
 use fixed_math::List;
 use sl_ast::LightStmt;
+use sl_expressions::{TypeCode, TypeFault, TypedExpr, TypedStmt, fault};
 use std::alloc::Global;
 
 // A block.
-#[tactic(auto, using(crate::proofs::Rows::held_tstmts))]
+#[tactic(auto, using(sl_expressions::proofs::Rows::held_tstmts))]
 pub fn block_node(
     body: Result<Vec<TypedStmt>, TypeFault>,
     line: u32,
@@ -29,7 +29,7 @@ pub fn block_node(
     })
 }
 
-#[tactic(auto, using(crate::proofs::Rows::held_tstmts))]
+#[tactic(auto, using(sl_expressions::proofs::Rows::held_tstmts))]
 fn group_node(body: Vec<TypedStmt>) -> TypedStmt
     ensures { tstmt_of result ≡ T.group (T.stmts (map tstmt_of body.items)) }
 {
@@ -137,7 +137,7 @@ pub fn for_head(
 }
 
 // A `for`.
-#[tactic(auto, using(crate::proofs::Rows::held_tstmts))]
+#[tactic(auto, using(sl_expressions::proofs::Rows::held_tstmts))]
 pub fn for_node(
     head: Result<(Vec<TypedStmt>, TypedExpr), TypeFault>,
     step: Result<Vec<TypedStmt>, TypeFault>,

@@ -2,23 +2,23 @@
 ghost use Rattle.std.specs.Prelude.{List, ◌≡◌, [], ◌++◌, Err, IfOk, IfSome, OnErr, OnOk, Ok, Option, length, map, option_map};
 ghost use Rattle.sl_ast.specs.Syntax as U;
 ghost use Rattle.sl_ast.specs.SyntaxView.{expr_of, stmt_of, group_of, declared_of, function_of};
+ghost use Rattle.sl_expressions.specs.Scope as scopes;
+ghost use Rattle.sl_expressions.specs.Typed as T;
+ghost use Rattle.sl_expressions.specs.TypedView.{typed_of, tstmt_of};
+ghost use Rattle.sl_expressions.specs.declared.faults.TypeFault.TheVariants.{NoMemory};
+ghost use Rattle.sl_expressions.specs.Views.{Gives, GivesAll, spot_of, around_of, local_of, stmts_of as body_view, body_of, callee_of};
 ghost use Rattle.sl_typing.specs.Functions as spec;
-ghost use Rattle.sl_typing.specs.Scope as scopes;
-ghost use Rattle.sl_typing.specs.Typed as T;
-ghost use Rattle.sl_typing.specs.TypedView.{typed_of, tstmt_of};
-ghost use Rattle.sl_typing.specs.declared.fault.TypeFault.TheVariants.{NoMemory};
-ghost use Rattle.sl_typing.specs.Views.{Gives, GivesAll, GivesRows, Extends, spot_of, around_of, local_of, stmts_of as body_view, body_of, callee_of};
+ghost use Rattle.sl_typing.specs.Views.{GivesRows, Extends};
 
-use crate::exprs::expr;
-use crate::fault::{TypeCode, TypeFault, fault};
 use crate::gives::gives_any;
-use crate::places::{Around, Body, Faulty, Known, Local, Own, Spot};
-use crate::scope::{Functions, Scope};
 use crate::sets::{is_uniform, value_in};
 use crate::stmts::rows;
-use crate::typed::TypedStmt;
 use fixed_math::List;
 use sl_ast::{Declared, Expr, Function, Group, SlKind, SlType, Stmt};
+use sl_expressions::{
+    Around, Body, Faulty, Functions, Known, Local, Own, Scope, Spot, TypeCode, TypeFault,
+    TypedStmt, expr, fault,
+};
 use std::alloc::{AllocError, Global};
 
 fn given(s: &Stmt) -> Option<(&Expr, u32)>

@@ -2,19 +2,19 @@
 ghost use Rattle.std.specs.Prelude.{List, ◌≡◌, [], Ok, OnOk, length, map, option_map};
 ghost use Rattle.sl_ast.specs.ShaderView.{shader_of};
 ghost use Rattle.sl_ast.specs.SyntaxView.{expr_of, group_of, declared_of};
+ghost use Rattle.sl_expressions.specs.TypedView.{typed_of, tstmt_of};
+ghost use Rattle.sl_expressions.specs.Views.{Gives, around_of, local_of, callee_of};
 ghost use Rattle.sl_typing.specs.Functions as spec;
-ghost use Rattle.sl_typing.specs.TypedView.{typed_of, tstmt_of};
-ghost use Rattle.sl_typing.specs.Views.{Gives, GivesParams, around_of, local_of, callee_of, param_of, program_of};
+ghost use Rattle.sl_typing.specs.Views.{GivesParams, param_of, program_of};
 
-use crate::exprs::expr;
-use crate::fault::{TypeCode, TypeFault, fault};
+use crate::file::{Param, Program};
 use crate::functions::learn_all;
-use crate::places::{Around, Local, Param, Program, Spot};
-use crate::scope::{Functions, Scope};
 use crate::sets::{is_varying, value_in};
 use crate::stmts::rows;
-use crate::typed::{TypedExpr, TypedStmt};
 use sl_ast::{Declared, Expr, Group, Shader, SlKind, SlType};
+use sl_expressions::{
+    Around, Functions, Local, Scope, Spot, TypeCode, TypeFault, TypedExpr, TypedStmt, expr, fault,
+};
 use std::alloc::Global;
 
 fn default_in(

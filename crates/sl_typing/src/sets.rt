@@ -3,26 +3,23 @@ ghost use Rattle.std.specs.Prelude.{List, ◌≡◌, Err, not, map, option_map};
 ghost use Rattle.sl_ast.specs.SyntaxView.{expr_of, assignment_of, declared_of, cone_of};
 ghost use Rattle.sl_ast.specs.Rules as rules;
 ghost use Rattle.sl_ast.specs.WellTyped as W;
-ghost use Rattle.sl_typing.specs.Exprs.{typed_expr, typed_args};
-ghost use Rattle.sl_typing.specs.Found.{Found};
-ghost use Rattle.sl_typing.specs.Scope as scopes;
+ghost use Rattle.sl_expressions.specs.Exprs.{typed_expr, typed_args};
+ghost use Rattle.sl_expressions.specs.Found.{Found};
+ghost use Rattle.sl_expressions.specs.Scope as scopes;
+ghost use Rattle.sl_expressions.specs.Typed as T;
+ghost use Rattle.sl_expressions.specs.TypedView.{typed_of, tstmt_of};
+ghost use Rattle.sl_expressions.specs.Views.{Gives, GivesAll, spot_of, around_of, local_of, found_of, own_of};
 ghost use Rattle.sl_typing.specs.Stmts as spec;
-ghost use Rattle.sl_typing.specs.Typed as T;
-ghost use Rattle.sl_typing.specs.TypedView.{typed_of, tstmt_of};
-ghost use Rattle.sl_typing.specs.Views.{Gives, GivesAll, GivesOne, GivesRows, Extends, spot_of, around_of, local_of, found_of, own_of};
+ghost use Rattle.sl_typing.specs.Views.{GivesOne, GivesRows, Extends};
 
-use crate::exprs::expr;
-use crate::fault::{TypeCode, TypeFault, fault};
-use crate::names::find;
-use crate::operations::{kind_of, operands_of};
-use crate::places::{Around, Local, Own, Spot};
-use crate::predefined::{is_own, is_written, predefined_names};
-use crate::scope::{Scope, place_of};
-use crate::typed::{TypedExpr, TypedStmt};
 use fixed_math::Text;
 use sl_ast::{
     Assignment, Class, Cone, Declared, Expr, LightStmt, LightWord, NodeType, Operands, Predefined,
     SetOperator, SlType, Variable,
+};
+use sl_expressions::{
+    Around, Local, Own, Scope, Spot, TypeCode, TypeFault, TypedExpr, TypedStmt, expr, fault, find,
+    is_own, is_written, kind_of, operands_of, place_of, predefined_names,
 };
 use std::alloc::Global;
 

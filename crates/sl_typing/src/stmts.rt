@@ -2,26 +2,23 @@
 ghost use Rattle.std.specs.Prelude.{List, ◌≡◌, map, length};
 ghost use Rattle.sl_ast.specs.Syntax as U;
 ghost use Rattle.sl_ast.specs.SyntaxView.{expr_of, stmt_of};
-ghost use Rattle.sl_typing.specs.Exprs.{typed_args};
-ghost use Rattle.sl_typing.specs.Scope as scopes;
+ghost use Rattle.sl_expressions.specs.Exprs.{typed_args};
+ghost use Rattle.sl_expressions.specs.Scope as scopes;
+ghost use Rattle.sl_expressions.specs.Typed as T;
+ghost use Rattle.sl_expressions.specs.TypedView.{typed_of, tstmt_of};
+ghost use Rattle.sl_expressions.specs.declared.places.Local.{Local};
+ghost use Rattle.sl_expressions.specs.Views.{Gives, GivesAll, spot_of, around_of, local_of};
 ghost use Rattle.sl_typing.specs.Stmts as spec;
-ghost use Rattle.sl_typing.specs.Typed as T;
-ghost use Rattle.sl_typing.specs.TypedView.{typed_of, tstmt_of};
-ghost use Rattle.sl_typing.specs.declared.places.Local.{Local};
-ghost use Rattle.sl_typing.specs.Views.{Gives, GivesAll, GivesOne, GivesRows, boxed_of, Extends, spot_of, around_of, local_of};
+ghost use Rattle.sl_typing.specs.Views.{GivesOne, GivesRows, boxed_of, Extends};
 
 use crate::compound::{
     block_node, boxed, for_head, for_node, if_else_node, if_node, lights_node, while_node,
 };
-use crate::exprs::expr;
-use crate::fault::{TypeCode, TypeFault, fault};
-use crate::places::{Around, Spot};
-use crate::scope::Scope;
 use crate::sets::{
     condition, is_uniform, light_args, light_word, lights_of, misplaced, names, optional_set, set,
 };
-use crate::typed::{TypedExpr, TypedStmt};
 use sl_ast::{Expr, LightStmt, Stmt};
+use sl_expressions::{Around, Scope, Spot, TypeCode, TypeFault, TypedExpr, TypedStmt, expr, fault};
 use std::alloc::Global;
 
 // The typed arguments of `solar`.

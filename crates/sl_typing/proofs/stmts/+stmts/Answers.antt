@@ -2,14 +2,15 @@ use Rattle.std.proofs.Common.{◌+◌, [], ◌∷◌, false, Ok, drop, length, m
 use Rattle.sl_ast.specs.Syntax as U
 use Rattle.sl_ast.specs.SyntaxView.{expr_of, stmt_of, declared_of, assignment_of, cone_of}
 use Rattle.sl_ast.specs.declared.kinds.LightStmt.TheVariants.{Solar}
-use Rattle.sl_typing.specs.Exprs.{typed_expr, typed_args}
-use Rattle.sl_typing.specs.Found.{◌>>=◌}
+use Rattle.sl_expressions.specs.Exprs.{typed_expr, typed_args}
+use Rattle.sl_expressions.specs.Found.{◌>>=◌}
+use Rattle.sl_expressions.specs.Typed as T
+use Rattle.sl_expressions.specs.TypedView.{tstmt_of}
+use Rattle.sl_expressions.specs.Views.{Gives, around_of, local_of}
 use Rattle.sl_typing.specs.Stmts as spec
 use Rattle.sl_typing.specs.Stmts.{behind, typed_stmt, typed_rows}
 use Rattle.sl_typing.specs.Measures.{size_stmt, size_rows}
-use Rattle.sl_typing.specs.Typed as T
-use Rattle.sl_typing.specs.TypedView.{tstmt_of}
-use Rattle.sl_typing.specs.Views.{Gives, boxed_of, around_of, local_of}
+use Rattle.sl_typing.specs.Views.{boxed_of}
 use Rattle.sl_typing.proofs.Behind.{rows_step}
 use Rattle.sl_typing.proofs.Nodes.{block_is, small_stmt}
 use Rattle.sl_typing.proofs.Scopes.{extends_same, extends_trans, left_same}
