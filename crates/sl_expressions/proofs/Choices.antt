@@ -8,6 +8,7 @@ use Rattle.sl_ast.specs.declared.syntax.Expr.{Expr}
 use Rattle.sl_expressions.specs.Exprs.{applied, chosen, three}
 use Rattle.sl_expressions.specs.Found.{Found, ◌>>=◌}
 use Rattle.sl_expressions.specs.Typed as T
+use Rattle.sl_expressions.specs.Views.{one_more}
 
 chosen_three : (line : ℕ) (x y z : Found T.Expr)
     → x >>= (λ a. y >>= λ b. z >>= λ c. applied (Value Select) line (a ∷ b ∷ c ∷ [])) ≡ chosen line (three x y z)
@@ -27,3 +28,10 @@ pub choice_is : (line : ℕ) (f : U.Expr → Found T.Expr) (x y z a b c : Expr) 
     ≡ chosen line (three (f (expr_of a)) (f (expr_of b)) (f (expr_of c)))
 choice_is line f x y z a b c p q r =
     chosen_three line (f (expr_of x)) (f (expr_of y)) (f (expr_of z)) ∙ ap (chosen line) (three_is f x y z a b c p q r)
+
+-- three parts, one behind the other
+pub three_more : (x y z : Found T.Expr) → one_more (one_more (one_more (Ok []) x) y) z ≡ three x y z
+three_more (Err e) y z = refl
+three_more (Ok a) (Err e) z = refl
+three_more (Ok a) (Ok b) (Err e) = refl
+three_more (Ok a) (Ok b) (Ok c) = refl

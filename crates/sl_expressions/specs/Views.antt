@@ -1,5 +1,5 @@
 -- What the code holds, and what its answers say of the definitions.
-use Rattle.std.specs.Prelude.{◌≡◌, ℕ, List, Vec, Option, option_map, Result, Ok, Err, map}
+use Rattle.std.specs.Prelude.{◌≡◌, ℕ, List, [], ◌∷◌, ◌++◌, Vec, Option, option_map, Result, Ok, Err, map}
 use Rattle.std.specs.declared.alloc.Global.{Global}
 use Rattle.sl_expressions.specs.declared.faults.TypeFault.{TypeFault}
 use Rattle.sl_expressions.specs.declared.faults.TypeFault.TheVariants.{At, NoMemory}
@@ -11,10 +11,13 @@ use Rattle.sl_expressions.specs.declared.places.Own.{Own}
 use Rattle.sl_expressions.specs.declared.places.Spot.{Spot}
 use Rattle.sl_expressions.specs.declared.places.Around.{Around}
 use Rattle.sl_ast.specs.WellTyped as W
+use Rattle.sl_ast.specs.declared.kinds.NodeType.{NodeType}
+use Rattle.sl_ast.specs.declared.operations.Operation.{Operation}
 use Rattle.std.specs.Borrow.{Bor}
 use Rattle.sl_expressions.specs.declared.typed.TypedExpr.{TypedExpr}
 use Rattle.sl_expressions.specs.declared.typed.TypedLink.{TypedLink}
-use Rattle.sl_expressions.specs.Found.{Found}
+use Rattle.sl_expressions.specs.Found.{Found, ◌>>=◌}
+use Rattle.sl_expressions.specs.Exprs.{applied}
 use Rattle.sl_expressions.specs.Typed as T
 use Rattle.sl_expressions.specs.TypedView.{typed_of, tlink_of, tstmt_of}
 use Rattle.sl_expressions.specs.Scope as S
@@ -37,6 +40,20 @@ local_of l = record { uniform = l.uniform; kind = l.kind; name = l.name.now; lin
 -- a chain of operators behind what stands before
 abbrev pub chain_of : T.Expr → Vec TypedLink Global → T.Expr
 chain_of t links = T.chained t (map tlink_of links.items)
+
+-- expressions, and one more behind them
+abbrev pub one_more : Found (List T.Expr) → Found T.Expr → Found (List T.Expr)
+one_more before found = before >>= λ ts. found >>= λ t. Ok (ts ++ t ∷ [])
+
+-- an operator behind what stands before, from what is found of the operand behind it
+abbrev pub operated : Operation → ℕ → T.Expr → Found T.Expr → Found T.Expr
+operated operation line before operand = operand >>= λ t. applied operation line (before ∷ t ∷ [])
+
+-- what an answer says of the links behind a first operand: their chain, whose type it holds
+abbrev pub GivesLinks : Result NodeType TypeFault → T.Expr → List TypedLink → Found T.Expr → Type 0
+GivesLinks (Ok kind) first links found = (found ≡ Ok (T.chained first (map tlink_of links))) × (T.kind_of (T.chained first (map tlink_of links)) ≡ kind)
+GivesLinks (Err (At code line)) first links found = found ≡ Err (code, line)
+GivesLinks (Err NoMemory) first links found = Unit {0}
 
 abbrev pub found_of : ℕ × Local → ℕ × S.Local
 found_of l = (l.0, local_of l.1)

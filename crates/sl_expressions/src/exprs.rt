@@ -10,7 +10,8 @@ ghost use Rattle.sl_expressions.specs.Views.{Gives, GivesAll, spot_of, around_of
 use crate::calls::call_of;
 use crate::faults::{TypeCode, TypeFault, fault};
 use crate::names::find;
-use crate::operations::{chained, chosen, converted, kind_of, linked, prefixed, tripled};
+use crate::operations::{add_link, chained, chosen, converted, kind_of, prefixed, three, tripled};
+use crate::parts::push;
 use crate::places::{Around, Local, Spot};
 use crate::predefined::{is_own, is_read, predefined_names};
 use crate::rules::operation_of;
@@ -101,7 +102,8 @@ fn named(
     })
 }
 
-/// The typed tree of an expression; `behind` says that it stands directly behind a type.
+/// The typed tree of an expression; `behind` says that it stands directly behind a type. The parts of one that holds several are
+/// all typed, and the node that they make gives the first of their faults.
 #[cycle(exprs)]
 pub fn expr(
     e: &Expr,
@@ -136,8 +138,10 @@ pub fn expr(
             second,
             line,
         } => {
-            let parts = components(test, first, second, alloc, g, scope);
-            chosen(*line, parts)
+            let test = expr(test, alloc, g, false, scope);
+            let first = expr(first, alloc, g, false, scope);
+            let second = expr(second, alloc, g, false, scope);
+            chosen(*line, three(alloc, test, first, second))
         }
         Expr::Triple {
             kind,
@@ -147,8 +151,10 @@ pub fn expr(
             z,
             line,
         } => {
-            let parts = components(x, y, z, alloc, g, scope);
-            tripled(&g.at, *kind, space, *line, parts)
+            let x = expr(x, alloc, g, false, scope);
+            let y = expr(y, alloc, g, false, scope);
+            let z = expr(z, alloc, g, false, scope);
+            tripled(&g.at, *kind, space, *line, three(alloc, x, y, z))
         }
         Expr::Typed {
             kind,
@@ -180,7 +186,7 @@ pub fn exprs(
     let mut before = Vec::new(alloc);
     for e in es {
         let value = expr(e, alloc, g, false, scope)?;
-        before.push(value)?;
+        push(&mut before, value)?;
     }
     Ok(before)
 }
@@ -199,30 +205,15 @@ fn typed_links(
     let mut kind = kind_of(first);
     let mut typed = Vec::new(alloc);
     for link in links {
-        let operand = expr(&link.operand, alloc, g, false, scope)?;
-        let next = linked(operation_of(link.operator), link.line, kind, operand)?;
-        kind = next.kind;
-        typed.push(next)?;
+        let operand = expr(&link.operand, alloc, g, false, scope);
+        let next = add_link(
+            &mut typed,
+            operation_of(link.operator),
+            link.line,
+            kind,
+            operand,
+        )?;
+        kind = next;
     }
     Ok(typed)
-}
-
-// Three expressions: the components of a triple, or the parts of a choice.
-#[cycle(exprs)]
-fn components(
-    x: &Expr,
-    y: &Expr,
-    z: &Expr,
-    alloc: Global,
-    g: &Around<'_, '_>,
-    scope: &Scope<'_>,
-) -> Result<Vec<TypedExpr>, TypeFault>
-    ensures { GivesAll typed_of result (spec.three (spec.typed_expr (around_of g.now) false (map local_of scope.now) (expr_of x.now)) (spec.typed_expr (around_of g.now) false (map local_of scope.now) (expr_of y.now)) (spec.typed_expr (around_of g.now) false (map local_of scope.now) (expr_of z.now))) }
-{
-    let mut parts = Vec::new(alloc);
-    parts.reserve(3)?;
-    parts.push_reserved(expr(x, alloc, g, false, scope)?);
-    parts.push_reserved(expr(y, alloc, g, false, scope)?);
-    parts.push_reserved(expr(z, alloc, g, false, scope)?);
-    Ok(parts)
 }

@@ -6,10 +6,11 @@ ghost use Rattle.sl_expressions.specs.Exprs as spec;
 ghost use Rattle.sl_expressions.specs.Found.{Found, refuses};
 ghost use Rattle.sl_expressions.specs.Typed as T;
 ghost use Rattle.sl_expressions.specs.TypedView.{typed_of, tlink_of};
-ghost use Rattle.sl_expressions.specs.Views.{Gives, GivesAll, spot_of, chain_of};
+ghost use Rattle.sl_expressions.specs.Views.{Gives, GivesAll, GivesLinks, operated, spot_of, chain_of};
 
 use crate::faults::{TypeCode, TypeFault, fault};
 use crate::names::is;
+use crate::parts::{added, boxed, left, one, push};
 use crate::places::Spot;
 use crate::predefined::space_named;
 use crate::rules::prefix_operation;
@@ -87,13 +88,12 @@ pub fn prefixed(
 ) -> Result<TypedExpr, TypeFault>
     ensures { (found : Found T.Expr) → Gives typed_of operand found → Gives typed_of result (spec.prefixed operator line found) }
 {
-    let operand = operand?;
-    let args = vec![in alloc; operand]?;
+    let args = one(alloc, operand?)?;
     applied(prefix_operation(operator), line, args)
 }
 
-/// An operator behind operands whose type is `before`, with the operand behind it.
-pub fn linked(
+// An operator behind operands whose type is `before`, with the operand behind it.
+fn linked(
     operation: Operation,
     line: u32,
     before: NodeType,
@@ -102,7 +102,13 @@ pub fn linked(
     ensures { (t : T.Expr) → T.kind_of t ≡ before → Gives (λ l. T.linked t (tlink_of l)) result (spec.applied operation line (t ∷ typed_of operand ∷ [])) }
 {
     match operation.rule(Operands::Two(before, kind_of(&operand))) {
-        None => fault(TypeCode::T2, line),
+        None => left(
+            operand,
+            TypeFault::At {
+                code: TypeCode::T2,
+                line,
+            },
+        ),
         Some(kind) => Ok(TypedLink {
             operation,
             operand,
@@ -112,8 +118,50 @@ pub fn linked(
     }
 }
 
+/// An operator behind those behind a first operand, where `before` is the type of what stands as far as that; the type with it.
+pub fn add_link(
+    links: &mut Vec<TypedLink>,
+    operation: Operation,
+    line: u32,
+    before: NodeType,
+    operand: Result<TypedExpr, TypeFault>,
+) -> Result<NodeType, TypeFault>
+    ensures { (first : T.Expr) (found : Found T.Expr) → T.kind_of (T.chained first (map tlink_of links.old.items)) ≡ before → Gives typed_of operand found → GivesLinks result first links.new.items (operated operation line (T.chained first (map tlink_of links.old.items)) found) }
+{
+    let link = linked(operation, line, before, operand?)?;
+    let kind = link.kind;
+    push(links, link)?;
+    Ok(kind)
+}
+
+// A chain of at least one operator, the last of which stands apart.
+#[tactic(auto, using(crate::proofs::Rows::held_chain))]
+fn chain_node(
+    alloc: Global,
+    first: TypedExpr,
+    links: Vec<TypedLink>,
+    last: TypedLink,
+) -> Result<TypedExpr, TypeFault>
+    ensures { Gives typed_of result (Ok (T.linked (T.chained (typed_of first) (map tlink_of links.items)) (tlink_of last))) }
+{
+    match boxed(alloc, first) {
+        Err(fault) => left((links, last), fault),
+        Ok(first) => match boxed(alloc, last.operand) {
+            Err(fault) => left((first, links), fault),
+            Ok(operand) => Ok(TypedExpr::Chain {
+                first,
+                links: List(links),
+                operation: last.operation,
+                operand,
+                kind: last.kind,
+                line: last.line,
+            }),
+        },
+    }
+}
+
 /// A chain from its first operand and the operators behind it.
-#[tactic(auto, using(crate::proofs::Chains::chain_held))]
+#[tactic(auto, using(crate::proofs::Chains::chain_parted))]
 pub fn chained(
     alloc: Global,
     first: TypedExpr,
@@ -121,18 +169,27 @@ pub fn chained(
 ) -> Result<TypedExpr, TypeFault>
     ensures { (found : Found T.Expr) → Gives (chain_of (typed_of first)) links found → Gives typed_of result found }
 {
-    let mut links = links?;
-    let Some(last) = links.pop() else {
-        return Ok(first);
-    };
-    Ok(TypedExpr::Chain {
-        first: Box::new(alloc, first)?,
-        links: List(links),
-        operation: last.operation,
-        operand: Box::new(alloc, last.operand)?,
-        kind: last.kind,
-        line: last.line,
-    })
+    match links {
+        Err(fault) => left(first, fault),
+        Ok(mut links) => match links.pop() {
+            None => Ok(first),
+            Some(last) => chain_node(alloc, first, links, last),
+        },
+    }
+}
+
+/// The three parts of a triple or a choice.
+pub fn three(
+    alloc: Global,
+    x: Result<TypedExpr, TypeFault>,
+    y: Result<TypedExpr, TypeFault>,
+    z: Result<TypedExpr, TypeFault>,
+) -> Result<Vec<TypedExpr>, TypeFault>
+    ensures { (a b c : Found T.Expr) → Gives typed_of x a → Gives typed_of y b → Gives typed_of z c → GivesAll typed_of result (spec.three a b c) }
+{
+    let one = added(Ok(Vec::new(alloc)), x);
+    let two = added(one, y);
+    added(two, z)
 }
 
 /// One of two values by a condition.
@@ -192,28 +249,37 @@ pub fn converted(
 ) -> Result<TypedExpr, TypeFault>
     ensures { (found : Found T.Expr) → Gives typed_of part found → Gives typed_of result (spec.converted (spot_of g.now) kind space.now line found) }
 {
+    let space_found = space_of(g, kind, space);
     match part {
         Err(TypeFault::NoMemory) => Err(TypeFault::NoMemory),
-        Err(TypeFault::At { code, line }) => {
-            space_of(g, kind, space)?;
-            fault(code, line)
-        }
+        Err(TypeFault::At { code, line }) => match space_found {
+            Err(first) => Err(first),
+            Ok(_) => fault(code, line),
+        },
         Ok(value) => {
-            let args = vec![in alloc; value]?;
+            let args = one(alloc, value)?;
             if refuses_space(kind, space)
                 || misfits(
                     Operation::Value(ValueOperation::Convert(kind, SpaceName::Current)),
                     args.as_slice(),
                 )
             {
-                return fault(TypeCode::T2, line);
+                return left(
+                    args,
+                    TypeFault::At {
+                        code: TypeCode::T2,
+                        line,
+                    },
+                );
             }
-            let space = space_of(g, kind, space)?;
-            applied(
-                Operation::Value(ValueOperation::Convert(kind, space)),
-                line,
-                args,
-            )
+            match space_found {
+                Err(first) => left(args, first),
+                Ok(space) => applied(
+                    Operation::Value(ValueOperation::Convert(kind, space)),
+                    line,
+                    args,
+                ),
+            }
         }
     }
 }

@@ -22,7 +22,7 @@ pub struct Body {
 }
 
 /// A fault and its line.
-#[derive(Debug, Clone, Copy, PartialEq, Eq)]
+#[derive(Clone, Copy)]
 pub struct Faulty {
     pub code: TypeCode,
     pub line: u32,

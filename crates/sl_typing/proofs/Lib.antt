@@ -5,3 +5,4 @@ pub mod Branches
 pub mod Ends
 pub mod Learned
 pub mod StmtRows
+pub mod LightArgs

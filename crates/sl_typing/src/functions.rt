@@ -17,7 +17,7 @@ use fixed_math::List;
 use sl_ast::{Declared, Expr, Function, Group, SlKind, SlType, Stmt};
 use sl_expressions::{
     Around, Body, Faulty, Functions, Known, Local, Own, Scope, Spot, TypeCode, TypeFault,
-    TypedStmt, expr, fault,
+    TypedStmt, expr, fault, left,
 };
 use std::alloc::{AllocError, Global};
 
@@ -79,14 +79,20 @@ fn body_from<'a>(
     let from = scope.len();
     let mut done = Vec::new(alloc);
     match closing(body) {
-        None => {
-            rows(body, alloc, g, from, &mut done, scope)?;
-            fault(TypeCode::T8, line)
-        }
-        Some((before, (value, at))) => {
-            rows(before, alloc, g, from, &mut done, scope)?;
-            returned(alloc, g, kind, done, scope, value, at)
-        }
+        None => match rows(body, alloc, g, from, &mut done, scope) {
+            Err(fault) => left(done, fault),
+            Ok(()) => left(
+                done,
+                TypeFault::At {
+                    code: TypeCode::T8,
+                    line,
+                },
+            ),
+        },
+        Some((before, (value, at))) => match rows(before, alloc, g, from, &mut done, scope) {
+            Err(fault) => left(done, fault),
+            Ok(()) => returned(alloc, g, kind, done, scope, value, at),
+        },
     }
 }
 
@@ -217,15 +223,19 @@ fn learned<'a>(
     ensures { IfOk result (λ k. callee_of k ≡ spec.callee_in kind (map callee_of known.now) (function_of f.now)) }
 {
     let formals = formals_of(alloc, f.formals.as_slice())?;
-    let body = kept_body(alloc, kind, false, known, formals.as_slice(), f)?;
-    let by_default = kept_body(alloc, kind, true, known, formals.as_slice(), f)?;
-    Ok(Known {
-        name: &f.name,
-        formals,
-        returns: f.returns,
-        body,
-        by_default,
-    })
+    match kept_body(alloc, kind, false, known, formals.as_slice(), f) {
+        Err(want) => left(formals, want),
+        Ok(body) => match kept_body(alloc, kind, true, known, formals.as_slice(), f) {
+            Err(want) => left((formals, body), want),
+            Ok(by_default) => Ok(Known {
+                name: &f.name,
+                formals,
+                returns: f.returns,
+                body,
+                by_default,
+            }),
+        },
+    }
 }
 
 // Adds a function to those before it.

@@ -14,6 +14,7 @@ use crate::stmts::rows;
 use sl_ast::{Declared, Expr, Group, Shader, SlKind, SlType};
 use sl_expressions::{
     Around, Functions, Local, Scope, Spot, TypeCode, TypeFault, TypedExpr, TypedStmt, expr, fault,
+    left, push,
 };
 use std::alloc::Global;
 
@@ -56,8 +57,7 @@ fn param<'a>(
     };
     scope.push(local)?;
     let value = default_in(alloc, g, kind, d.set_line, &d.value)?;
-    params.push(Param { local, value })?;
-    Ok(())
+    push(params, Param { local, value })
 }
 
 // The parameters of a group.
@@ -173,11 +173,13 @@ pub fn program<'a>(alloc: Global, shader: &'a Shader) -> Result<Program<'a>, Typ
     ensures { Gives program_of result (spec.program (shader_of shader.now)) }
 {
     let mut known = Functions::new(alloc);
-    learn_all(alloc, shader.kind, shader.functions.as_slice(), &mut known)?;
+    if let Err(fault) = learn_all(alloc, shader.kind, shader.functions.as_slice(), &mut known) {
+        return left(known, fault);
+    }
     let mut params = Vec::new(alloc);
     let mut body = Vec::new(alloc);
     match params_and_body(alloc, shader, &known, &mut params, &mut body) {
-        Err(fault) => Err(fault),
+        Err(fault) => left((known, params, body), fault),
         Ok(()) => Ok(Program {
             known,
             params,

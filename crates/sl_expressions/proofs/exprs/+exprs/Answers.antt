@@ -7,8 +7,8 @@ use Rattle.sl_expressions.specs.Measures.{size, size_args, size_links}
 use Rattle.sl_expressions.specs.Rules.{operation_of}
 use Rattle.sl_expressions.specs.Typed as T
 use Rattle.sl_expressions.specs.TypedView.{typed_of, tlink_of}
-use Rattle.sl_expressions.specs.Views.{Gives, around_of, local_of}
-use Rattle.sl_expressions.proofs.Chains.{grown_chain}
+use Rattle.sl_expressions.specs.Views.{Gives, around_of, chain_of, local_of}
+use Rattle.sl_expressions.proofs.Chains.{in_steps, link_fault}
 use Rattle.sl_expressions.proofs.Choices.{choice_is, three_is}
 use Rattle.sl_expressions.proofs.Nodes.{call_is, chain_is, chain_split, chain_end, listed_all, small_arg, small_link}
 use Rattle.sl_expressions.proofs.exprs.+exprs.Goals as goal
@@ -18,8 +18,8 @@ exprs-expr-requires t c =
     let small = small_arg c.args.es.now c.loop-e.e-index c.e-item.result (omega arith) c.e-item.is in
     (omega (arith, c.decreases, small), tt)
 
-pub typed_links-expr-requires : goal.typed_links-expr-requires
-typed_links-expr-requires t c =
+pub typed_links-expr-operand-requires : goal.typed_links-expr-operand-requires
+typed_links-expr-operand-requires t c =
     let small = small_link c.args.links.now c.loop-link.link-index c.link-item.result (omega arith) c.link-item.is in
     (omega (arith, c.decreases, small), tt)
 
@@ -79,7 +79,7 @@ expr-returns-in-Triple t c =
     let parts = three_is (typed_expr g false ls) _ _ _ _ _ _ c.deref-in-Triple.ensures c.deref-in-Triple-2.ensures c.deref-in-Triple-3.ensures in
     subst (λ r. Gives typed_of c.tripled.result r)
     (sym (ap (λ e. typed_expr g c.args.behind ls (expr_of e)) c.in-Triple.is ∙ ap (tripled g.at c.in-Triple.kind c.in-Triple.space c.in-Triple.line) parts))
-    (c.tripled.ensures _ c.components-parts-in-Triple.ensures)
+    (c.tripled.ensures _ (c.three-in-Triple.ensures _ _ _ c.expr-x.ensures c.expr-y.ensures c.expr-z.ensures))
 
 pub expr-returns-in-Typed : goal.expr-returns-in-Typed
 expr-returns-in-Typed t c =
@@ -109,7 +109,7 @@ expr-returns-in-Choice t c =
     let parts = choice_is c.in-Choice.line (typed_expr g false ls) _ _ _ _ _ _ c.deref-in-Choice.ensures c.deref-in-Choice-2.ensures c.deref-in-Choice-3.ensures in
     subst (λ r. Gives typed_of c.chosen.result r)
     (sym (ap (λ e. typed_expr g c.args.behind ls (expr_of e)) c.in-Choice.is ∙ parts))
-    (c.chosen.ensures _ c.components-parts.ensures)
+    (c.chosen.ensures _ (c.three.ensures _ _ _ c.expr-test.ensures c.expr-first.ensures c.expr-second.ensures))
 
 pub expr-returns-in-Call : goal.expr-returns-in-Call
 expr-returns-in-Call t c =
@@ -125,27 +125,20 @@ expr-returns-in-Call t c =
     ∙ ap (λ r. call_of g c.args.behind c.in-Call.name c.in-Call.line (map expr_of c.as_slice-in-Call-2.result.now) r) (sym same)))
     (c.call_of.ensures parts c.exprs-parts.ensures)
 
-pub typed_links-returns-in_err-operand : goal.typed_links-returns-in_err-operand
-typed_links-returns-in_err-operand t c =
-    let g = around_of c.args.g.now in
-    let ls = map local_of c.args.scope.now in
-    let v = T.chained (typed_of c.args.first.now) (map tlink_of c.loop-link.typed.items) in
-    let before = typed_links g ls v (U.links (map link_of (drop c.loop-link.link-index c.args.links.now))) in
-    let whole = sym {a = before} c.loop-link.invariant.same ∙ ap (typed_links g ls v) (chain_split c.args.links.now c.loop-link.link-index c.link-item.result (omega arith) c.link-item.is) in
-    search rules
-
 pub typed_links-returns-in_err-next : goal.typed_links-returns-in_err-next
 typed_links-returns-in_err-next t c =
     let g = around_of c.args.g.now in
     let ls = map local_of c.args.scope.now in
     let x = c.link-item.result in
-    let v = T.chained (typed_of c.args.first.now) (map tlink_of c.loop-link.typed.items) in
+    let e = typed_of c.args.first.now in
+    let v = T.chained e (map tlink_of c.loop-link.typed.items) in
     let rest = U.links (map link_of (drop (c.loop-link.link-index + 1) c.args.links.now)) in
+    let found = typed_expr g false ls (expr_of x.operand) in
     let split = ap (typed_links g ls v) (chain_split c.args.links.now c.loop-link.link-index x (omega arith) c.link-item.is) in
-    let typed = ap (λ r. r >>= λ s. applied (operation_of x.operator) x.line (v ∷ s ∷ []) >>= λ r. typed_links g ls r rest) c.in_ok-operand.ensures in
-    let found = c.in_err-next.ensures v c.loop-link.invariant.kind in
-    let before = typed_links g ls v (U.links (map link_of (drop c.loop-link.link-index c.args.links.now))) in
-    let whole = sym {a = before} c.loop-link.invariant.same ∙ split ∙ typed in
+    let operation = ap (λ o. found >>= λ s. applied o x.line (v ∷ s ∷ []) >>= λ r. typed_links g ls r rest) (sym c.operation_of.ensures) in
+    let steps = in_steps found (λ s. applied c.operation_of.result x.line (v ∷ s ∷ [])) (λ r. typed_links g ls r rest) in
+    let whole = link_fault (chain_of e) e _ _ _ _ (λ r. typed_links g ls r rest) (sym c.loop-link.invariant.same ∙ split ∙ operation ∙ steps)
+    (c.in_err-next.ensures e found c.loop-link.invariant.kind c.expr-operand.ensures) in
     search rules
 
 pub typed_links-loop-link-preserved : goal.typed_links-loop-link-preserved
@@ -156,14 +149,14 @@ typed_links-loop-link-preserved t c =
     let e = typed_of c.args.first.now in
     let v = T.chained e (map tlink_of c.loop-link.typed.items) in
     let rest = U.links (map link_of (drop (c.loop-link.link-index + 1) c.args.links.now)) in
+    let found = typed_expr g false ls (expr_of x.operand) in
     let split = ap (typed_links g ls v) (chain_split c.args.links.now c.loop-link.link-index x (omega arith) c.link-item.is) in
-    let typed = ap (λ r. r >>= λ s. applied (operation_of x.operator) x.line (v ∷ s ∷ []) >>= λ r. typed_links g ls r rest) c.in_ok-operand.ensures in
-    let joined = ap (λ r. r >>= λ r. typed_links g ls r rest) (c.in_ok-next.ensures v c.loop-link.invariant.kind) in
-    let operation = ap (λ o. applied o x.line (v ∷ typed_of c.in_ok-operand.operand ∷ []) >>= λ r. typed_links g ls r rest) c.operation_of.ensures in
-    let grown = grown_chain e c.loop-link.typed.items _ c.in_ok-next.next c.in_ok-push.ensures.items in
+    let operation = ap (λ o. found >>= λ s. applied o x.line (v ∷ s ∷ []) >>= λ r. typed_links g ls r rest) (sym c.operation_of.ensures) in
+    let steps = in_steps found (λ s. applied c.operation_of.result x.line (v ∷ s ∷ [])) (λ r. typed_links g ls r rest) in
+    let grown = c.in_ok-next.ensures e found c.loop-link.invariant.kind c.expr-operand.ensures in
     record {
-      kind = ap T.kind_of grown;
-      same = ap (λ r. typed_links g ls r rest) grown ∙ sym joined ∙ operation ∙ sym typed ∙ sym split ∙ c.loop-link.invariant.same;
+      kind = grown.1;
+      same = sym (ap (λ r. r >>= λ r. typed_links g ls r rest) grown.0) ∙ sym steps ∙ sym operation ∙ sym split ∙ c.loop-link.invariant.same;
     }
 
 pub typed_links-returns : goal.typed_links-returns

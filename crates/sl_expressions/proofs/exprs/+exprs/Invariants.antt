@@ -18,9 +18,6 @@ decreases-exprs l = size_args (U.exprs (map expr_of l.es.now))
 abbrev pub decreases-typed_links : goal.decreases-typed_links
 decreases-typed_links l = size_links (U.links (map link_of l.links.now))
 
-abbrev pub decreases-components : goal.decreases-components
-decreases-components l = 1 + (size (expr_of l.x.now) + (size (expr_of l.y.now) + size (expr_of l.z.now)))
-
 abbrev pub invariant-exprs-loop-e : goal.invariant-exprs-loop-e
 invariant-exprs-loop-e l =
     args_behind (map typed_of l.before.items) (typed_args (around_of l.g) (map local_of l.scope) (U.exprs (map expr_of (drop l.e-index l.es))))
