@@ -9,7 +9,7 @@ use Rattle.sl_ast.specs.Typed.{Tree}
 use Rattle.sl_ast.specs.Settled.{IsSettled}
 use Rattle.sl_expression_grammar.specs.declared.fault.SlCode.{SlCode}
 use Rattle.sl_parser.specs.Files.{parsed}
-use Rattle.sl_typing.specs.Found.{Found}
+use Rattle.sl_expressions.specs.Found.{Found}
 use Rattle.sl_types.specs.Checked.{checked}
 use Rattle.sl_ast.specs.Registers.{rows_of}
 use Rattle.render.specs.declared.code.Code.TheVariants.{M9, M10}

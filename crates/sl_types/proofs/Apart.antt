@@ -6,8 +6,8 @@ use Rattle.std.specs.Str.{bytes_eq}
 use Rattle.fixed_math.specs.Names.{last_place}
 use Rattle.sl_ast.specs.Syntax as U
 use Rattle.sl_ast.specs.declared.kinds.SlType.{SlType}
-use Rattle.sl_typing.specs.Found.{Found}
-use Rattle.sl_typing.specs.Scope.{Local, one_further, level_of, Around}
+use Rattle.sl_expressions.specs.Found.{Found}
+use Rattle.sl_expressions.specs.Scope.{Local, one_further, level_of, Around}
 use Rattle.sl_typing.specs.Stmts.{typed_rows}
 use Rattle.sl_typing.specs.Functions.{known_from, Param, locals_of, by_default, default_in, typed_param, typed_params, typed_groups, Program, in_body, program}
 use Rattle.sl_types.specs.Distinct.{are_distinct}

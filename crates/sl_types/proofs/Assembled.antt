@@ -4,8 +4,8 @@ use Rattle.sl_ast.specs.Syntax as U
 use Rattle.sl_ast.specs.Typed as A
 use Rattle.sl_ast.specs.declared.kinds.SlKind.{SlKind}
 use Rattle.sl_ast.specs.declared.typed.Place.{Place}
+use Rattle.sl_expressions.specs.Typed.{stmts}
 use Rattle.sl_typing.specs.Functions.{Program}
-use Rattle.sl_typing.specs.Typed.{stmts}
 use Rattle.sl_types.specs.Inline.{at, count_params, declared_of, defaults_at, inline_stmts, tree_of}
 use Rattle.sl_types.proofs.Whole.{by_default, in_body}
 

@@ -6,14 +6,14 @@ use Rattle.sl_ast.specs.Typed as A
 use Rattle.sl_ast.specs.declared.kinds.NodeType.{NodeType}
 use Rattle.sl_ast.specs.declared.operations.Operation.{Operation}
 use Rattle.sl_ast.specs.declared.typed.Place.{Place}
-use Rattle.sl_typing.specs.Typed as T
-use Rattle.sl_typing.specs.TypedView.{typed_of, tlink_of}
+use Rattle.sl_expressions.specs.Typed as T
+use Rattle.sl_expressions.specs.TypedView.{typed_of, tlink_of}
 use Rattle.sl_types.specs.Inline.{Built, nothing, at, called_at, count, count_args, inline, inline_args}
 use Rattle.sl_types.specs.Folds.{fold}
 use Rattle.sl_types.specs.Weights.{weighing}
-use Rattle.sl_typing.specs.declared.typed.TypedExpr.{TypedExpr, Chain}
-use Rattle.sl_typing.specs.declared.typed.TypedLink.{TypedLink}
-use Rattle.sl_typing.proofs.Rows.{held_chain}
+use Rattle.sl_expressions.specs.declared.typed.TypedExpr.{TypedExpr, Chain}
+use Rattle.sl_expressions.specs.declared.typed.TypedLink.{TypedLink}
+use Rattle.sl_expressions.proofs.Rows.{held_chain}
 
 -- what the code holds of a chain
 pub chain_shown : (e : TypedExpr) (first : Box TypedExpr Global) (links : List TypedLink) (operation : Operation) (operand : Box TypedExpr Global) (kind : NodeType) (line : ℕ)

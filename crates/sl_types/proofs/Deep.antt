@@ -1,9 +1,9 @@
 -- How deep the tree with functions in place is, and what functions put in place.
 use Rattle.std.proofs.Common.{◌≡◌, ℕ, ◌+◌, max, Bool, List, [], ◌∷◌, ◌++◌, Ok, Err, get_or, refl, sym, ap, ap₂, ◌∙◌}
 use Rattle.sl_ast.specs.Typed as A
-use Rattle.sl_typing.specs.Found.{Found}
-use Rattle.sl_typing.specs.Scope.{Local, Callee, body_in}
-use Rattle.sl_typing.specs.Typed.{Expr, number, word, variable, apply, call, Exprs, none, more, Stmt, empty, leave, again, block, group, declare, start, assign, test, test_else, repeat, steps, lights, Stmts, done, first, Body}
+use Rattle.sl_expressions.specs.Found.{Found}
+use Rattle.sl_expressions.specs.Scope.{Local, Callee, body_in}
+use Rattle.sl_expressions.specs.Typed.{Expr, number, word, variable, apply, call, Exprs, none, more, Stmt, empty, leave, again, block, group, declare, start, assign, test, test_else, repeat, steps, lights, Stmts, done, first, Body}
 use Rattle.sl_types.specs.Folds.{fold, fold_args, fold_stmt, fold_stmts, fold_body}
 use Rattle.sl_types.specs.Extents.{Extent, absent, extents_from, counting}
 use Rattle.sl_types.specs.Inline.{Built, nothing, extents_of, count, count_args, count_stmt, count_stmts, inline, inline_args, inline_stmt, inline_stmts, built_in, built_from}

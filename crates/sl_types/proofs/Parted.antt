@@ -2,8 +2,8 @@
 use Rattle.std.proofs.Common.{◌≡◌, true, Ok, Err, ap, sym, ◌∙◌}
 use Rattle.std.proofs.lemmas.Bool.{cond_both}
 use Rattle.sl_ast.specs.Syntax as U
-use Rattle.sl_typing.specs.declared.fault.TypeCode.TheVariants.{M8}
-use Rattle.sl_typing.specs.Found.{Found, ◌>>=◌}
+use Rattle.sl_expressions.specs.declared.faults.TypeCode.TheVariants.{M8}
+use Rattle.sl_expressions.specs.Found.{Found, ◌>>=◌}
 use Rattle.sl_typing.specs.Functions.{Program, program}
 use Rattle.sl_types.specs.Inline.{tree_of}
 use Rattle.sl_types.specs.Checked.{is_within, limited, sized}

@@ -2,21 +2,21 @@
 use Rattle.std.proofs.Common.{◌≡◌, ◌≤◌, ◌<◌, ℕ, zero, suc, ◌+◌, Bool, List, [], ◌∷◌, ◌++◌, Ok, map, take, drop, get_or, length, refl, sym, ap, ap₂, ◌∙◌, arith, length-append}
 use Rattle.std.proofs.lemmas.List.{map-append, take-map, length-map, get_or-map, get_or_append_left, get_or-append-add}
 use Rattle.sl_ast.specs.Typed as A
-use Rattle.sl_typing.specs.Typed as T
-use Rattle.sl_typing.specs.Scope.{Callee, body_in}
+use Rattle.sl_expressions.specs.Typed as T
+use Rattle.sl_expressions.specs.Scope.{Callee, body_in}
 use Rattle.sl_ast.specs.TypedView.{tree_expr, tree_stmt}
 use Rattle.sl_ast.specs.declared.typed.Place.{Place}
 use Rattle.sl_ast.specs.declared.typed.TreeExpr.{TreeExpr}
 use Rattle.sl_ast.specs.declared.typed.TreeStmt.{TreeStmt}
 use Rattle.sl_types.specs.Inline.{Built, nothing, at, count, count_stmt, count_stmts, inline, inline_args, inline_stmt, inline_stmts, built_in, built_from}
-use Rattle.sl_typing.specs.TypedView.{typed_of, tstmt_of}
-use Rattle.sl_typing.specs.declared.typed.TypedExpr.{TypedExpr}
-use Rattle.sl_typing.specs.declared.typed.TypedStmt.{TypedStmt}
+use Rattle.sl_expressions.specs.TypedView.{typed_of, tstmt_of}
+use Rattle.sl_expressions.specs.declared.typed.TypedExpr.{TypedExpr}
+use Rattle.sl_expressions.specs.declared.typed.TypedStmt.{TypedStmt}
 use Rattle.sl_types.specs.InlineView.{functions}
-use Rattle.sl_typing.specs.Views.{callee_of, local_of}
+use Rattle.sl_expressions.specs.Views.{callee_of, local_of}
 use Rattle.sl_types.specs.Folds.{fold, fold_args, fold_stmt, fold_stmts, fold_body}
 use Rattle.sl_types.specs.Weights.{weight_known, weighing}
-use Rattle.sl_typing.specs.declared.places.Known.{Known}
+use Rattle.sl_expressions.specs.declared.places.Known.{Known}
 
 abbrev one : Bool → List Built → Callee → Built
 one d fs c = built_in fs c.formals (body_in d c)

@@ -6,7 +6,7 @@ use Rattle.sl_ast.specs.declared.kinds.SetOperator.{SetOperator}
 use Rattle.sl_ast.specs.declared.kinds.SlType.{SlType}
 use Rattle.sl_ast.specs.declared.typed.Place.{Place}
 use Rattle.sl_ast.specs.declared.typed.Variable.{Variable}
-use Rattle.sl_typing.specs.Typed as T
+use Rattle.sl_expressions.specs.Typed as T
 use Rattle.sl_types.specs.Inline.{Built, at, count, count_args, count_stmt, inline, inline_args, inline_stmt, inline_stmts}
 
 pub block_tree : (fs : List Built) (n m line : ℕ) (ss : T.Stmts) (v : A.Stmts) (place : Place) → place ≡ at line n → m ≡ n + 1 → v ≡ inline_stmts fs m ss

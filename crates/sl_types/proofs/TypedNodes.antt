@@ -4,12 +4,12 @@ use Rattle.std.specs.declared.alloc.Global.{Global}
 use Rattle.std.specs.declared.boxed.Box.{Box}
 use Rattle.sl_ast.specs.declared.kinds.NodeType.{NodeType}
 use Rattle.sl_ast.specs.declared.operations.Operation.{Operation}
-use Rattle.sl_typing.specs.Typed as T
-use Rattle.sl_typing.specs.TypedView.{typed_of, tstmt_of, row_tstmts}
-use Rattle.sl_typing.specs.declared.typed.TypedExpr.{TypedExpr, Apply, Call}
-use Rattle.sl_typing.specs.declared.typed.TypedStmt.{TypedStmt, Block, Group, For}
-use Rattle.sl_typing.specs.declared.typed.TypedStmt.TheBlock.{hidden-the_row-TypedStmt-0}
-use Rattle.sl_typing.proofs.Rows.{held_typed, held_tstmts}
+use Rattle.sl_expressions.specs.Typed as T
+use Rattle.sl_expressions.specs.TypedView.{typed_of, tstmt_of, row_tstmts}
+use Rattle.sl_expressions.specs.declared.typed.TypedExpr.{TypedExpr, Apply, Call}
+use Rattle.sl_expressions.specs.declared.typed.TypedStmt.{TypedStmt, Block, Group, For}
+use Rattle.sl_expressions.specs.declared.typed.TypedStmt.TheBlock.{hidden-the_row-TypedStmt-0}
+use Rattle.sl_expressions.proofs.Rows.{held_typed, held_tstmts}
 
 pub apply_shown : (e : TypedExpr) (operation : Operation) (args : List TypedExpr) (kind : NodeType) (line : ℕ)
     → e ≡ Apply operation args kind line → typed_of e ≡ T.apply operation (T.exprs (map typed_of args)) kind line

@@ -14,15 +14,15 @@ use Rattle.sl_ast.specs.declared.operations.Operation.TheVariants as operations
 use Rattle.sl_ast.specs.declared.operations.ValueOperation.TheVariants as ops
 use Rattle.sl_ast.specs.declared.kinds.SpaceName.{SpaceName}
 use Rattle.sl_ast.specs.declared.kinds.SpaceName.TheVariants.{Current, World, Object, Shader}
-use Rattle.sl_typing.specs.declared.fault.TypeCode.TheVariants.{T11}
-use Rattle.sl_typing.specs.declared.rules.Builtin.{Builtin}
-use Rattle.sl_typing.specs.declared.rules.Builtin.TheVariants.{Plain, LeftOut}
-use Rattle.sl_typing.specs.Found.{Found, ◌>>=◌}
-use Rattle.sl_typing.specs.Names.{entry_of}
-use Rattle.sl_typing.specs.Rules.{operation_of, prefix_operation, builtin_names}
-use Rattle.sl_typing.specs.Typed as T
-use Rattle.sl_typing.specs.Scope.{Local, level_of, Callee, callee_named, Around, formals_in, body_in}
-use Rattle.sl_typing.specs.Exprs.{named, operands_of, applied, misfits, space_at, fits, called, literal_of, literal_space, space_in, spaces_of, operation_in, by_count, is_noise, is_barred, allowed, is_amiss, operated, built, calls_itself, resolved, call_with, call_of, three, listed, typed_expr, typed_args, typed_links}
+use Rattle.sl_expressions.specs.declared.faults.TypeCode.TheVariants.{T11}
+use Rattle.sl_expressions.specs.declared.rules.Builtin.{Builtin}
+use Rattle.sl_expressions.specs.declared.rules.Builtin.TheVariants.{Plain, LeftOut}
+use Rattle.sl_expressions.specs.Found.{Found, ◌>>=◌}
+use Rattle.sl_expressions.specs.Names.{entry_of}
+use Rattle.sl_expressions.specs.Rules.{operation_of, prefix_operation, builtin_names}
+use Rattle.sl_expressions.specs.Typed as T
+use Rattle.sl_expressions.specs.Scope.{Local, level_of, Callee, callee_named, Around, formals_in, body_in}
+use Rattle.sl_expressions.specs.Exprs.{named, operands_of, applied, misfits, space_at, fits, called, literal_of, literal_space, space_in, spaces_of, operation_in, by_count, is_noise, is_barred, allowed, is_amiss, operated, built, calls_itself, resolved, call_with, call_of, three, listed, typed_expr, typed_args, typed_links}
 use Rattle.sl_types.specs.Inline.{Built, nothing, count, count_args, inline, inline_args, tree_formal}
 use Rattle.sl_types.proofs.WellScope.{Good, GoodSome, good_bind, good_as, good_any, types_of, level_typed}
 use Rattle.sl_types.proofs.WellExprs.{Works, Ready, WorksAt, works_at, Fine, Literal, AllFine, AllLiteral, both, kind_kept, args_fine, applied_fine, stands_operator, stands_prefix, named_fine, converted_fine, tripled_fine}

@@ -24,17 +24,17 @@ use Rattle.sl_ast.specs.declared.kinds.SpaceName.TheVariants.{Current, Object, S
 use Rattle.sl_ast.specs.declared.operands.Operands.TheVariants.{One, Two, Three}
 use Rattle.sl_ast.specs.declared.syntax.Space.{Space}
 use Rattle.sl_ast.specs.declared.typed.Variable.TheVariants as variables
-use Rattle.sl_typing.specs.declared.fault.TypeCode.TheVariants.{T1, T6, T11}
-use Rattle.sl_typing.specs.Found.{Found}
-use Rattle.sl_typing.specs.Names.{entry_of}
-use Rattle.sl_typing.specs.Predefined.{predefined_names, is_read, is_own}
-use Rattle.sl_typing.specs.Rules.{operation_of, prefix_operation}
-use Rattle.sl_typing.specs.Typed as T
-use Rattle.sl_typing.specs.Scope.{Local, Callee, callee_named, body_in}
+use Rattle.sl_expressions.specs.declared.faults.TypeCode.TheVariants.{T1, T6, T11}
+use Rattle.sl_expressions.specs.Found.{Found}
+use Rattle.sl_expressions.specs.Names.{entry_of}
+use Rattle.sl_expressions.specs.Predefined.{predefined_names, is_read, is_own}
+use Rattle.sl_expressions.specs.Rules.{operation_of, prefix_operation}
+use Rattle.sl_expressions.specs.Typed as T
+use Rattle.sl_expressions.specs.Scope.{Local, Callee, callee_named, body_in}
+use Rattle.sl_expressions.specs.Exprs.{named, predefined_at, operands_of, ruled, applied, misfits, space_at, space_of, refuses_space, converted, tripled, literal_of}
 use Rattle.sl_typing.specs.Functions.{spot_within}
-use Rattle.sl_typing.specs.Exprs.{named, predefined_at, operands_of, ruled, applied, misfits, space_at, space_of, refuses_space, converted, tripled, literal_of}
 use Rattle.sl_types.specs.Inline.{Built, nothing, count, inline, inline_args, tree_formal}
-use Rattle.sl_typing.proofs.Named.{StandsAt, stands_at}
+use Rattle.sl_expressions.proofs.Named.{StandsAt, stands_at}
 use Rattle.sl_types.proofs.WellScope.{Good, GoodSome, good_bind, good_any, types_of, TypedAt}
 
 -- what a function does is well typed where it is called

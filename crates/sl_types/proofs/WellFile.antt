@@ -9,11 +9,11 @@ use Rattle.sl_ast.specs.declared.kinds.SlType.{SlType}
 use Rattle.sl_ast.specs.declared.kinds.SlType.TheVariants as types
 use Rattle.sl_ast.specs.declared.kinds.NodeType.{NodeType}
 use Rattle.sl_ast.specs.declared.kinds.NodeType.TheVariants as nodes
-use Rattle.sl_typing.specs.Found.{Found}
-use Rattle.sl_typing.specs.Typed as T
-use Rattle.sl_typing.specs.Typed.{kind_of}
-use Rattle.sl_typing.specs.Scope.{Local, level_of, Callee, callee_named, Around, body_in}
-use Rattle.sl_typing.specs.Exprs.{typed_expr}
+use Rattle.sl_expressions.specs.Found.{Found}
+use Rattle.sl_expressions.specs.Typed as T
+use Rattle.sl_expressions.specs.Typed.{kind_of}
+use Rattle.sl_expressions.specs.Scope.{Local, level_of, Callee, callee_named, Around, body_in}
+use Rattle.sl_expressions.specs.Exprs.{typed_expr}
 use Rattle.sl_typing.specs.Stmts.{value_in, typed_rows}
 use Rattle.sl_typing.specs.Functions.{gives_any, given_last, but_last, returned, ended, typed_body, formals_of, scope_from, body_of, spot_within, within, callee_in, known_from, Param, locals_of, by_default, default_in, typed_param, typed_params, typed_groups, Program, in_body, program}
 use Rattle.sl_types.specs.Inline.{Built, count, count_params, inline, inline_stmts, tree_formal, built_in, built_from, declared_of, defaults_at, tree_of}

@@ -5,9 +5,9 @@ use Rattle.sl_ast.specs.declared.kinds.SlType.{SlType}
 use Rattle.sl_ast.specs.declared.kinds.SlType.TheVariants as values
 use Rattle.sl_ast.specs.Rules.{node_type}
 use Rattle.sl_ast.specs.WellTyped.{level_type}
-use Rattle.sl_typing.specs.Found.{Found, ◌>>=◌}
-use Rattle.sl_typing.specs.Scope.{Local, level_of}
-use Rattle.sl_typing.proofs.Named.{StandsAt, stands_at}
+use Rattle.sl_expressions.specs.Found.{Found, ◌>>=◌}
+use Rattle.sl_expressions.specs.Scope.{Local, level_of}
+use Rattle.sl_expressions.proofs.Named.{StandsAt, stands_at}
 
 abbrev pub Good : {A : Type 0} → Found A → (A → Type 0) → Type 0
 Good (Ok x) P = P x

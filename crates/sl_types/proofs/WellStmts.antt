@@ -11,14 +11,14 @@ use Rattle.sl_ast.specs.declared.kinds.LightStmt.{LightStmt}
 use Rattle.sl_ast.specs.declared.kinds.LightStmt.TheVariants.{Solar}
 use Rattle.sl_ast.specs.declared.kinds.Predefined.{Predefined}
 use Rattle.sl_ast.specs.declared.typed.Variable.{Variable}
-use Rattle.sl_typing.specs.declared.fault.TypeCode.TheVariants.{T1, T2, T6, T11}
-use Rattle.sl_typing.specs.Found.{Found, refuses}
-use Rattle.sl_typing.specs.Names.{entry_of}
-use Rattle.sl_typing.specs.Predefined.{predefined_names, is_own, is_written}
-use Rattle.sl_typing.specs.Typed as T
-use Rattle.sl_typing.specs.Typed.{kind_of}
-use Rattle.sl_typing.specs.Scope.{Local, level_of, Around}
-use Rattle.sl_typing.specs.Exprs.{operands_of, typed_expr, typed_args, listed}
+use Rattle.sl_expressions.specs.declared.faults.TypeCode.TheVariants.{T1, T2, T6, T11}
+use Rattle.sl_expressions.specs.Found.{Found, refuses}
+use Rattle.sl_expressions.specs.Names.{entry_of}
+use Rattle.sl_expressions.specs.Predefined.{predefined_names, is_own, is_written}
+use Rattle.sl_expressions.specs.Typed as T
+use Rattle.sl_expressions.specs.Typed.{kind_of}
+use Rattle.sl_expressions.specs.Scope.{Local, level_of, Around}
+use Rattle.sl_expressions.specs.Exprs.{operands_of, typed_expr, typed_args, listed}
 use Rattle.sl_typing.specs.Stmts.{Rows, behind, followed, is_since, is_uniform, value_in, declared, typed_name, typed_names, predefined_set, variable_set, sets, typed_set, optional_set, no_test, condition, one_of, inner, branch, in_loop, in_lights, light_word, light_args, light_misfit, lights_of, typed_stmt, typed_rows}
 use Rattle.sl_types.specs.Inline.{Built, count, count_args, count_stmt, count_stmts, inline_stmt, inline_stmts}
 use Rattle.sl_types.proofs.WellScope.{Good, GoodSome, good_bind, good_as, types_of, TypedAt, level_typed}

@@ -3,8 +3,8 @@ use Rattle.std.proofs.Common.{◌≡◌, ◌≤◌, ℕ, Bool, zero, suc, ◌+�
 use Rattle.std.proofs.lemmas.Bool.{ltb-true}
 use Rattle.sl_ast.specs.Syntax as U
 use Rattle.sl_ast.specs.Typed as A
+use Rattle.sl_expressions.specs.Typed.{stmts}
 use Rattle.sl_typing.specs.Functions.{Param, Program}
-use Rattle.sl_typing.specs.Typed.{stmts}
 use Rattle.sl_types.specs.Folds.{fold_stmts}
 use Rattle.sl_types.specs.Extents.{counting, extent_params, extent_program, fits}
 use Rattle.sl_types.specs.Inline.{Built, extents_of, count, count_params, count_stmts, inline, inline_stmts, built_from, defaults_at, tree_of}

@@ -6,9 +6,9 @@ use Rattle.sl_ast.specs.Typed.{Tree, numbers_tree, depth_tree}
 use Rattle.sl_ast.specs.Settled.{unsettled}
 use Rattle.sl_ast.specs.declared.kinds.ControlCode.{ControlCode}
 use Rattle.sl_ast.specs.declared.kinds.ControlCode.TheVariants as controls
-use Rattle.sl_typing.specs.declared.fault.TypeCode.{TypeCode}
-use Rattle.sl_typing.specs.declared.fault.TypeCode.TheVariants as codes
-use Rattle.sl_typing.specs.Found.{Found, ◌>>=◌}
+use Rattle.sl_expressions.specs.declared.faults.TypeCode.{TypeCode}
+use Rattle.sl_expressions.specs.declared.faults.TypeCode.TheVariants as codes
+use Rattle.sl_expressions.specs.Found.{Found, ◌>>=◌}
 use Rattle.sl_typing.specs.Functions.{Program, program}
 use Rattle.sl_types.specs.Inline.{tree_of}
 

@@ -1,7 +1,7 @@
 -- How many nodes a tree with functions in place has, and how many stand one in another, without that tree.
 use Rattle.std.specs.Prelude.{ℕ, Bool, true, false, ◌+◌, ◌&&◌, nat_lt, max, min, List, [], ◌∷◌, ◌++◌}
-use Rattle.sl_typing.specs.Typed.{stmts}
-use Rattle.sl_typing.specs.Scope.{Callee, body_in}
+use Rattle.sl_expressions.specs.Typed.{stmts}
+use Rattle.sl_expressions.specs.Scope.{Callee, body_in}
 use Rattle.sl_typing.specs.Functions.{Param, Program}
 use Rattle.sl_types.specs.Folds.{Fold, fold, fold_stmts, fold_body}
 

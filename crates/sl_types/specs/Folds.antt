@@ -1,8 +1,8 @@
 -- What is told of a typed tree from its parts up: of no parts, of a node over its parts, of parts beside each other. A call has what is told
 -- of its function beside its arguments, as if that stood in its place.
 use Rattle.std.specs.Prelude.{List, get_or, Ok, Err}
-use Rattle.sl_typing.specs.Found.{Found}
-use Rattle.sl_typing.specs.Typed.{Expr, number, word, variable, apply, call, Exprs, none, more, Stmt, empty, leave, again, block, group, declare, start, assign, test, test_else, repeat, steps, lights, Stmts, done, first, Body}
+use Rattle.sl_expressions.specs.Found.{Found}
+use Rattle.sl_expressions.specs.Typed.{Expr, number, word, variable, apply, call, Exprs, none, more, Stmt, empty, leave, again, block, group, declare, start, assign, test, test_else, repeat, steps, lights, Stmts, done, first, Body}
 
 pub record Fold (A : Type 0) : Type 0 where
   -- no parts

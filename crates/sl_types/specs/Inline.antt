@@ -6,9 +6,9 @@ use Rattle.sl_ast.specs.Typed as A
 use Rattle.sl_ast.specs.declared.kinds.NodeType.{NodeType}
 use Rattle.sl_ast.specs.declared.typed.Place.{Place}
 use Rattle.sl_ast.specs.declared.typed.TreeFormal.{TreeFormal}
-use Rattle.sl_typing.specs.Found.{Found}
-use Rattle.sl_typing.specs.Typed.{Expr, number, word, variable, apply, call, Exprs, none, more, Stmt, empty, leave, again, block, group, declare, start, assign, test, test_else, repeat, steps, lights, Stmts, done, first, Body, stmts}
-use Rattle.sl_typing.specs.Scope.{Local, Callee, body_in}
+use Rattle.sl_expressions.specs.Found.{Found}
+use Rattle.sl_expressions.specs.Typed.{Expr, number, word, variable, apply, call, Exprs, none, more, Stmt, empty, leave, again, block, group, declare, start, assign, test, test_else, repeat, steps, lights, Stmts, done, first, Body, stmts}
+use Rattle.sl_expressions.specs.Scope.{Local, Callee, body_in}
 use Rattle.sl_typing.specs.Functions.{Param, Program}
 use Rattle.sl_types.specs.Folds.{fold, fold_args, fold_stmt, fold_stmts, fold_body}
 use Rattle.sl_types.specs.Extents.{Extent, absent, extent_params, counting}

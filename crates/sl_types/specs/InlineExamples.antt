@@ -6,8 +6,8 @@ use Rattle.sl_ast.specs.declared.kinds.NodeType.TheVariants.{Float, Test}
 use Rattle.sl_ast.specs.declared.operations.Operation.TheVariants.{Value}
 use Rattle.sl_ast.specs.declared.operations.ValueOperation.TheVariants.{Less}
 use Rattle.sl_ast.specs.declared.typed.Variable.TheVariants.{Level}
-use Rattle.sl_typing.specs.Typed as T
-use Rattle.sl_typing.specs.Scope.{Local, Callee}
+use Rattle.sl_expressions.specs.Typed as T
+use Rattle.sl_expressions.specs.Scope.{Local, Callee}
 use Rattle.sl_typing.specs.Stmts.{one_of}
 use Rattle.sl_types.specs.Folds.{fold, fold_stmt}
 use Rattle.sl_types.specs.Extents.{extents_from, counting}

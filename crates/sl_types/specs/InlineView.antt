@@ -1,10 +1,10 @@
 -- The functions of the code as calls put them in place.
 use Rattle.std.specs.Prelude.{◌≡◌, ◌≤◌, ◌+◌, ℕ, Bool, List, [], map, get_or, Option, Some, None, Ok}
 use Rattle.sl_types.specs.Inline.{Built, nothing, built_in, built_from}
-use Rattle.sl_typing.specs.Views.{callee_of, local_of, stmts_of}
+use Rattle.sl_expressions.specs.Views.{callee_of, local_of, stmts_of}
 use Rattle.sl_types.specs.Folds.{fold_body}
 use Rattle.sl_types.specs.Weights.{weight_known, weighing}
-use Rattle.sl_typing.specs.declared.places.Known.{Known}
+use Rattle.sl_expressions.specs.declared.places.Known.{Known}
 use Rattle.sl_types.specs.declared.inline.Inside.{Inside}
 
 abbrev pub functions : Bool → List Known → List Built

@@ -1,6 +1,6 @@
 -- How great a typed tree is, and what functions do, by which putting functions in place ends: a call's function has only those before it.
 use Rattle.std.specs.Prelude.{ℕ, ◌+◌, Bool, List, [], ◌∷◌}
-use Rattle.sl_typing.specs.Scope.{Callee, body_in}
+use Rattle.sl_expressions.specs.Scope.{Callee, body_in}
 use Rattle.sl_types.specs.Folds.{Fold, fold_body}
 
 abbrev pub weighing : Fold ℕ

@@ -1,6 +1,6 @@
 // The typed tree of a file, or its first fault.
 ghost use Rattle.std.specs.Prelude.{◌≡◌, IfOk, Ok, Err, true, map, option_map, if◌then◌else◌};
-ghost use Rattle.sl_typing.specs.declared.fault.TypeCode.TheVariants.{M8};
+ghost use Rattle.sl_expressions.specs.declared.faults.TypeCode.TheVariants.{M8};
 ghost use Rattle.sl_ast.specs.Settled.{IsSettled, unsettled};
 ghost use Rattle.sl_ast.specs.ShaderView.{shader_of};
 ghost use Rattle.sl_ast.specs.TreeView.{tree_of};
@@ -8,7 +8,8 @@ ghost use Rattle.sl_ast.specs.WellTyped.{well_typed};
 ghost use Rattle.sl_types.specs.Checked as spec;
 ghost use Rattle.sl_types.specs.Distinct.{are_distinct};
 ghost use Rattle.sl_types.specs.Inline.{tree_of as inlined};
-ghost use Rattle.sl_typing.specs.Views.{Gives, program_of};
+ghost use Rattle.sl_expressions.specs.Views.{Gives};
+ghost use Rattle.sl_typing.specs.Views.{program_of};
 ghost use Rattle.uniform_varying.specs.Gives.{fault_of};
 
 use crate::inline::{declared, defaults, place, stmts};

@@ -4,10 +4,11 @@ ghost use Rattle.sl_ast.specs.Typed as A;
 ghost use Rattle.sl_ast.specs.TypedView.{tree_expr, tree_stmt, default_of, local_of as param_type};
 ghost use Rattle.sl_types.specs.Inline as spec;
 ghost use Rattle.sl_types.specs.InlineView.{functions, Lighter, Puts};
-ghost use Rattle.sl_typing.specs.Scope.{body_in};
-ghost use Rattle.sl_typing.specs.Typed as T;
-ghost use Rattle.sl_typing.specs.TypedView.{typed_of, tlink_of, tstmt_of};
-ghost use Rattle.sl_typing.specs.Views.{body_of, callee_of, local_of, param_of};
+ghost use Rattle.sl_expressions.specs.Scope.{body_in};
+ghost use Rattle.sl_expressions.specs.Typed as T;
+ghost use Rattle.sl_expressions.specs.TypedView.{typed_of, tlink_of, tstmt_of};
+ghost use Rattle.sl_expressions.specs.Views.{body_of, callee_of, local_of};
+ghost use Rattle.sl_typing.specs.Views.{param_of};
 
 use fixed_math::{List, NoMemory, Num};
 use sl_ast::{

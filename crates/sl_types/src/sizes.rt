@@ -5,12 +5,13 @@ ghost use Rattle.sl_types.specs.Checked.{is_within};
 ghost use Rattle.sl_types.specs.Inline.{tree_of};
 ghost use Rattle.sl_types.specs.Extents as E;
 ghost use Rattle.sl_types.specs.Folds.{fold, fold_args, fold_stmt, fold_stmts, fold_body};
+ghost use Rattle.sl_expressions.specs.Scope.{body_in};
+ghost use Rattle.sl_expressions.specs.Typed as T;
+ghost use Rattle.sl_expressions.specs.TypedView.{typed_of, tlink_of, tstmt_of};
 ghost use Rattle.sl_typing.specs.Functions as F;
-ghost use Rattle.sl_typing.specs.Scope.{body_in};
-ghost use Rattle.sl_typing.specs.Typed as T;
-ghost use Rattle.sl_typing.specs.TypedView.{typed_of, tlink_of, tstmt_of};
 ghost use Rattle.sl_types.specs.ExtentView.{extent_of};
-ghost use Rattle.sl_typing.specs.Views.{body_of, callee_of, param_of, program_of};
+ghost use Rattle.sl_expressions.specs.Views.{body_of, callee_of};
+ghost use Rattle.sl_typing.specs.Views.{param_of, program_of};
 
 use sl_typing::{Body, Faulty, Known, Param, Program, TypedExpr, TypedLink, TypedStmt};
 use std::alloc::{AllocError, Global};

@@ -1,9 +1,9 @@
 -- A branch of one statement, and of another number of them.
 use Rattle.std.proofs.Common.{◌≡◌, ◌≢◌, List, [], ◌∷◌, ◌++◌, length, map, refl, sym, ap, arith, length-append}
-use Rattle.sl_typing.specs.Typed as T
-use Rattle.sl_typing.specs.TypedView.{tstmt_of}
+use Rattle.sl_expressions.specs.Typed as T
+use Rattle.sl_expressions.specs.TypedView.{tstmt_of}
+use Rattle.sl_expressions.specs.declared.typed.TypedStmt.{TypedStmt}
 use Rattle.sl_typing.specs.Stmts.{one_of}
-use Rattle.sl_typing.specs.declared.typed.TypedStmt.{TypedStmt}
 
 pub one_is : (xs front : List TypedStmt) (x : TypedStmt) → xs ≡ front ++ x ∷ [] → length xs ≡ 1 → tstmt_of x ≡ one_of (map tstmt_of xs)
 one_is xs [] x is one = sym (ap (λ ys. one_of (map tstmt_of ys)) is)

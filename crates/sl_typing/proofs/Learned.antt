@@ -7,11 +7,11 @@ use Rattle.sl_ast.specs.declared.kinds.SlType.{SlType}
 use Rattle.sl_ast.specs.declared.syntax.Declared.{Declared}
 use Rattle.sl_ast.specs.declared.syntax.Function.{Function}
 use Rattle.sl_ast.specs.declared.syntax.Group.{Group}
-use Rattle.sl_typing.specs.Found.{Found, ◌>>=◌}
-use Rattle.sl_typing.specs.Scope.{Around, Callee, Local, callee_named}
+use Rattle.sl_expressions.specs.Found.{Found, ◌>>=◌}
+use Rattle.sl_expressions.specs.Scope.{Around, Callee, Local, callee_named}
+use Rattle.sl_expressions.specs.declared.faults.TypeCode.TheVariants.{T10}
 use Rattle.sl_typing.specs.Functions.{Param, callee_in, formals_named, formals_of, known_from, learned, typed_param, typed_params}
 use Rattle.sl_typing.specs.Stmts.{is_uniform}
-use Rattle.sl_typing.specs.declared.fault.TypeCode.TheVariants.{T10}
 
 one_more : (b : Bool) (line : ℕ) (ks : List Callee) (next : List Callee → Found (List Callee))
     → cond b (Err (T10, line)) (next ks) ≡ cond b (Err (T10, line)) (Ok ks) >>= next

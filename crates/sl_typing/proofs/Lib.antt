@@ -1,12 +1,8 @@
-pub mod Rows
-pub mod Operands
 pub mod Nodes
 pub mod Behind
 pub mod Scopes
-pub mod Named
 pub mod Branches
-pub mod Chains
-pub mod Choices
 pub mod Ends
 pub mod Learned
 pub mod StmtRows
+pub mod LightArgs

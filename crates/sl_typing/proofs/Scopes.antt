@@ -1,7 +1,6 @@
 -- Scopes that grow.
-use Rattle.std.proofs.Common.{◌≡◌, ℕ, List, [], ◌∷◌, ◌++◌, map, take, refl, sym, ap, ◌∙◌, ap₂, subst}
-use Rattle.std.proofs.lemmas.List.{take-map}
-use Rattle.sl_typing.specs.declared.places.Local.{Local}
+use Rattle.std.proofs.Common.{◌≡◌, ℕ, List, [], ◌∷◌, ◌++◌, refl, sym, ap, ◌∙◌, ap₂, subst}
+use Rattle.sl_expressions.specs.declared.places.Local.{Local}
 use Rattle.sl_typing.specs.Views.{Extends}
 
 abbrev head_of : Local → List Local → Local
@@ -40,10 +39,3 @@ extends_trans (x ∷ a) (y ∷ b) (z ∷ c) p q =
     let e : z ≡ y = cons_head q in
     let f : y ≡ x = cons_head p in
     ap₂ (λ h r. h ∷ r) (e ∙ f) (extends_trans a b c (cons_tail p) (cons_tail q))
-
--- the names of the first so many
-abbrev name_of : Local → List ℕ
-name_of l = l.name.now
-
-pub names_left : (count : ℕ) (ls left : List Local) (ns short : List (List ℕ)) → short ≡ take count ns → ns ≡ map name_of ls → left ≡ take count ls → short ≡ map name_of left
-names_left count ls left ns short cut names first = cut ∙ ap (take count) names ∙ take-map name_of count ls ∙ ap (map name_of) (sym first)

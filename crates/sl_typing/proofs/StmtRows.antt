@@ -2,17 +2,18 @@
 use Rattle.std.proofs.Common.{◌≡◌, ℕ, Bool, true, false, cond, List, [], ◌∷◌, length, Result, Ok, Err, refl, sym, ap, ap₂, subst}
 use Rattle.sl_ast.specs.SyntaxView.{stmt_of}
 use Rattle.sl_ast.specs.declared.syntax.Stmt.{Stmt}
-use Rattle.sl_typing.specs.Found.{Found, ◌>>=◌}
-use Rattle.sl_typing.specs.Scope as S
+use Rattle.sl_expressions.specs.Found.{Found, ◌>>=◌}
+use Rattle.sl_expressions.specs.Scope as S
+use Rattle.sl_expressions.specs.Typed as T
+use Rattle.sl_expressions.specs.Views.{Gives}
+use Rattle.sl_expressions.specs.declared.faults.TypeCode.TheVariants.{T2}
+use Rattle.sl_expressions.specs.declared.faults.TypeFault.{TypeFault}
+use Rattle.sl_expressions.specs.declared.faults.TypeFault.TheVariants.{At, NoMemory}
+use Rattle.sl_expressions.specs.declared.places.Local.{Local}
+use Rattle.sl_expressions.specs.declared.typed.TypedStmt.{TypedStmt}
+use Rattle.sl_expressions.specs.TypedView.{tstmt_of}
 use Rattle.sl_typing.specs.Stmts.{Rows, behind, branch, no_test, stepped, for_head, for_of, typed_stmt}
-use Rattle.sl_typing.specs.Typed as T
-use Rattle.sl_typing.specs.Views.{Gives, GivesOne, GivesRows}
-use Rattle.sl_typing.specs.declared.fault.TypeCode.TheVariants.{T2}
-use Rattle.sl_typing.specs.declared.fault.TypeFault.{TypeFault}
-use Rattle.sl_typing.specs.declared.fault.TypeFault.TheVariants.{At, NoMemory}
-use Rattle.sl_typing.specs.declared.places.Local.{Local}
-use Rattle.sl_typing.specs.declared.typed.TypedStmt.{TypedStmt}
-use Rattle.sl_typing.specs.TypedView.{tstmt_of}
+use Rattle.sl_typing.specs.Views.{GivesOne, GivesRows}
 
 -- what is added leaves the scope as it was
 pub added : {A : Type 0} (r : Result A TypeFault) (ts : List TypedStmt) (old new : List Local) (before : List T.Stmt) (x y : Rows) → new ≡ old → y ≡ x

@@ -5,11 +5,11 @@ use Rattle.sl_ast.specs.Syntax as U
 use Rattle.sl_ast.specs.WellTyped as W
 use Rattle.sl_ast.specs.declared.kinds.SlKind.{SlKind}
 use Rattle.sl_ast.specs.declared.kinds.SlType.{SlType}
-use Rattle.sl_typing.specs.declared.fault.TypeCode.TheVariants.{T2, T8, T10}
-use Rattle.sl_typing.specs.Found.{Found, ◌>>=◌}
-use Rattle.sl_typing.specs.Typed as T
-use Rattle.sl_typing.specs.Scope.{Local, level_of, Callee, callee_named, Around}
-use Rattle.sl_typing.specs.Exprs.{typed_expr}
+use Rattle.sl_expressions.specs.declared.faults.TypeCode.TheVariants.{T2, T8, T10}
+use Rattle.sl_expressions.specs.Found.{Found, ◌>>=◌}
+use Rattle.sl_expressions.specs.Typed as T
+use Rattle.sl_expressions.specs.Scope.{Local, level_of, Callee, callee_named, Around}
+use Rattle.sl_expressions.specs.Exprs.{typed_expr}
 use Rattle.sl_typing.specs.Stmts.{is_uniform, is_varying, value_in, typed_rows}
 
 -- whether a `return` stands anywhere

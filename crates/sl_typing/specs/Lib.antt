@@ -1,13 +1,5 @@
-pub mod Found
-pub mod Names
-pub mod Predefined
-pub mod Rules
-pub mod Typed
-pub mod TypedView
-pub mod Scope
-pub mod Exprs
 pub mod Stmts
 pub mod Functions
 pub mod Measures
 pub mod Views
-pub mod TypedExamples
+pub mod ReturnExamples

@@ -1,27 +1,6 @@
--- How great an untyped tree is, by which the recursion over it ends.
-use Rattle.std.specs.Prelude.{ℕ, ◌+◌}
-use Rattle.sl_ast.specs.Syntax.{Expr, number, string, name, call, paren, triple, typed, prefixed, chain, choice, Exprs, none, more, Links, end, link, Stmt, empty, leave, again, block, assign, give, declare, test, test_else, repeat, steps, lights, solar, Stmts, done, first}
-
-abbrev mutual
-  pub size : Expr → ℕ
-  size (number text line) = 1
-  size (string text line) = 1
-  size (name text line) = 1
-  size (call text args line) = 1 + size_args args
-  size (paren e line) = 1 + size e
-  size (triple kind space x y z line) = 2 + (size x + (size y + size z))
-  size (typed kind space e line) = 1 + size e
-  size (prefixed operator e line) = 1 + size e
-  size (chain row e rest) = 1 + (size e + size_links rest)
-  size (choice t e f line) = 2 + (size t + (size e + size f))
-
-  pub size_args : Exprs → ℕ
-  size_args none = 1
-  size_args (more e rest) = 1 + (size e + size_args rest)
-
-  pub size_links : Links → ℕ
-  size_links end = 1
-  size_links (link operator line e rest) = 1 + (size e + size_links rest)
+-- How great an untyped statement is, by which the recursion over it ends: expressions in it don't count. Which ones hold no other.
+use Rattle.std.specs.Prelude.{ℕ, ◌+◌, Bool, true, false}
+use Rattle.sl_ast.specs.Syntax.{Stmt, empty, leave, again, block, assign, give, declare, test, test_else, repeat, steps, lights, solar, Stmts, done, first}
 
 abbrev mutual
   pub size_stmt : Stmt → ℕ
@@ -42,3 +21,18 @@ abbrev mutual
   pub size_rows : Stmts → ℕ
   size_rows done = 1
   size_rows (first s rest) = 1 + (size_stmt s + size_rows rest)
+
+abbrev pub is_plain : Stmt → Bool
+is_plain (empty line) = true
+is_plain (leave line) = true
+is_plain (again line) = true
+is_plain (block body line) = false
+is_plain (assign a) = true
+is_plain (give e line) = true
+is_plain (declare class kind names line) = true
+is_plain (test e s line) = false
+is_plain (test_else e s r line) = false
+is_plain (repeat e s line) = false
+is_plain (steps a e b s line) = false
+is_plain (lights word e c s line) = false
+is_plain (solar e f s line) = false

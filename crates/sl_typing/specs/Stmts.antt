@@ -17,15 +17,15 @@ use Rattle.sl_ast.specs.declared.syntax.LightWord.{LightWord}
 use Rattle.sl_ast.specs.declared.syntax.LightWord.TheVariants as words
 use Rattle.sl_ast.specs.declared.typed.Variable.{Variable}
 use Rattle.sl_ast.specs.declared.typed.Variable.TheVariants as variables
-use Rattle.sl_typing.specs.declared.fault.TypeCode.{TypeCode}
-use Rattle.sl_typing.specs.declared.fault.TypeCode.TheVariants.{T1, T2, T6, T8, T10, T11}
-use Rattle.sl_typing.specs.Found.{Found, ◌>>=◌, refuses}
-use Rattle.sl_typing.specs.Names.{entry_of}
-use Rattle.sl_typing.specs.Predefined.{predefined_names, is_own, is_written}
-use Rattle.sl_typing.specs.Typed as T
-use Rattle.sl_typing.specs.Typed.{kind_of}
-use Rattle.sl_typing.specs.Scope.{Local, level_of, Own, Around}
-use Rattle.sl_typing.specs.Exprs.{operands_of, typed_expr, typed_args}
+use Rattle.sl_expressions.specs.declared.faults.TypeCode.{TypeCode}
+use Rattle.sl_expressions.specs.declared.faults.TypeCode.TheVariants.{T1, T2, T6, T8, T10, T11}
+use Rattle.sl_expressions.specs.Found.{Found, ◌>>=◌, refuses}
+use Rattle.sl_expressions.specs.Names.{entry_of}
+use Rattle.sl_expressions.specs.Predefined.{predefined_names, is_own, is_written}
+use Rattle.sl_expressions.specs.Typed as T
+use Rattle.sl_expressions.specs.Typed.{kind_of}
+use Rattle.sl_expressions.specs.Scope.{Local, level_of, Own, Around}
+use Rattle.sl_expressions.specs.Exprs.{operands_of, typed_expr, typed_args}
 
 abbrev pub Rows : Type 0
 Rows = Found (List T.Stmt × List Local)

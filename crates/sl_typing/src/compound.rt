@@ -1,21 +1,21 @@
 // Statements that hold others, from what was found of their parts: the first fault in the order of the text, or the node.
 ghost use Rattle.std.specs.Prelude.{List, ◌≡◌, Ok, map};
-ghost use Rattle.sl_typing.specs.Found.{Found};
-ghost use Rattle.sl_typing.specs.Scope.{Local};
+ghost use Rattle.sl_expressions.specs.Found.{Found};
+ghost use Rattle.sl_expressions.specs.Scope.{Local};
+ghost use Rattle.sl_expressions.specs.Typed as T;
+ghost use Rattle.sl_expressions.specs.TypedView.{typed_of, tstmt_of};
+ghost use Rattle.sl_expressions.specs.Views.{Gives, GivesAll};
 ghost use Rattle.sl_typing.specs.Stmts as spec;
-ghost use Rattle.sl_typing.specs.Typed as T;
-ghost use Rattle.sl_typing.specs.TypedView.{typed_of, tstmt_of};
-ghost use Rattle.sl_typing.specs.Views.{Gives, GivesAll, GivesOne, GivesTested, boxed_of, head_of};
+ghost use Rattle.sl_typing.specs.Views.{GivesOne, GivesTested, boxed_of, head_of};
 
-use crate::fault::{TypeCode, TypeFault, fault};
 use crate::sets::is_test;
-use crate::typed::{TypedExpr, TypedStmt};
 use fixed_math::List;
 use sl_ast::LightStmt;
+use sl_expressions::{TypeCode, TypeFault, TypedExpr, TypedStmt, left};
 use std::alloc::Global;
 
 // A block.
-#[tactic(auto, using(crate::proofs::Rows::held_tstmts))]
+#[tactic(auto, using(sl_expressions::proofs::Rows::held_tstmts))]
 pub fn block_node(
     body: Result<Vec<TypedStmt>, TypeFault>,
     line: u32,
@@ -29,7 +29,7 @@ pub fn block_node(
     })
 }
 
-#[tactic(auto, using(crate::proofs::Rows::held_tstmts))]
+#[tactic(auto, using(sl_expressions::proofs::Rows::held_tstmts))]
 fn group_node(body: Vec<TypedStmt>) -> TypedStmt
     ensures { tstmt_of result ≡ T.group (T.stmts (map tstmt_of body.items)) }
 {
@@ -54,7 +54,7 @@ fn one_of(mut stmts: Vec<TypedStmt>) -> TypedStmt
 pub fn boxed(alloc: Global, stmts: Vec<TypedStmt>) -> Result<Box<TypedStmt>, TypeFault>
     ensures { Gives boxed_of result (Ok (spec.one_of (map tstmt_of stmts.items))) }
 {
-    Ok(Box::new(alloc, one_of(stmts))?)
+    sl_expressions::boxed(alloc, one_of(stmts))
 }
 
 // An `if` alone.
@@ -65,9 +65,13 @@ pub fn if_node(
 ) -> Result<TypedStmt, TypeFault>
     ensures { (ls : List Local) (t : Found T.Expr) (r : Found T.Stmt) → Gives typed_of test t → Gives boxed_of then r → GivesOne result ls (spec.tested ls line t r) }
 {
-    let test = test?;
-    let then = then?;
-    Ok(TypedStmt::If { test, then, line })
+    match test {
+        Err(fault) => left(then, fault),
+        Ok(test) => match then {
+            Err(fault) => left(test, fault),
+            Ok(then) => Ok(TypedStmt::If { test, then, line }),
+        },
+    }
 }
 
 // An `if` with its `else`.
@@ -79,15 +83,21 @@ pub fn if_else_node(
 ) -> Result<TypedStmt, TypeFault>
     ensures { (ls : List Local) (t : Found T.Expr) (r : Found T.Stmt) (q : Found T.Stmt) → Gives typed_of test t → Gives boxed_of then r → Gives boxed_of otherwise q → GivesOne result ls (spec.tested_else ls line t r q) }
 {
-    let test = test?;
-    let then = then?;
-    let otherwise = otherwise?;
-    Ok(TypedStmt::IfElse {
-        test,
-        then,
-        otherwise,
-        line,
-    })
+    match test {
+        Err(fault) => left((then, otherwise), fault),
+        Ok(test) => match then {
+            Err(fault) => left((test, otherwise), fault),
+            Ok(then) => match otherwise {
+                Err(fault) => left((test, then), fault),
+                Ok(otherwise) => Ok(TypedStmt::IfElse {
+                    test,
+                    then,
+                    otherwise,
+                    line,
+                }),
+            },
+        },
+    }
 }
 
 // A `while`.
@@ -98,9 +108,13 @@ pub fn while_node(
 ) -> Result<TypedStmt, TypeFault>
     ensures { (ls : List Local) (t : Found T.Expr) (r : Found T.Stmt) → Gives typed_of test t → Gives boxed_of body r → GivesOne result ls (spec.repeated ls line t r) }
 {
-    let test = test?;
-    let body = body?;
-    Ok(TypedStmt::While { test, body, line })
+    match test {
+        Err(fault) => left(body, fault),
+        Ok(test) => match body {
+            Err(fault) => left(test, fault),
+            Ok(body) => Ok(TypedStmt::While { test, body, line }),
+        },
+    }
 }
 
 // The condition of a `for`, whose type is asked before the first assignment; its own faults are told behind that.
@@ -115,7 +129,13 @@ fn tested(
         Err(TypeFault::At { code, line }) => Ok(Err(TypeFault::At { code, line })),
         Ok(test) => {
             if !is_test(&test) {
-                return fault(TypeCode::T2, line);
+                return left(
+                    test,
+                    TypeFault::At {
+                        code: TypeCode::T2,
+                        line,
+                    },
+                );
             }
             Ok(Ok(test))
         }
@@ -130,14 +150,20 @@ pub fn for_head(
 ) -> Result<(Vec<TypedStmt>, TypedExpr), TypeFault>
     ensures { (t : Found T.Expr) (a : Found (List T.Stmt)) → Gives typed_of test t → GivesAll tstmt_of first a → Gives head_of result (spec.for_head line t a) }
 {
-    let test = tested(line, test)?;
-    let first = first?;
-    let test = test?;
-    Ok((first, test))
+    match tested(line, test) {
+        Err(fault) => left(first, fault),
+        Ok(test) => match first {
+            Err(fault) => left(test, fault),
+            Ok(first) => match test {
+                Err(fault) => left(first, fault),
+                Ok(test) => Ok((first, test)),
+            },
+        },
+    }
 }
 
 // A `for`.
-#[tactic(auto, using(crate::proofs::Rows::held_tstmts))]
+#[tactic(auto, using(sl_expressions::proofs::Rows::held_tstmts))]
 pub fn for_node(
     head: Result<(Vec<TypedStmt>, TypedExpr), TypeFault>,
     step: Result<Vec<TypedStmt>, TypeFault>,
@@ -146,16 +172,22 @@ pub fn for_node(
 ) -> Result<TypedStmt, TypeFault>
     ensures { (ls : List Local) (h : Found spec.Head) (b : Found (List T.Stmt)) (r : Found T.Stmt) → Gives head_of head h → GivesAll tstmt_of step b → Gives boxed_of body r → GivesOne result ls (spec.for_of ls line h b r) }
 {
-    let (first, test) = head?;
-    let step = step?;
-    let body = body?;
-    Ok(TypedStmt::For {
-        first: List(first),
-        test,
-        step: List(step),
-        body,
-        line,
-    })
+    match head {
+        Err(fault) => left((step, body), fault),
+        Ok(head) => match step {
+            Err(fault) => left((head, body), fault),
+            Ok(step) => match body {
+                Err(fault) => left((head, step), fault),
+                Ok(body) => Ok(TypedStmt::For {
+                    first: List(head.0),
+                    test: head.1,
+                    step: List(step),
+                    body,
+                    line,
+                }),
+            },
+        },
+    }
 }
 
 // A statement over lights.
@@ -167,12 +199,16 @@ pub fn lights_node(
 ) -> Result<TypedStmt, TypeFault>
     ensures { (ls : List Local) (xs : Found (List T.Expr)) (r : Found T.Stmt) → GivesAll typed_of args xs → Gives boxed_of body r → GivesOne result ls (spec.lighted ls word line xs r) }
 {
-    let args = args?;
-    let body = body?;
-    Ok(TypedStmt::Lights {
-        word,
-        args: List(args),
-        body,
-        line,
-    })
+    match args {
+        Err(fault) => left(body, fault),
+        Ok(args) => match body {
+            Err(fault) => left(args, fault),
+            Ok(body) => Ok(TypedStmt::Lights {
+                word,
+                args: List(args),
+                body,
+                line,
+            }),
+        },
+    }
 }

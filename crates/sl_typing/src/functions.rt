@@ -2,23 +2,23 @@
 ghost use Rattle.std.specs.Prelude.{List, ◌≡◌, [], ◌++◌, Err, IfOk, IfSome, OnErr, OnOk, Ok, Option, length, map, option_map};
 ghost use Rattle.sl_ast.specs.Syntax as U;
 ghost use Rattle.sl_ast.specs.SyntaxView.{expr_of, stmt_of, group_of, declared_of, function_of};
+ghost use Rattle.sl_expressions.specs.Scope as scopes;
+ghost use Rattle.sl_expressions.specs.Typed as T;
+ghost use Rattle.sl_expressions.specs.TypedView.{typed_of, tstmt_of};
+ghost use Rattle.sl_expressions.specs.declared.faults.TypeFault.TheVariants.{NoMemory};
+ghost use Rattle.sl_expressions.specs.Views.{Gives, GivesAll, spot_of, around_of, local_of, stmts_of as body_view, body_of, callee_of};
 ghost use Rattle.sl_typing.specs.Functions as spec;
-ghost use Rattle.sl_typing.specs.Scope as scopes;
-ghost use Rattle.sl_typing.specs.Typed as T;
-ghost use Rattle.sl_typing.specs.TypedView.{typed_of, tstmt_of};
-ghost use Rattle.sl_typing.specs.declared.fault.TypeFault.TheVariants.{NoMemory};
-ghost use Rattle.sl_typing.specs.Views.{Gives, GivesAll, GivesRows, Extends, spot_of, around_of, local_of, stmts_of as body_view, body_of, callee_of};
+ghost use Rattle.sl_typing.specs.Views.{GivesRows, Extends};
 
-use crate::exprs::expr;
-use crate::fault::{TypeCode, TypeFault, fault};
 use crate::gives::gives_any;
-use crate::places::{Around, Body, Faulty, Known, Local, Own, Spot};
-use crate::scope::{Functions, Scope};
 use crate::sets::{is_uniform, value_in};
 use crate::stmts::rows;
-use crate::typed::TypedStmt;
 use fixed_math::List;
 use sl_ast::{Declared, Expr, Function, Group, SlKind, SlType, Stmt};
+use sl_expressions::{
+    Around, Body, Faulty, Functions, Known, Local, Own, Scope, Spot, TypeCode, TypeFault,
+    TypedStmt, expr, fault, left,
+};
 use std::alloc::{AllocError, Global};
 
 fn given(s: &Stmt) -> Option<(&Expr, u32)>
@@ -79,14 +79,20 @@ fn body_from<'a>(
     let from = scope.len();
     let mut done = Vec::new(alloc);
     match closing(body) {
-        None => {
-            rows(body, alloc, g, from, &mut done, scope)?;
-            fault(TypeCode::T8, line)
-        }
-        Some((before, (value, at))) => {
-            rows(before, alloc, g, from, &mut done, scope)?;
-            returned(alloc, g, kind, done, scope, value, at)
-        }
+        None => match rows(body, alloc, g, from, &mut done, scope) {
+            Err(fault) => left(done, fault),
+            Ok(()) => left(
+                done,
+                TypeFault::At {
+                    code: TypeCode::T8,
+                    line,
+                },
+            ),
+        },
+        Some((before, (value, at))) => match rows(before, alloc, g, from, &mut done, scope) {
+            Err(fault) => left(done, fault),
+            Ok(()) => returned(alloc, g, kind, done, scope, value, at),
+        },
     }
 }
 
@@ -217,15 +223,19 @@ fn learned<'a>(
     ensures { IfOk result (λ k. callee_of k ≡ spec.callee_in kind (map callee_of known.now) (function_of f.now)) }
 {
     let formals = formals_of(alloc, f.formals.as_slice())?;
-    let body = kept_body(alloc, kind, false, known, formals.as_slice(), f)?;
-    let by_default = kept_body(alloc, kind, true, known, formals.as_slice(), f)?;
-    Ok(Known {
-        name: &f.name,
-        formals,
-        returns: f.returns,
-        body,
-        by_default,
-    })
+    match kept_body(alloc, kind, false, known, formals.as_slice(), f) {
+        Err(want) => left(formals, want),
+        Ok(body) => match kept_body(alloc, kind, true, known, formals.as_slice(), f) {
+            Err(want) => left((formals, body), want),
+            Ok(by_default) => Ok(Known {
+                name: &f.name,
+                formals,
+                returns: f.returns,
+                body,
+                by_default,
+            }),
+        },
+    }
 }
 
 // Adds a function to those before it.

@@ -2,26 +2,16 @@
 //! number of its function.
 #![tactic(auto)]
 
-mod calls;
 mod compound;
-mod entry;
-mod exprs;
-mod fault;
+mod file;
 mod functions;
 mod gives;
-mod names;
-mod operations;
 mod params;
-mod places;
-mod predefined;
-mod rules;
-mod scope;
 mod sets;
 mod stmts;
-mod typed;
 
-pub use fault::{TypeCode, TypeFault};
+pub use file::{Param, Program};
 pub use params::program;
-pub use places::{Body, Faulty, Known, Local, Param, Program};
-pub use scope::Functions;
-pub use typed::{TypedExpr, TypedLink, TypedStmt};
+pub use sl_expressions::{
+    Body, Faulty, Functions, Known, Local, TypeCode, TypeFault, TypedExpr, TypedLink, TypedStmt,
+};

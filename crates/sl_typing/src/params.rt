@@ -2,19 +2,20 @@
 ghost use Rattle.std.specs.Prelude.{List, ◌≡◌, [], Ok, OnOk, length, map, option_map};
 ghost use Rattle.sl_ast.specs.ShaderView.{shader_of};
 ghost use Rattle.sl_ast.specs.SyntaxView.{expr_of, group_of, declared_of};
+ghost use Rattle.sl_expressions.specs.TypedView.{typed_of, tstmt_of};
+ghost use Rattle.sl_expressions.specs.Views.{Gives, around_of, local_of, callee_of};
 ghost use Rattle.sl_typing.specs.Functions as spec;
-ghost use Rattle.sl_typing.specs.TypedView.{typed_of, tstmt_of};
-ghost use Rattle.sl_typing.specs.Views.{Gives, GivesParams, around_of, local_of, callee_of, param_of, program_of};
+ghost use Rattle.sl_typing.specs.Views.{GivesParams, param_of, program_of};
 
-use crate::exprs::expr;
-use crate::fault::{TypeCode, TypeFault, fault};
+use crate::file::{Param, Program};
 use crate::functions::learn_all;
-use crate::places::{Around, Local, Param, Program, Spot};
-use crate::scope::{Functions, Scope};
 use crate::sets::{is_varying, value_in};
 use crate::stmts::rows;
-use crate::typed::{TypedExpr, TypedStmt};
 use sl_ast::{Declared, Expr, Group, Shader, SlKind, SlType};
+use sl_expressions::{
+    Around, Functions, Local, Scope, Spot, TypeCode, TypeFault, TypedExpr, TypedStmt, expr, fault,
+    left, push,
+};
 use std::alloc::Global;
 
 fn default_in(
@@ -56,8 +57,7 @@ fn param<'a>(
     };
     scope.push(local)?;
     let value = default_in(alloc, g, kind, d.set_line, &d.value)?;
-    params.push(Param { local, value })?;
-    Ok(())
+    push(params, Param { local, value })
 }
 
 // The parameters of a group.
@@ -173,11 +173,13 @@ pub fn program<'a>(alloc: Global, shader: &'a Shader) -> Result<Program<'a>, Typ
     ensures { Gives program_of result (spec.program (shader_of shader.now)) }
 {
     let mut known = Functions::new(alloc);
-    learn_all(alloc, shader.kind, shader.functions.as_slice(), &mut known)?;
+    if let Err(fault) = learn_all(alloc, shader.kind, shader.functions.as_slice(), &mut known) {
+        return left(known, fault);
+    }
     let mut params = Vec::new(alloc);
     let mut body = Vec::new(alloc);
     match params_and_body(alloc, shader, &known, &mut params, &mut body) {
-        Err(fault) => Err(fault),
+        Err(fault) => left((known, params, body), fault),
         Ok(()) => Ok(Program {
             known,
             params,

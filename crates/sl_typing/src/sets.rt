@@ -3,26 +3,24 @@ ghost use Rattle.std.specs.Prelude.{List, ◌≡◌, Err, not, map, option_map};
 ghost use Rattle.sl_ast.specs.SyntaxView.{expr_of, assignment_of, declared_of, cone_of};
 ghost use Rattle.sl_ast.specs.Rules as rules;
 ghost use Rattle.sl_ast.specs.WellTyped as W;
-ghost use Rattle.sl_typing.specs.Exprs.{typed_expr, typed_args};
-ghost use Rattle.sl_typing.specs.Found.{Found};
-ghost use Rattle.sl_typing.specs.Scope as scopes;
+ghost use Rattle.sl_expressions.specs.Exprs.{typed_expr, typed_args};
+ghost use Rattle.sl_expressions.specs.Found.{Found};
+ghost use Rattle.sl_expressions.specs.Scope as scopes;
+ghost use Rattle.sl_expressions.specs.Typed as T;
+ghost use Rattle.sl_expressions.specs.TypedView.{typed_of, tstmt_of};
+ghost use Rattle.sl_expressions.specs.Views.{Gives, GivesAll, spot_of, around_of, local_of, found_of, own_of};
 ghost use Rattle.sl_typing.specs.Stmts as spec;
-ghost use Rattle.sl_typing.specs.Typed as T;
-ghost use Rattle.sl_typing.specs.TypedView.{typed_of, tstmt_of};
-ghost use Rattle.sl_typing.specs.Views.{Gives, GivesAll, GivesOne, GivesRows, Extends, spot_of, around_of, local_of, found_of, own_of};
+ghost use Rattle.sl_typing.specs.Views.{GivesOne, GivesRows, Extends};
 
-use crate::exprs::expr;
-use crate::fault::{TypeCode, TypeFault, fault};
-use crate::names::find;
-use crate::operations::{kind_of, operands_of};
-use crate::places::{Around, Local, Own, Spot};
-use crate::predefined::{is_own, is_written, predefined_names};
-use crate::scope::{Scope, place_of};
-use crate::typed::{TypedExpr, TypedStmt};
 use fixed_math::Text;
 use sl_ast::{
     Assignment, Class, Cone, Declared, Expr, LightStmt, LightWord, NodeType, Operands, Predefined,
     SetOperator, SlType, Variable,
+};
+use sl_expressions::{
+    Around, Local, Own, Scope, Spot, TypeCode, TypeFault, TypedExpr, TypedStmt, added, expr, fault,
+    find, is_own, is_written, kind_of, left, one, operands_of, place_of, predefined_names, push,
+    three,
 };
 use std::alloc::Global;
 
@@ -57,7 +55,13 @@ pub fn value_in(
 {
     let value = value?;
     if !kind.takes(kind_of(&value)) {
-        return fault(TypeCode::T2, line);
+        return left(
+            value,
+            TypeFault::At {
+                code: TypeCode::T2,
+                line,
+            },
+        );
     }
     Ok(value)
 }
@@ -108,7 +112,7 @@ fn name<'a>(
         return fault(TypeCode::T10, d.line);
     }
     let stmt = declared(alloc, g, uniform, kind, scope, d.line, d.set_line, &d.value)?;
-    done.push(stmt)?;
+    push(done, stmt)?;
     scope.push(Local {
         uniform,
         kind,
@@ -209,7 +213,11 @@ pub fn set(
     let (variable, kind) = variable_set(&g.at, &a.name, a.line, scope.level(&a.name))?;
     let value = expr(&a.value, alloc, g, false, scope)?;
     if !sets(kind, a.operator, kind_of(&value)) {
-        return fault(TypeCode::T2, a.set_line);
+        let misfit = TypeFault::At {
+            code: TypeCode::T2,
+            line: a.set_line,
+        };
+        return left(value, misfit);
     }
     Ok(TypedStmt::Set {
         variable,
@@ -229,12 +237,10 @@ pub fn optional_set(
 ) -> Result<Vec<TypedStmt>, TypeFault>
     ensures { GivesAll tstmt_of result (spec.optional_set (around_of g.now) (map local_of scope.now) (option_map assignment_of a.now)) }
 {
-    let Some(a) = a else {
-        return Ok(Vec::new(alloc));
-    };
-    let one = set(alloc, g, scope, a)?;
-    let sets = vec![in alloc; one]?;
-    Ok(sets)
+    match a {
+        None => Ok(Vec::new(alloc)),
+        Some(a) => one(alloc, set(alloc, g, scope, a)?),
+    }
 }
 
 pub fn is_test(e: &TypedExpr) -> bool
@@ -249,7 +255,13 @@ pub fn condition(line: u32, found: Result<TypedExpr, TypeFault>) -> Result<Typed
 {
     let test = found?;
     if !is_test(&test) {
-        return fault(TypeCode::T2, line);
+        return left(
+            test,
+            TypeFault::At {
+                code: TypeCode::T2,
+                line,
+            },
+        );
     }
     Ok(test)
 }
@@ -263,17 +275,24 @@ pub fn misplaced(
     ensures { (ls : List scopes.Local) (found : Found T.Expr) → Gives typed_of value found → GivesOne result ls (Err (spec.misplaced (option_map own_of own.now) found, line)) }
 {
     let Some(own) = own else {
-        return fault(TypeCode::T8, line);
+        return left(
+            value,
+            TypeFault::At {
+                code: TypeCode::T8,
+                line,
+            },
+        );
     };
     match value {
         Err(TypeFault::NoMemory) => Err(TypeFault::NoMemory),
         Err(TypeFault::At { .. }) => fault(TypeCode::T8, line),
         Ok(value) => {
-            if own.returns.takes(kind_of(&value)) {
-                fault(TypeCode::T8, line)
+            let code = if own.returns.takes(kind_of(&value)) {
+                TypeCode::T8
             } else {
-                fault(TypeCode::T2, line)
-            }
+                TypeCode::T2
+            };
+            left(value, TypeFault::At { code, line })
         }
     }
 }
@@ -297,15 +316,15 @@ pub fn light_args(
 ) -> Result<Vec<TypedExpr>, TypeFault>
     ensures { GivesAll typed_of result (typed_args (around_of g.now) (map local_of scope.now) (spec.light_args (expr_of place.now) (option_map cone_of cone.now))) }
 {
-    let mut args = Vec::new(alloc);
-    args.reserve(3)?;
-    args.push_reserved(expr(place, alloc, g, false, scope)?);
-    let Some(cone) = cone else {
-        return Ok(args);
-    };
-    args.push_reserved(expr(&cone.axis, alloc, g, false, scope)?);
-    args.push_reserved(expr(&cone.angle, alloc, g, false, scope)?);
-    Ok(args)
+    let place = expr(place, alloc, g, false, scope);
+    match cone {
+        None => added(Ok(Vec::new(alloc)), place),
+        Some(cone) => {
+            let axis = expr(&cone.axis, alloc, g, false, scope);
+            let angle = expr(&cone.angle, alloc, g, false, scope);
+            three(alloc, place, axis, angle)
+        }
+    }
 }
 
 // A statement over lights, from what its arguments are.

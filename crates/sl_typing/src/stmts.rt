@@ -1,27 +1,27 @@
 // The typed trees of statements.
-ghost use Rattle.std.specs.Prelude.{List, ◌≡◌, map, length};
+ghost use Rattle.std.specs.Prelude.{List, ◌≡◌, map, length, true};
 ghost use Rattle.sl_ast.specs.Syntax as U;
 ghost use Rattle.sl_ast.specs.SyntaxView.{expr_of, stmt_of};
-ghost use Rattle.sl_typing.specs.Exprs.{typed_args};
-ghost use Rattle.sl_typing.specs.Scope as scopes;
+ghost use Rattle.sl_expressions.specs.Exprs.{typed_args};
+ghost use Rattle.sl_expressions.specs.Scope as scopes;
+ghost use Rattle.sl_expressions.specs.Typed as T;
+ghost use Rattle.sl_expressions.specs.TypedView.{typed_of, tstmt_of};
+ghost use Rattle.sl_expressions.specs.declared.places.Local.{Local};
+ghost use Rattle.sl_expressions.specs.Views.{Gives, GivesAll, spot_of, around_of, local_of};
+ghost use Rattle.sl_typing.specs.Measures.{is_plain};
 ghost use Rattle.sl_typing.specs.Stmts as spec;
-ghost use Rattle.sl_typing.specs.Typed as T;
-ghost use Rattle.sl_typing.specs.TypedView.{typed_of, tstmt_of};
-ghost use Rattle.sl_typing.specs.declared.places.Local.{Local};
-ghost use Rattle.sl_typing.specs.Views.{Gives, GivesAll, GivesOne, GivesRows, boxed_of, Extends, spot_of, around_of, local_of};
+ghost use Rattle.sl_typing.specs.Views.{GivesOne, GivesRows, boxed_of, Extends};
 
 use crate::compound::{
     block_node, boxed, for_head, for_node, if_else_node, if_node, lights_node, while_node,
 };
-use crate::exprs::expr;
-use crate::fault::{TypeCode, TypeFault, fault};
-use crate::places::{Around, Spot};
-use crate::scope::Scope;
 use crate::sets::{
     condition, is_uniform, light_args, light_word, lights_of, misplaced, names, optional_set, set,
 };
-use crate::typed::{TypedExpr, TypedStmt};
 use sl_ast::{Expr, LightStmt, Stmt};
+use sl_expressions::{
+    Around, Scope, Spot, TypeCode, TypeFault, TypedExpr, TypedStmt, added, expr, fault, push,
+};
 use std::alloc::Global;
 
 // The typed arguments of `solar`.
@@ -34,20 +34,17 @@ fn solar_args(
 ) -> Result<Vec<TypedExpr>, TypeFault>
     ensures { GivesAll typed_of result (typed_args (around_of g.now) (map local_of scope.now) (U.more (expr_of axis.now) (U.more (expr_of angle.now) U.none))) }
 {
-    let mut args = Vec::new(alloc);
-    args.reserve(2)?;
-    args.push_reserved(expr(axis, alloc, g, false, scope)?);
-    args.push_reserved(expr(angle, alloc, g, false, scope)?);
-    Ok(args)
+    let axis = expr(axis, alloc, g, false, scope);
+    let angle = expr(angle, alloc, g, false, scope);
+    let first = added(Ok(Vec::new(alloc)), axis);
+    added(first, angle)
 }
 
 // A statement that leaves the scope as it is, behind those before it.
 fn add(one: Result<TypedStmt, TypeFault>, done: &mut Vec<TypedStmt>) -> Result<(), TypeFault>
     ensures { (ls : List Local) (found : spec.Rows) → GivesOne one (map local_of ls) found → GivesRows result done.new.items ls (spec.behind (map tstmt_of done.old.items) found) }
 {
-    let one = one?;
-    done.push(one)?;
-    Ok(())
+    push(done, one?)
 }
 
 // A `break`.
@@ -93,10 +90,8 @@ fn in_lights<'a, 'b>(g: &Around<'a, 'b>) -> Around<'a, 'b>
     }
 }
 
-/// Adds the typed statements of a statement to those before it, and what it declares to the scope. The parts of one that holds
-/// others are all typed, and the node that they make gives the first of their faults.
-#[cycle(stmts)]
-pub fn stmt<'a>(
+// The typed statements of a statement that holds no other, behind those before it.
+fn plain<'a>(
     s: &'a Stmt,
     alloc: Global,
     g: &Around<'_, 'a>,
@@ -104,15 +99,12 @@ pub fn stmt<'a>(
     done: &mut Vec<TypedStmt>,
     scope: &mut Scope<'a>,
 ) -> Result<(), TypeFault>
+    requires { is_plain (stmt_of s.now) ≡ true }
     ensures gives { GivesRows result done.new.items scope.new (spec.behind (map tstmt_of done.old.items) (spec.typed_stmt (around_of g.now) from (map local_of scope.old) (stmt_of s.now))) }
     ensures extends { Extends scope.old scope.new }
 {
     match s {
         Stmt::Empty { line } => add(Ok(TypedStmt::Empty { line: *line }), done),
-        Stmt::Block { body, line } => {
-            let body = block(body.as_slice(), alloc, g, scope);
-            add(block_node(body, *line), done)
-        }
         Stmt::Set { set: a } => add(set(alloc, g, scope, a), done),
         Stmt::Break { line } => add(leave(&g.at, *line), done),
         Stmt::Continue { line } => add(again(&g.at, *line), done),
@@ -128,6 +120,29 @@ pub fn stmt<'a>(
         } => {
             let uniform = is_uniform(*class);
             names(alloc, g, from, uniform, *kind, done, scope, ds.as_slice())
+        }
+        _ => unreachable!(),
+    }
+}
+
+/// Adds the typed statements of a statement to those before it, and what it declares to the scope. The parts of one that holds
+/// others are all typed, and the node that they make gives the first of their faults.
+#[cycle(stmts)]
+pub fn stmt<'a>(
+    s: &'a Stmt,
+    alloc: Global,
+    g: &Around<'_, 'a>,
+    from: usize,
+    done: &mut Vec<TypedStmt>,
+    scope: &mut Scope<'a>,
+) -> Result<(), TypeFault>
+    ensures gives { GivesRows result done.new.items scope.new (spec.behind (map tstmt_of done.old.items) (spec.typed_stmt (around_of g.now) from (map local_of scope.old) (stmt_of s.now))) }
+    ensures extends { Extends scope.old scope.new }
+{
+    match s {
+        Stmt::Block { body, line } => {
+            let body = block(body.as_slice(), alloc, g, scope);
+            add(block_node(body, *line), done)
         }
         Stmt::If { test, then, line } => {
             let test = condition(*line, expr(test, alloc, g, false, scope));
@@ -190,6 +205,7 @@ pub fn stmt<'a>(
             let body = branch(body, alloc, &in_lights(g), scope);
             add(lights_node(LightStmt::Solar, args, body, *line), done)
         }
+        _ => plain(s, alloc, g, from, done, scope),
     }
 }
 

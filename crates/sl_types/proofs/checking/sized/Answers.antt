@@ -1,9 +1,10 @@
 use Rattle.std.proofs.Common.{Ok, Err, cond, ap, sym, subst, ◌∙◌}
 use Rattle.sl_ast.specs.ShaderView.{shader_of}
 use Rattle.sl_types.specs.Checked.{limited}
-use Rattle.sl_typing.specs.Found.{◌>>=◌}
-use Rattle.sl_typing.specs.Views.{Gives, program_of}
-use Rattle.sl_typing.specs.declared.fault.TypeCode.TheVariants.{M8}
+use Rattle.sl_expressions.specs.Found.{◌>>=◌}
+use Rattle.sl_expressions.specs.Views.{Gives}
+use Rattle.sl_expressions.specs.declared.faults.TypeCode.TheVariants.{M8}
+use Rattle.sl_typing.specs.Views.{program_of}
 use Rattle.sl_types.proofs.checking.sized.Goals as goal
 
 pub returns : goal.returns

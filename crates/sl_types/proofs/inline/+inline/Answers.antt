@@ -6,15 +6,15 @@ use Rattle.sl_types.specs.Folds.{fold, fold_args, fold_stmt, fold_stmts}
 use Rattle.sl_types.specs.Extents.{absent}
 use Rattle.sl_types.specs.Inline.{Built, nothing, extents_of, count, count_args, count_stmt, count_stmts, inline, inline_args, inline_stmt, inline_stmts}
 use Rattle.sl_types.specs.InlineView.{functions}
-use Rattle.sl_typing.specs.Typed as T
-use Rattle.sl_typing.specs.TypedView.{typed_of, tlink_of, tstmt_of}
+use Rattle.sl_expressions.specs.Typed as T
+use Rattle.sl_expressions.specs.TypedView.{typed_of, tlink_of, tstmt_of}
 use Rattle.sl_types.specs.Weights.{weighing}
 use Rattle.sl_types.proofs.Chains.{chain_shown, count_links, tree_links, links_counted, links_weighed, links_inlined, links_split, links_end, light_link, pair_tree, call_tree, on_ok}
 use Rattle.sl_types.proofs.Numbered.{extent_at}
 use Rattle.sl_types.proofs.Placed.{light_arg, light_stmt, args_before, stmts_before, args_alone, stmts_alone, args_split, stmts_split, args_end, stmts_end, args_step, stmts_step, for_tree}
 use Rattle.sl_types.proofs.StmtTrees.{block_tree, declare_tree, set_tree, test_tree, else_tree, repeat_tree, lights_tree, behind_one, behind_two, behind_three, behind_four}
 use Rattle.sl_types.proofs.TypedNodes.{apply_shown, call_shown, block_shown, group_shown, for_shown}
-use Rattle.sl_typing.specs.declared.typed.TypedStmt.{TypedStmt}
+use Rattle.sl_expressions.specs.declared.typed.TypedStmt.{TypedStmt}
 use Rattle.sl_types.proofs.inline.+inline.Goals as goal
 
 abbrev weighed : TypedStmt → ℕ

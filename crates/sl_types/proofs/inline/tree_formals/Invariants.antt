@@ -1,6 +1,6 @@
 use Rattle.std.proofs.Common.{◌≡◌, ◌++◌, drop, map}
 use Rattle.sl_types.specs.Inline.{tree_formal}
-use Rattle.sl_typing.specs.Views.{local_of}
+use Rattle.sl_expressions.specs.Views.{local_of}
 use Rattle.sl_types.proofs.inline.tree_formals.Given as goal
 
 abbrev pub invariant-loop-formal : goal.invariant-loop-formal

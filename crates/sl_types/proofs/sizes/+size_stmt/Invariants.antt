@@ -1,8 +1,8 @@
 use Rattle.std.proofs.Common.{◌≡◌, List, drop, map}
 use Rattle.sl_types.specs.Folds.{fold_stmts}
 use Rattle.sl_types.specs.Extents.{Extent, cut, beside, counting}
-use Rattle.sl_typing.specs.Typed as T
-use Rattle.sl_typing.specs.TypedView.{tstmt_of}
+use Rattle.sl_expressions.specs.Typed as T
+use Rattle.sl_expressions.specs.TypedView.{tstmt_of}
 use Rattle.sl_types.specs.ExtentView.{extent_of}
 use Rattle.sl_types.proofs.sizes.+size_stmt.Given as goal
 

@@ -3,8 +3,8 @@ use Rattle.std.proofs.lemmas.List.{at_drop_more, map-append}
 use Rattle.sl_types.specs.Extents.{counting, cut, extents_from}
 use Rattle.sl_types.specs.ExtentView.{extent_of}
 use Rattle.sl_types.specs.Folds.{fold_body}
-use Rattle.sl_typing.specs.Scope.{body_in}
-use Rattle.sl_typing.specs.Views.{callee_of}
+use Rattle.sl_expressions.specs.Scope.{body_in}
+use Rattle.sl_expressions.specs.Views.{callee_of}
 use Rattle.sl_types.proofs.sizes.sizes_from.Goals as goal
 
 pub loop-one-preserved : goal.loop-one-preserved

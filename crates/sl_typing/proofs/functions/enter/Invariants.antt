@@ -1,6 +1,6 @@
 use Rattle.std.proofs.Common.{◌≡◌, drop, map}
+use Rattle.sl_expressions.specs.Views.{local_of}
 use Rattle.sl_typing.specs.Functions.{scope_from}
-use Rattle.sl_typing.specs.Views.{local_of}
 use Rattle.sl_typing.proofs.functions.enter.Given as goal
 
 abbrev pub invariant-loop-formal : goal.invariant-loop-formal

@@ -1,7 +1,7 @@
 use Rattle.std.proofs.Common.{◌++◌, ◌+◌, drop, map, arith, ap, ap₂, sym, ◌∙◌}
 use Rattle.sl_ast.specs.SyntaxView.{declared_of, group_of}
+use Rattle.sl_expressions.specs.Views.{local_of}
 use Rattle.sl_typing.specs.Functions.{formals_named, formals_of}
-use Rattle.sl_typing.specs.Views.{local_of}
 use Rattle.sl_typing.proofs.Learned.{formals_step}
 use Rattle.sl_typing.proofs.functions.formals_of.Goals as goal
 

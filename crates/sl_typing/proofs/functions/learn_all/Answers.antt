@@ -1,8 +1,8 @@
 use Rattle.std.proofs.Common.{◌+◌, drop, map, arith, ap, sym, ◌∙◌}
 use Rattle.sl_ast.specs.SyntaxView.{function_of}
-use Rattle.sl_typing.specs.Found.{◌>>=◌}
+use Rattle.sl_expressions.specs.Found.{◌>>=◌}
+use Rattle.sl_expressions.specs.Views.{callee_of}
 use Rattle.sl_typing.specs.Functions.{known_from}
-use Rattle.sl_typing.specs.Views.{callee_of}
 use Rattle.sl_typing.proofs.Learned.{known_step}
 use Rattle.sl_typing.proofs.functions.learn_all.Goals as goal
 

@@ -1,7 +1,7 @@
 use Rattle.std.proofs.Common.{◌≡◌, drop, map}
 use Rattle.sl_ast.specs.SyntaxView.{function_of}
+use Rattle.sl_expressions.specs.Views.{callee_of}
 use Rattle.sl_typing.specs.Functions.{known_from}
-use Rattle.sl_typing.specs.Views.{callee_of}
 use Rattle.sl_typing.proofs.functions.learn_all.Given as goal
 
 abbrev pub invariant-loop-f : goal.invariant-loop-f

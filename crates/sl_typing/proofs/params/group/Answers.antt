@@ -1,9 +1,10 @@
 use Rattle.std.proofs.Common.{◌+◌, drop, map, rules, refl, arith, ap, sym, ◌∙◌}
 use Rattle.std.proofs.lemmas.List.{drop_all}
 use Rattle.sl_ast.specs.SyntaxView.{declared_of}
-use Rattle.sl_typing.specs.Found.{◌>>=◌}
+use Rattle.sl_expressions.specs.Found.{◌>>=◌}
+use Rattle.sl_expressions.specs.Views.{around_of}
 use Rattle.sl_typing.specs.Functions.{typed_params}
-use Rattle.sl_typing.specs.Views.{around_of, param_of}
+use Rattle.sl_typing.specs.Views.{param_of}
 use Rattle.sl_typing.proofs.Learned.{params_step}
 use Rattle.sl_typing.proofs.params.group.Goals as goal
 

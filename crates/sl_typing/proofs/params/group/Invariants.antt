@@ -1,7 +1,8 @@
 use Rattle.std.proofs.Common.{◌≡◌, drop, map}
 use Rattle.sl_ast.specs.SyntaxView.{declared_of}
+use Rattle.sl_expressions.specs.Views.{around_of, local_of}
 use Rattle.sl_typing.specs.Functions.{typed_params, locals_of}
-use Rattle.sl_typing.specs.Views.{around_of, local_of, param_of}
+use Rattle.sl_typing.specs.Views.{param_of}
 use Rattle.sl_typing.proofs.params.group.Given as goal
 
 abbrev pub invariant-loop-d : goal.invariant-loop-d

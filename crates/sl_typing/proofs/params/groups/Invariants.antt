@@ -1,7 +1,8 @@
 use Rattle.std.proofs.Common.{◌≡◌, drop, map}
 use Rattle.sl_ast.specs.SyntaxView.{group_of}
+use Rattle.sl_expressions.specs.Views.{around_of, local_of}
 use Rattle.sl_typing.specs.Functions.{typed_groups, locals_of}
-use Rattle.sl_typing.specs.Views.{around_of, local_of, param_of}
+use Rattle.sl_typing.specs.Views.{param_of}
 use Rattle.sl_typing.proofs.params.groups.Given as goal
 
 abbrev pub invariant-loop-one : goal.invariant-loop-one

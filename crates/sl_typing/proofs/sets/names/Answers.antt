@@ -1,9 +1,9 @@
 use Rattle.std.proofs.Common.{◌+◌, drop, map, rules, refl, arith, ap, sym, ◌∙◌}
 use Rattle.sl_ast.specs.SyntaxView.{declared_of}
-use Rattle.sl_typing.specs.Found.{◌>>=◌}
+use Rattle.sl_expressions.specs.Found.{◌>>=◌}
+use Rattle.sl_expressions.specs.TypedView.{tstmt_of}
+use Rattle.sl_expressions.specs.Views.{around_of, local_of}
 use Rattle.sl_typing.specs.Stmts.{behind, typed_names}
-use Rattle.sl_typing.specs.TypedView.{tstmt_of}
-use Rattle.sl_typing.specs.Views.{around_of, local_of}
 use Rattle.sl_typing.proofs.Behind.{names_step, names_end}
 use Rattle.sl_typing.proofs.Scopes.{extends_same, extends_trans}
 use Rattle.sl_typing.proofs.sets.names.Goals as goal

@@ -1,8 +1,9 @@
 use Rattle.std.proofs.Common.{◌≡◌, drop, map}
 use Rattle.sl_ast.specs.SyntaxView.{declared_of}
+use Rattle.sl_expressions.specs.TypedView.{tstmt_of}
+use Rattle.sl_expressions.specs.Views.{around_of, local_of}
 use Rattle.sl_typing.specs.Stmts.{behind, typed_names}
-use Rattle.sl_typing.specs.TypedView.{tstmt_of}
-use Rattle.sl_typing.specs.Views.{Extends, around_of, local_of}
+use Rattle.sl_typing.specs.Views.{Extends}
 use Rattle.sl_typing.proofs.sets.names.Given as goal
 
 abbrev pub invariant-loop-d : goal.invariant-loop-d

@@ -2,14 +2,15 @@ use Rattle.std.proofs.Common.{◌+◌, [], ◌∷◌, false, Ok, drop, length, m
 use Rattle.sl_ast.specs.Syntax as U
 use Rattle.sl_ast.specs.SyntaxView.{expr_of, stmt_of, declared_of, assignment_of, cone_of}
 use Rattle.sl_ast.specs.declared.kinds.LightStmt.TheVariants.{Solar}
-use Rattle.sl_typing.specs.Exprs.{typed_expr, typed_args}
-use Rattle.sl_typing.specs.Found.{◌>>=◌}
+use Rattle.sl_expressions.specs.Exprs.{typed_expr, typed_args}
+use Rattle.sl_expressions.specs.Found.{◌>>=◌}
+use Rattle.sl_expressions.specs.Typed as T
+use Rattle.sl_expressions.specs.TypedView.{tstmt_of}
+use Rattle.sl_expressions.specs.Views.{Gives, around_of, local_of}
 use Rattle.sl_typing.specs.Stmts as spec
 use Rattle.sl_typing.specs.Stmts.{behind, typed_stmt, typed_rows}
 use Rattle.sl_typing.specs.Measures.{size_stmt, size_rows}
-use Rattle.sl_typing.specs.Typed as T
-use Rattle.sl_typing.specs.TypedView.{tstmt_of}
-use Rattle.sl_typing.specs.Views.{Gives, boxed_of, around_of, local_of}
+use Rattle.sl_typing.specs.Views.{boxed_of}
 use Rattle.sl_typing.proofs.Behind.{rows_step}
 use Rattle.sl_typing.proofs.Nodes.{block_is, small_stmt}
 use Rattle.sl_typing.proofs.Scopes.{extends_same, extends_trans, left_same}
@@ -38,15 +39,6 @@ stmt-block-body-requires t c =
     let d = ap (λ xs. size_rows (U.stmts (map stmt_of xs))) c.as_slice.ensures in
     (omega (arith, c.decreases, q, d), tt)
 
-pub stmt-returns-in-Empty : goal.stmt-returns-in-Empty
-stmt-returns-in-Empty t c =
-    let g = around_of c.args.g.now in
-    let ls = map local_of c.args.scope.now in
-    record {
-      gives = added _ _ _ _ _ _ _ refl (ap (λ s. typed_stmt g c.args.from ls (stmt_of s)) c.in-Empty.is) (c.add.ensures c.args.scope.now (Ok (T.empty c.in-Empty.line ∷ [], ls)) refl);
-      extends = extends_same _;
-    }
-
 pub stmt-returns-in-Block : goal.stmt-returns-in-Block
 stmt-returns-in-Block t c =
     let g = around_of c.args.g.now in
@@ -55,55 +47,8 @@ stmt-returns-in-Block t c =
     let is = ap (typed_stmt g c.args.from ls) (block_is c.args.s.now c.in-Block.body line c.in-Block.is)
     ∙ ap (λ xs. spec.blocked ls line (spec.inner (typed_rows g (length ls) ls (U.stmts (map stmt_of xs))))) (sym c.as_slice.ensures) in
     record {
-      gives = added _ _ _ _ _ _ _ c.block-body.ensures.same is (c.add-in-Block.ensures c.args.scope.now _ (c.block_node.ensures ls _ c.block-body.ensures.gives));
+      gives = added _ _ _ _ _ _ _ c.block-body.ensures.same is (c.add.ensures c.args.scope.now _ (c.block_node.ensures ls _ c.block-body.ensures.gives));
       extends = left_same _ _ c.block-body.ensures.same;
-    }
-
-pub stmt-returns-in-Set : goal.stmt-returns-in-Set
-stmt-returns-in-Set t c =
-    let g = around_of c.args.g.now in
-    let ls = map local_of c.args.scope.now in
-    record {
-      gives = added _ _ _ _ _ _ _ refl (ap (λ s. typed_stmt g c.args.from ls (stmt_of s)) c.in-Set.is) (c.add-in-Set.ensures c.args.scope.now _ (given_one _ ls _ c.set.ensures));
-      extends = extends_same _;
-    }
-
-pub stmt-returns-in-Break : goal.stmt-returns-in-Break
-stmt-returns-in-Break t c =
-    let g = around_of c.args.g.now in
-    let ls = map local_of c.args.scope.now in
-    record {
-      gives = added _ _ _ _ _ _ _ refl (ap (λ s. typed_stmt g c.args.from ls (stmt_of s)) c.in-Break.is) (c.add-in-Break.ensures c.args.scope.now _ (c.leave.ensures ls));
-      extends = extends_same _;
-    }
-
-pub stmt-returns-in-Continue : goal.stmt-returns-in-Continue
-stmt-returns-in-Continue t c =
-    let g = around_of c.args.g.now in
-    let ls = map local_of c.args.scope.now in
-    record {
-      gives = added _ _ _ _ _ _ _ refl (ap (λ s. typed_stmt g c.args.from ls (stmt_of s)) c.in-Continue.is) (c.add-in-Continue.ensures c.args.scope.now _ (c.again.ensures ls));
-      extends = extends_same _;
-    }
-
-pub stmt-returns-in-Return : goal.stmt-returns-in-Return
-stmt-returns-in-Return t c =
-    let g = around_of c.args.g.now in
-    let ls = map local_of c.args.scope.now in
-    record {
-      gives = added _ _ _ _ _ _ _ refl (ap (λ s. typed_stmt g c.args.from ls (stmt_of s)) c.in-Return.is) (c.add-in-Return.ensures c.args.scope.now _ (c.misplaced.ensures ls _ c.expr-value.ensures));
-      extends = extends_same _;
-    }
-
-pub stmt-returns-in-Declare : goal.stmt-returns-in-Declare
-stmt-returns-in-Declare t c =
-    let g = around_of c.args.g.now in
-    let ls = map local_of c.args.scope.now in
-    let is = ap (λ s. typed_stmt g c.args.from ls (stmt_of s)) c.in-Declare.is
-    ∙ ap₂ (λ u ds. spec.typed_names g c.args.from u c.in-Declare.kind ls (map declared_of ds)) (sym c.is_uniform-uniform.ensures) (sym c.as_slice-in-Declare.ensures) in
-    record {
-      gives = added _ _ _ _ _ _ _ refl is c.names.ensures.gives;
-      extends = c.names.ensures.extends;
     }
 
 pub stmt-returns-in-If : goal.stmt-returns-in-If

@@ -1,10 +1,11 @@
 use Rattle.std.proofs.Common.{◌≡◌, ◌+◌, ◌*◌, drop, map}
 use Rattle.sl_ast.specs.Syntax as U
 use Rattle.sl_ast.specs.SyntaxView.{stmt_of}
+use Rattle.sl_expressions.specs.TypedView.{tstmt_of}
+use Rattle.sl_expressions.specs.Views.{around_of, local_of}
 use Rattle.sl_typing.specs.Stmts.{behind, typed_rows}
 use Rattle.sl_typing.specs.Measures.{size_stmt, size_rows}
-use Rattle.sl_typing.specs.TypedView.{tstmt_of}
-use Rattle.sl_typing.specs.Views.{Extends, around_of, local_of}
+use Rattle.sl_typing.specs.Views.{Extends}
 use Rattle.sl_typing.proofs.stmts.+stmts.Given as goal
 
 abbrev pub decreases-stmt : goal.decreases-stmt

@@ -1,0 +1,8 @@
+pub mod Rows
+pub mod Operands
+pub mod Nodes
+pub mod Behind
+pub mod ScopeNames
+pub mod Named
+pub mod Chains
+pub mod Choices

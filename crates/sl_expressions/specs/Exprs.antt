@@ -1,0 +1,255 @@
+-- The typed tree that the rules relate to an expression, or the first fault in the order of the text
+-- (Shading Language, RenderMan Interface 3.2, sections 11 to 15).
+use Rattle.std.specs.Prelude.{ℕ, ℤ, pos, Bool, true, false, ◌&&◌, ◌||◌, not, List, [], ◌∷◌, Option, Some, None, Result, Ok, Err, codes, if◌then◌else◌, is_some}
+use Rattle.std.specs.Str.{bytes_eq}
+use Rattle.rib_lex.specs.Tokens.{tokens_of}
+use Rattle.rib_lex.specs.Decimal.{num}
+use Rattle.rib_lex.specs.declared.token.Token.{Token}
+use Rattle.rib_lex.specs.declared.token.TokenKind.{TokenKind}
+use Rattle.rib_lex.specs.declared.token.TokenKind.TheVariants.{Number}
+use Rattle.sl_ast.specs.Syntax as U
+use Rattle.sl_ast.specs.WellTyped as W
+use Rattle.sl_ast.specs.Names.{name_type, has_operation, has_surface, is_constant, space_named}
+use Rattle.sl_ast.specs.Rules.{node_type, takes, rule}
+use Rattle.sl_ast.specs.declared.operands.Operands.{Operands}
+use Rattle.sl_ast.specs.declared.operands.Operands.TheVariants.{Nothing, One, Two, Three, Many}
+use Rattle.sl_ast.specs.declared.kinds.SlType.{SlType}
+use Rattle.sl_ast.specs.declared.kinds.SlType.TheVariants as types
+use Rattle.sl_ast.specs.declared.kinds.NodeType.{NodeType}
+use Rattle.sl_ast.specs.declared.operations.Operation.{Operation}
+use Rattle.sl_ast.specs.declared.operations.Operation.TheVariants as operations
+use Rattle.sl_ast.specs.declared.operations.ValueOperation.TheVariants as ops
+use Rattle.sl_ast.specs.declared.kinds.Predefined.{Predefined}
+use Rattle.sl_ast.specs.declared.kinds.Prefix.{Prefix}
+use Rattle.sl_ast.specs.declared.kinds.SpaceName.{SpaceName}
+use Rattle.sl_ast.specs.declared.kinds.SpaceName.TheVariants.{Current}
+use Rattle.sl_ast.specs.declared.syntax.Space.{Space}
+use Rattle.sl_ast.specs.declared.typed.Variable.TheVariants as variables
+use Rattle.sl_expressions.specs.declared.faults.TypeCode.TheVariants.{T1, T2, T6, T7, T11}
+use Rattle.sl_expressions.specs.declared.rules.Builtin.{Builtin}
+use Rattle.sl_expressions.specs.declared.rules.Builtin.TheVariants.{Plain, LeftOut}
+use Rattle.sl_expressions.specs.Found.{Found, ◌>>=◌, refuses}
+use Rattle.sl_expressions.specs.Names.{entry_of}
+use Rattle.sl_expressions.specs.Predefined.{predefined_names, is_read, is_own}
+use Rattle.sl_expressions.specs.Rules.{operation_of, prefix_operation, builtin_names}
+use Rattle.sl_expressions.specs.Typed as T
+use Rattle.sl_expressions.specs.Typed.{kind_of}
+use Rattle.sl_expressions.specs.Scope.{Local, level_of, Callee, callee_named, Around, formals_in, body_in}
+
+-- the value of a number, as a scene's text has it
+abbrev pub token_value : TokenKind → ℤ
+token_value (Number d) = num d
+token_value _ = pos 0
+
+abbrev pub first_of : List Token → ℤ
+first_of [] = pos 0
+first_of (t ∷ ts) = token_value t.kind
+
+abbrev pub first_value : {E : Type 0} → Result (List Token) E → ℤ
+first_value (Ok ts) = first_of ts
+first_value (Err e) = pos 0
+
+abbrev pub number_value : List ℕ → ℤ
+number_value text = first_value (tokens_of text)
+
+-- a predefined variable that is read: unknown where this kind of shader has none of that name, else outside its place
+abbrev pub predefined_at : W.Around → ℕ → Option Predefined → Found T.Expr
+predefined_at g line None = Err (T1, line)
+predefined_at g line (Some x) =
+    if is_read g x then Ok (T.variable (variables.Predefined x) (node_type (name_type x)) line)
+    else (if is_own g x then Err (T6, line) else Err (T1, line))
+
+-- a name in an expression
+abbrev pub named : W.Around → List ℕ → ℕ → Option (ℕ × Local) → Found T.Expr
+named g name line (Some at) = Ok (T.variable (variables.Level at.0) (node_type at.1.kind) line)
+named g name line None = predefined_at g line (entry_of predefined_names name)
+
+abbrev pub operands_of : List T.Expr → Operands
+operands_of [] = Nothing
+operands_of (a ∷ []) = One (kind_of a)
+operands_of (a ∷ b ∷ []) = Two (kind_of a) (kind_of b)
+operands_of (a ∷ b ∷ c ∷ []) = Three (kind_of a) (kind_of b) (kind_of c)
+operands_of (a ∷ b ∷ c ∷ d ∷ rest) = Many
+
+-- an operation on its typed operands
+abbrev pub ruled : Operation → List T.Expr → ℕ → Option NodeType → Found T.Expr
+ruled op args line None = Err (T2, line)
+ruled op args line (Some kind) = Ok (T.apply op (T.exprs args) kind line)
+
+abbrev pub applied : Operation → ℕ → List T.Expr → Found T.Expr
+applied op line args = ruled op args line (rule op (operands_of args))
+
+-- no rule fits these operands
+abbrev pub misfits : Operation → List T.Expr → Bool
+misfits op args = not (is_some (rule op (operands_of args)))
+
+-- a prefix operator on its operand
+abbrev pub prefixed : Prefix → ℕ → Found T.Expr → Found T.Expr
+prefixed operator line operand = operand >>= λ t. applied (prefix_operation operator) line (t ∷ [])
+
+-- one of two values by a condition
+abbrev pub chosen : ℕ → Found (List T.Expr) → Found T.Expr
+chosen line parts = parts >>= applied (operations.Value ops.Select) line
+
+-- the space of a name
+abbrev pub space_at : ℕ → Option SpaceName → Found SpaceName
+space_at line None = Err (T11, line)
+space_at line (Some s) = Ok s
+
+-- the space before a value of a type: a colour's is "rgb"; one before a float or a string is no rule's, which is told where the
+-- value has a type
+abbrev pub space_of : W.Around → SlType → Option Space → Found SpaceName
+space_of g kind None = Ok Current
+space_of g types.Color (Some s) = if bytes_eq s.name (codes "rgb") then Ok Current else Err (T11, s.line)
+space_of g types.Float (Some s) = Ok Current
+space_of g types.Str (Some s) = Ok Current
+space_of g kind (Some s) = space_at s.line (space_named g.kind g.default s.name)
+
+abbrev pub refuses_space : SlType → Option Space → Bool
+refuses_space types.Float (Some s) = true
+refuses_space kind space = false
+
+-- a type before a value: its own fault, then that of the space, then those of the value
+abbrev pub converted : W.Around → SlType → Option Space → ℕ → Found T.Expr → Found T.Expr
+converted g kind space line part =
+    if refuses part (λ t. refuses_space kind space || misfits (operations.Value (ops.Convert kind Current)) (t ∷ [])) then Err (T2, line) else
+    (space_of g kind space >>= λ s. part >>= λ t. applied (operations.Value (ops.Convert kind s)) line (t ∷ []))
+
+-- a type before three components
+abbrev pub tripled : W.Around → SlType → Option Space → ℕ → Found (List T.Expr) → Found T.Expr
+tripled g kind space line parts =
+    if refuses parts (misfits (operations.Value (ops.Triple kind Current))) then Err (T2, line) else
+    (space_of g kind space >>= λ s. parts >>= applied (operations.Value (ops.Triple kind s)) line)
+
+-- whether those values go into those formals
+abbrev pub fits : List Local → List T.Expr → Bool
+fits [] [] = true
+fits (f ∷ fs) (a ∷ rest) = takes f.kind (kind_of a) && fits fs rest
+fits _ _ = false
+
+-- a call of a function: T2 at its name, then the faults of its body, then those of the arguments
+abbrev pub called : Bool → ℕ → Callee → ℕ → Found (List T.Expr) → Found T.Expr
+called by_default k c line args =
+    if refuses args (λ ts. not (fits c.formals ts)) then Err (T2, line) else
+    (body_in by_default c >>= λ _. args >>= λ ts. Ok (T.call k (T.exprs ts) (node_type c.returns) line))
+
+-- a string that is written out, with its line; parentheses don't count
+abbrev pub literal_of : U.Expr → Option (List ℕ × ℕ)
+literal_of (U.string text line) = Some (text, line)
+literal_of (U.paren e line) = literal_of e
+literal_of _ = None
+
+abbrev pub literal_space : W.Around → ℕ → Option (List ℕ × ℕ) → Found SpaceName
+literal_space g line None = Err (T11, line)
+literal_space g line (Some s) = space_at s.1 (space_named g.kind g.default s.0)
+
+abbrev pub space_in : W.Around → ℕ → U.Expr → Found SpaceName
+space_in g line e = literal_space g line (literal_of e)
+
+-- the spaces from and into which `transform` and its like map; one alone is what they map into
+abbrev pub both_spaces : W.Around → ℕ → U.Expr → U.Expr → Found (SpaceName × SpaceName)
+both_spaces g line from into =
+    if is_some (literal_of into) then (space_in g line from >>= λ a. space_in g line into >>= λ b. Ok (a, b)) else Err (T11, line)
+
+abbrev pub spaces_of : W.Around → ℕ → List U.Expr → Found (SpaceName × SpaceName)
+spaces_of g line (into ∷ e ∷ []) = space_in g line into >>= λ s. Ok (Current, s)
+spaces_of g line (from ∷ into ∷ e ∷ []) = both_spaces g line from into
+spaces_of g line _ = Ok (Current, Current)
+
+-- an operation with the spaces that its arguments name; `faceforward` of two arguments reads Ng
+abbrev pub operation_in : W.Around → Operation → ℕ → List U.Expr → Found Operation
+operation_in g (operations.Value (ops.Transform a b)) line es = spaces_of g line es >>= λ s. Ok (operations.Value (ops.Transform s.0 s.1))
+operation_in g (operations.Value (ops.VTransform a b)) line es = spaces_of g line es >>= λ s. Ok (operations.Value (ops.VTransform s.0 s.1))
+operation_in g (operations.Value (ops.NTransform a b)) line es = spaces_of g line es >>= λ s. Ok (operations.Value (ops.NTransform s.0 s.1))
+operation_in g op line es = Ok op
+
+abbrev pub facing : List T.Expr → Operation
+facing (a ∷ b ∷ []) = operations.FaceForwardNg
+facing args = operations.Value ops.FaceForward
+
+abbrev pub by_count : Operation → List T.Expr → Operation
+by_count (operations.Value ops.FaceForward) args = facing args
+by_count op args = op
+
+-- what can't be called at that place: `depth` in a default, `noise` directly behind a type
+abbrev pub is_noise : Operation → Bool
+is_noise (operations.Value ops.Noise) = true
+is_noise _ = false
+
+abbrev pub is_barred : W.Around → Bool → Operation → Bool
+is_barred g behind op = (behind && is_noise op) || (g.default && not (is_constant op))
+
+-- whether an operation may stand there
+abbrev pub allowed : W.Around → Bool → Operation → ℕ → Found Bool
+allowed g behind op line =
+    if not (has_operation g.kind op) then Err (T6, line) else (if is_barred g behind op then Err (T11, line) else Ok true)
+
+-- the predefined normal, which a kind of shader without a surface and a parameter's default don't have
+abbrev pub lacks : W.Around → Operation → Bool
+lacks g operations.FaceForwardNg = g.default || not (has_surface g.kind)
+lacks g op = false
+
+-- no rule fits, or what would fit isn't there
+abbrev pub is_amiss : W.Around → Operation → List T.Expr → Bool
+is_amiss g op args = misfits (by_count op args) args || lacks g (by_count op args)
+
+-- a call of a built-in: its own faults, the lower code first, then those of the spaces, then those of the arguments
+abbrev pub operated : W.Around → Bool → ℕ → List U.Expr → Found (List T.Expr) → Operation → Found T.Expr
+operated g behind line es args op =
+    if refuses args (is_amiss g op) then Err (T2, line) else
+    (allowed g behind op line >>= λ _. operation_in g op line es >>= λ o. args >>= λ ts. applied (by_count o ts) line ts)
+
+abbrev pub built : W.Around → Bool → ℕ → List U.Expr → Found (List T.Expr) → Option Builtin → Found T.Expr
+built g behind line es args None = Err (T1, line)
+built g behind line es args (Some LeftOut) = Err (T11, line)
+built g behind line es args (Some (Plain op)) = operated g behind line es args op
+
+-- a function that calls itself
+abbrev pub calls_itself : List Local → ℕ → Found (List T.Expr) → Found T.Expr
+calls_itself formals line args = if refuses args (λ ts. not (fits formals ts)) then Err (T2, line) else Err (T7, line)
+
+-- a function hides a built-in of its name
+abbrev pub resolved : W.Around → Bool → List ℕ → ℕ → List U.Expr → Found (List T.Expr) → Option (ℕ × Callee) → Found T.Expr
+resolved g behind name line es args (Some c) = called g.default c.0 c.1 line args
+resolved g behind name line es args None = built g behind line es args (entry_of builtin_names name)
+
+abbrev pub call_with : Around → Bool → List ℕ → ℕ → List U.Expr → Found (List T.Expr) → Option (List Local) → Found T.Expr
+call_with g behind name line es args (Some formals) = calls_itself formals line args
+call_with g behind name line es args None = resolved g.at behind name line es args (callee_named name g.known)
+
+abbrev pub call_of : Around → Bool → List ℕ → ℕ → List U.Expr → Found (List T.Expr) → Found T.Expr
+call_of g behind name line es args = call_with g behind name line es args (formals_in name g.own)
+
+abbrev pub three : Found T.Expr → Found T.Expr → Found T.Expr → Found (List T.Expr)
+three x y z = x >>= λ a. y >>= λ b. z >>= λ c. Ok (a ∷ b ∷ c ∷ [])
+
+-- the arguments of a call as a list
+abbrev pub listed : U.Exprs → List U.Expr
+listed U.none = []
+listed (U.more e rest) = e ∷ listed rest
+
+-- `behind`: whether the expression stands directly behind a type
+abbrev mutual
+  pub typed_expr : Around → Bool → List Local → U.Expr → Found T.Expr
+  typed_expr g behind ls (U.number text line) = Ok (T.number (number_value text) line)
+  typed_expr g behind ls (U.string text line) = Ok (T.word text line)
+  typed_expr g behind ls (U.name name line) = named g.at name line (level_of name ls)
+  typed_expr g behind ls (U.call name args line) = call_of g behind name line (listed args) (typed_args g ls args)
+  typed_expr g behind ls (U.paren e line) = typed_expr g false ls e
+  typed_expr g behind ls (U.triple kind space x y z line) =
+      tripled g.at kind space line (three (typed_expr g false ls x) (typed_expr g false ls y) (typed_expr g false ls z))
+  typed_expr g behind ls (U.typed kind space e line) = converted g.at kind space line (typed_expr g true ls e)
+  typed_expr g behind ls (U.prefixed operator e line) = prefixed operator line (typed_expr g false ls e)
+  typed_expr g behind ls (U.chain row e rest) = typed_expr g false ls e >>= λ t. typed_links g ls t rest
+  typed_expr g behind ls (U.choice t a b line) =
+      typed_expr g false ls t >>= λ x. typed_expr g false ls a >>= λ y. typed_expr g false ls b >>= λ z. applied (operations.Value ops.Select) line (x ∷ y ∷ z ∷ [])
+
+  pub typed_args : Around → List Local → U.Exprs → Found (List T.Expr)
+  typed_args g ls U.none = Ok []
+  typed_args g ls (U.more e rest) = typed_expr g false ls e >>= λ t. typed_args g ls rest >>= λ ts. Ok (t ∷ ts)
+
+  -- a chain groups to the left: `t` is what stands before
+  pub typed_links : Around → List Local → T.Expr → U.Links → Found T.Expr
+  typed_links g ls t U.end = Ok t
+  typed_links g ls t (U.link operator line e rest) =
+      typed_expr g false ls e >>= λ s. applied (operation_of operator) line (t ∷ s ∷ []) >>= λ r. typed_links g ls r rest

@@ -1,0 +1,11 @@
+pub mod Found
+pub mod Names
+pub mod Predefined
+pub mod Rules
+pub mod Typed
+pub mod TypedView
+pub mod Scope
+pub mod Exprs
+pub mod Measures
+pub mod Views
+pub mod TypedExamples

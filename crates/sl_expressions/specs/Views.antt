@@ -1,0 +1,82 @@
+-- What the code holds, and what its answers say of the definitions.
+use Rattle.std.specs.Prelude.{◌≡◌, ℕ, List, [], ◌∷◌, ◌++◌, Vec, Option, option_map, Result, Ok, Err, map}
+use Rattle.std.specs.declared.alloc.Global.{Global}
+use Rattle.sl_expressions.specs.declared.faults.TypeFault.{TypeFault}
+use Rattle.sl_expressions.specs.declared.faults.TypeFault.TheVariants.{At, NoMemory}
+use Rattle.sl_expressions.specs.declared.places.Local.{Local}
+use Rattle.sl_expressions.specs.declared.places.Body.{Body}
+use Rattle.sl_expressions.specs.declared.places.Faulty.{Faulty}
+use Rattle.sl_expressions.specs.declared.places.Known.{Known}
+use Rattle.sl_expressions.specs.declared.places.Own.{Own}
+use Rattle.sl_expressions.specs.declared.places.Spot.{Spot}
+use Rattle.sl_expressions.specs.declared.places.Around.{Around}
+use Rattle.sl_ast.specs.WellTyped as W
+use Rattle.sl_ast.specs.declared.kinds.NodeType.{NodeType}
+use Rattle.sl_ast.specs.declared.operations.Operation.{Operation}
+use Rattle.std.specs.Borrow.{Bor}
+use Rattle.sl_expressions.specs.declared.typed.TypedExpr.{TypedExpr}
+use Rattle.sl_expressions.specs.declared.typed.TypedLink.{TypedLink}
+use Rattle.sl_expressions.specs.Found.{Found, ◌>>=◌}
+use Rattle.sl_expressions.specs.Exprs.{applied}
+use Rattle.sl_expressions.specs.Typed as T
+use Rattle.sl_expressions.specs.TypedView.{typed_of, tlink_of, tstmt_of}
+use Rattle.sl_expressions.specs.Scope as S
+
+-- what an answer says: its value or its fault is the one that the definition finds; want of memory says nothing
+abbrev pub Gives : {A B : Type 0} → (A → B) → Result A TypeFault → Found B → Type 0
+Gives view (Ok v) found = found ≡ Ok (view v)
+Gives view (Err (At code line)) found = found ≡ Err (code, line)
+Gives view (Err NoMemory) found = Unit {0}
+
+-- what an answer says where it holds the items of a vector
+abbrev pub GivesAll : {A B : Type 0} → (A → B) → Result (Vec A Global) TypeFault → Found (List B) → Type 0
+GivesAll view (Ok v) found = found ≡ Ok (map view v.items)
+GivesAll view (Err (At code line)) found = found ≡ Err (code, line)
+GivesAll view (Err NoMemory) found = Unit {0}
+
+abbrev pub local_of : Local → S.Local
+local_of l = record { uniform = l.uniform; kind = l.kind; name = l.name.now; line = l.line }
+
+-- a chain of operators behind what stands before
+abbrev pub chain_of : T.Expr → Vec TypedLink Global → T.Expr
+chain_of t links = T.chained t (map tlink_of links.items)
+
+-- expressions, and one more behind them
+abbrev pub one_more : Found (List T.Expr) → Found T.Expr → Found (List T.Expr)
+one_more before found = before >>= λ ts. found >>= λ t. Ok (ts ++ t ∷ [])
+
+-- an operator behind what stands before, from what is found of the operand behind it
+abbrev pub operated : Operation → ℕ → T.Expr → Found T.Expr → Found T.Expr
+operated operation line before operand = operand >>= λ t. applied operation line (before ∷ t ∷ [])
+
+-- what an answer says of the links behind a first operand: their chain, whose type it holds
+abbrev pub GivesLinks : Result NodeType TypeFault → T.Expr → List TypedLink → Found T.Expr → Type 0
+GivesLinks (Ok kind) first links found = (found ≡ Ok (T.chained first (map tlink_of links))) × (T.kind_of (T.chained first (map tlink_of links)) ≡ kind)
+GivesLinks (Err (At code line)) first links found = found ≡ Err (code, line)
+GivesLinks (Err NoMemory) first links found = Unit {0}
+
+abbrev pub found_of : ℕ × Local → ℕ × S.Local
+found_of l = (l.0, local_of l.1)
+
+abbrev pub stmts_of : Body → T.Body
+stmts_of b = record { stmts = T.stmts (map tstmt_of b.stmts); returned = b.returned; value = typed_of b.value }
+
+abbrev pub body_of : Result Body Faulty → Found T.Body
+body_of (Ok b) = Ok (stmts_of b)
+body_of (Err p) = Err (p.code, p.line)
+
+abbrev pub callee_of : Known → S.Callee
+callee_of k = record { name = k.name.now; formals = map local_of k.formals.items; returns = k.returns; body = body_of k.body; by_default = body_of k.by_default }
+
+abbrev pub own_of : Own → S.Own
+own_of o = record { name = o.name.now; formals = map local_of o.formals.now; returns = o.returns }
+
+abbrev pub spot_of : Spot → W.Around
+spot_of s = record { kind = s.kind; default = s.default; bare = s.bare; lit = s.lit; looped = s.looped }
+
+abbrev pub around_of : Around → S.Around
+around_of g = record { at = spot_of g.at; own = option_map own_of g.own; known = map callee_of g.known.now }
+
+-- a literal with its line
+abbrev pub literal_from : Option (Bor (List ℕ) × ℕ) → Option (List ℕ × ℕ)
+literal_from o = option_map (λ s. (s.0.now, s.1)) o

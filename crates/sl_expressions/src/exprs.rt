@@ -1,0 +1,219 @@
+// The typed trees of expressions.
+ghost use Rattle.std.specs.Prelude.{◌≡◌, Ok, false, map, option_map};
+ghost use Rattle.sl_ast.specs.Syntax as U;
+ghost use Rattle.sl_ast.specs.SyntaxView.{expr_of, link_of};
+ghost use Rattle.sl_expressions.specs.Exprs as spec;
+ghost use Rattle.sl_expressions.specs.Typed as T;
+ghost use Rattle.sl_expressions.specs.TypedView.{typed_of};
+ghost use Rattle.sl_expressions.specs.Views.{Gives, GivesAll, spot_of, around_of, local_of, found_of, chain_of};
+
+use crate::calls::call_of;
+use crate::faults::{TypeCode, TypeFault, fault};
+use crate::names::find;
+use crate::operations::{add_link, chained, chosen, converted, kind_of, prefixed, three, tripled};
+use crate::parts::push;
+use crate::places::{Around, Local, Spot};
+use crate::predefined::{is_own, is_read, predefined_names};
+use crate::rules::operation_of;
+use crate::scope::{Scope, place_of};
+use crate::typed::{TypedExpr, TypedLink};
+use fixed_math::{Num, Text};
+use rib_lex::{LexFault, Token, TokenKind, tokens};
+use sl_ast::{Expr, Link, Predefined, Variable};
+use std::alloc::Global;
+
+fn first_value(tokens: &[Token]) -> Num
+    ensures { result ≡ spec.first_of tokens.now }
+{
+    match tokens.first() {
+        Some(token) => match &token.kind {
+            TokenKind::Number(decimal) => decimal.num(),
+            _ => Num::sat(0),
+        },
+        None => Num::sat(0),
+    }
+}
+
+// The value of a number, as a scene's text has it.
+fn number_value(alloc: Global, text: &Text) -> Result<Num, TypeFault>
+    ensures { Gives (λ n. n) result (Ok (spec.number_value text.now)) }
+{
+    let bytes = text.as_str().as_bytes();
+    if bytes.len() > 16777216 {
+        return Err(TypeFault::NoMemory);
+    }
+    match tokens(alloc, bytes) {
+        Ok(tokens) => Ok(first_value(tokens.as_slice())),
+        Err(LexFault::NoMemory) => Err(TypeFault::NoMemory),
+        Err(LexFault::At { .. }) => Ok(Num::sat(0)),
+    }
+}
+
+fn number(alloc: Global, text: &Text, line: u32) -> Result<TypedExpr, TypeFault>
+    ensures { Gives typed_of result (Ok (T.number (spec.number_value text.now) line)) }
+{
+    let value = number_value(alloc, text)?;
+    Ok(TypedExpr::Number { value, line })
+}
+
+fn word(alloc: Global, text: &Text, line: u32) -> Result<TypedExpr, TypeFault>
+    ensures { Gives typed_of result (Ok (T.word text.now line)) }
+{
+    let text = text.copied(alloc)?;
+    Ok(TypedExpr::Word { text, line })
+}
+
+fn predefined_at(g: &Spot, line: u32, name: Option<Predefined>) -> Result<TypedExpr, TypeFault>
+    ensures { Gives typed_of result (spec.predefined_at (spot_of g.now) line name) }
+{
+    let Some(x) = name else {
+        return fault(TypeCode::T1, line);
+    };
+    if is_read(g, x) {
+        return Ok(TypedExpr::Variable {
+            variable: Variable::Predefined(x),
+            kind: x.kind().node_type(),
+            line,
+        });
+    }
+    if is_own(g, x) {
+        fault(TypeCode::T6, line)
+    } else {
+        fault(TypeCode::T1, line)
+    }
+}
+
+// A name in an expression.
+fn named(
+    g: &Spot,
+    name: &Text,
+    line: u32,
+    at: Option<(usize, Local<'_>)>,
+) -> Result<TypedExpr, TypeFault>
+    ensures { Gives typed_of result (spec.named (spot_of g.now) name.now line (option_map found_of at.entry)) }
+{
+    let Some((level, local)) = at else {
+        return predefined_at(g, line, find(predefined_names(), name));
+    };
+    Ok(TypedExpr::Variable {
+        variable: Variable::Level(place_of(level)?),
+        kind: local.kind.node_type(),
+        line,
+    })
+}
+
+/// The typed tree of an expression; `behind` says that it stands directly behind a type. The parts of one that holds several are
+/// all typed, and the node that they make gives the first of their faults.
+#[cycle(exprs)]
+pub fn expr(
+    e: &Expr,
+    alloc: Global,
+    g: &Around<'_, '_>,
+    behind: bool,
+    scope: &Scope<'_>,
+) -> Result<TypedExpr, TypeFault>
+    ensures { Gives typed_of result (spec.typed_expr (around_of g.now) behind (map local_of scope.now) (expr_of e.now)) }
+{
+    match e {
+        Expr::Number { text, line } => number(alloc, text, *line),
+        Expr::Str { text, line } => word(alloc, text, *line),
+        Expr::Name { name, line } => named(&g.at, name, *line, scope.level(name)),
+        Expr::Paren { inner, .. } => expr(inner, alloc, g, false, scope),
+        Expr::Prefixed {
+            operator,
+            operand,
+            line,
+        } => {
+            let operand = expr(operand, alloc, g, false, scope);
+            prefixed(alloc, *operator, *line, operand)
+        }
+        Expr::Chain { first, links, .. } => {
+            let first = expr(first, alloc, g, false, scope)?;
+            let links = typed_links(links.as_slice(), alloc, g, scope, &first);
+            chained(alloc, first, links)
+        }
+        Expr::Choice {
+            test,
+            first,
+            second,
+            line,
+        } => {
+            let test = expr(test, alloc, g, false, scope);
+            let first = expr(first, alloc, g, false, scope);
+            let second = expr(second, alloc, g, false, scope);
+            chosen(*line, three(alloc, test, first, second))
+        }
+        Expr::Triple {
+            kind,
+            space,
+            x,
+            y,
+            z,
+            line,
+        } => {
+            let x = expr(x, alloc, g, false, scope);
+            let y = expr(y, alloc, g, false, scope);
+            let z = expr(z, alloc, g, false, scope);
+            tripled(&g.at, *kind, space, *line, three(alloc, x, y, z))
+        }
+        Expr::Typed {
+            kind,
+            space,
+            value,
+            line,
+        } => {
+            let part = expr(value, alloc, g, true, scope);
+            converted(alloc, &g.at, *kind, space, *line, part)
+        }
+        Expr::Call { name, args, line } => {
+            let parts = exprs(args.as_slice(), alloc, g, scope);
+            call_of(g, behind, name, *line, args.as_slice(), parts)
+        }
+    }
+}
+
+// The typed trees of arguments.
+#[cycle(exprs)]
+#[tactic(auto, using(crate::proofs::Behind::args_step, crate::proofs::Behind::args_end))]
+pub fn exprs(
+    es: &[Expr],
+    alloc: Global,
+    g: &Around<'_, '_>,
+    scope: &Scope<'_>,
+) -> Result<Vec<TypedExpr>, TypeFault>
+    ensures { GivesAll typed_of result (spec.typed_args (around_of g.now) (map local_of scope.now) (U.exprs (map expr_of es.now))) }
+{
+    let mut before = Vec::new(alloc);
+    for e in es {
+        let value = expr(e, alloc, g, false, scope)?;
+        push(&mut before, value)?;
+    }
+    Ok(before)
+}
+
+// Operators behind a first operand.
+#[cycle(exprs)]
+fn typed_links(
+    links: &[Link],
+    alloc: Global,
+    g: &Around<'_, '_>,
+    scope: &Scope<'_>,
+    first: &TypedExpr,
+) -> Result<Vec<TypedLink>, TypeFault>
+    ensures { Gives (chain_of (typed_of first.now)) result (spec.typed_links (around_of g.now) (map local_of scope.now) (typed_of first.now) (U.links (map link_of links.now))) }
+{
+    let mut kind = kind_of(first);
+    let mut typed = Vec::new(alloc);
+    for link in links {
+        let operand = expr(&link.operand, alloc, g, false, scope);
+        let next = add_link(
+            &mut typed,
+            operation_of(link.operator),
+            link.line,
+            kind,
+            operand,
+        )?;
+        kind = next;
+    }
+    Ok(typed)
+}
