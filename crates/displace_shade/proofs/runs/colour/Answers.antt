@@ -15,11 +15,11 @@ use Rattle.displace_shade.proofs.BoundLaws.{bound_count, bound_names, bound_valu
 use Rattle.displace_shade.proofs.LampLaws.{lamps_answer}
 use Rattle.displace_shade.proofs.runs.colour.Goals as goal
 
-pub surface_given-requires-clause-named : goal.surface_given-requires-clause-named
-surface_given-requires-clause-named c = bound_names c.args.bound.now c.requires.runs
+pub surface_rows-requires-clause-named : goal.surface_rows-requires-clause-named
+surface_rows-requires-clause-named c = bound_names c.args.bound.now c.requires.runs
 
-pub surface_given-requires-clause-counted : goal.surface_given-requires-clause-counted
-surface_given-requires-clause-counted c = bound_count c.args.bound.now c.requires.runs
+pub surface_rows-requires-clause-counted : goal.surface_rows-requires-clause-counted
+surface_rows-requires-clause-counted c = bound_count c.args.bound.now c.requires.runs
 
 pub surface_values-requires-clause-named : goal.surface_values-requires-clause-named
 surface_values-requires-clause-named c = bound_names c.args.bound.now c.requires.runs

@@ -13,11 +13,11 @@ use Rattle.displace_shade.proofs.Laws.{volume_law, volume_shapes, volume_long}
 use Rattle.displace_shade.proofs.BoundLaws.{bound_count, bound_names, bound_values, bound_rows}
 use Rattle.displace_shade.proofs.runs.dim.Goals as goal
 
-pub volume_given-requires-clause-named : goal.volume_given-requires-clause-named
-volume_given-requires-clause-named c = bound_names c.args.bound.now c.requires.runs
+pub volume_rows-requires-clause-named : goal.volume_rows-requires-clause-named
+volume_rows-requires-clause-named c = bound_names c.args.bound.now c.requires.runs
 
-pub volume_given-requires-clause-counted : goal.volume_given-requires-clause-counted
-volume_given-requires-clause-counted c = bound_count c.args.bound.now c.requires.runs
+pub volume_rows-requires-clause-counted : goal.volume_rows-requires-clause-counted
+volume_rows-requires-clause-counted c = bound_count c.args.bound.now c.requires.runs
 
 pub uniform_values-requires-clause-named : goal.uniform_values-requires-clause-named
 uniform_values-requires-clause-named c = bound_names c.args.bound.now c.requires.runs

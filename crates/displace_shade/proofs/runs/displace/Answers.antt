@@ -10,11 +10,11 @@ use Rattle.displace_shade.proofs.Laws.{displace_law, displace_shapes, displace_l
 use Rattle.displace_shade.proofs.BoundLaws.{bound_count, bound_names, bound_values, bound_rows}
 use Rattle.displace_shade.proofs.runs.displace.Goals as goal
 
-pub displacement_given-requires-clause-named : goal.displacement_given-requires-clause-named
-displacement_given-requires-clause-named c = bound_names c.args.bound.now c.requires.runs
+pub displacement_rows-requires-clause-named : goal.displacement_rows-requires-clause-named
+displacement_rows-requires-clause-named c = bound_names c.args.bound.now c.requires.runs
 
-pub displacement_given-requires-clause-counted : goal.displacement_given-requires-clause-counted
-displacement_given-requires-clause-counted c = bound_count c.args.bound.now c.requires.runs
+pub displacement_rows-requires-clause-counted : goal.displacement_rows-requires-clause-counted
+displacement_rows-requires-clause-counted c = bound_count c.args.bound.now c.requires.runs
 
 pub surface_values-requires-clause-named : goal.surface_values-requires-clause-named
 surface_values-requires-clause-named c = bound_names c.args.bound.now c.requires.runs
