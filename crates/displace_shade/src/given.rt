@@ -1,18 +1,16 @@
 // What runs of shaders are given.
 ghost use Rattle.std.specs.Prelude.{◌≡◌, ◌≤◌, ◌++◌, true, length, IfOk};
 ghost use Rattle.sl_ast.specs.TreeView.{tree_of};
-ghost use Rattle.displace_shade.specs.Diced.{IsSized, IsColoured, ArePlaces, AreLong};
+ghost use Rattle.grid_variables.specs.Places.{IsSized, IsColoured, ArePlaces, AreLong};
 ghost use Rattle.displace_shade.specs.Given.{param_rows, with_points, with_sights, with_parameters, with_look, with_rest, surface_rows as surface_list, displacement_rows as displacement_list, volume_rows as volume_list};
 
 use crate::arguments::params_given;
 use crate::bound::BoundShader;
-use crate::leaf::Leaf;
-use crate::places::Places;
 use crate::rows::{push_numbers, push_triples};
-use crate::variables::Variables;
 use bumpalo::Bump;
 use bumpalo::collections::into_bump_slice;
 use fixed_math::{NoMemory, Num};
+use grid_variables::{Leaf, Places, Variables};
 use std::alloc::Allocator;
 
 /// Appends points and normals.

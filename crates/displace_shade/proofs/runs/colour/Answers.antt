@@ -5,11 +5,12 @@ use Rattle.grid_machine.specs.Run.{row_length, rows_of, written_names, lines_giv
 use Rattle.dice.proofs.Directions.{cells_from}
 use Rattle.mask_codegen.specs.Correct.{Answers}
 use Rattle.displace_shade.specs.Lamps.{lamp_light, lamp_asked}
-use Rattle.displace_shade.specs.Points.{columns, rows}
-use Rattle.displace_shade.specs.Variables.{values_at}
+use Rattle.grid_variables.specs.Points.{columns, rows}
+use Rattle.grid_variables.specs.Variables.{values_at}
 use Rattle.displace_shade.specs.Given.{param_rows}
-use Rattle.displace_shade.specs.Diced.{point_count, triple_in}
-use Rattle.displace_shade.proofs.Over.{over_long}
+use Rattle.grid_variables.specs.Places.{point_count}
+use Rattle.displace_shade.specs.Diced.{triple_in}
+use Rattle.grid_variables.proofs.Over.{over_long}
 use Rattle.displace_shade.proofs.Laws.{surface_law, look_shapes, look_long}
 use Rattle.displace_shade.proofs.BoundLaws.{bound_count, bound_names, bound_values, bound_rows}
 use Rattle.displace_shade.proofs.LampLaws.{lamps_answer}
