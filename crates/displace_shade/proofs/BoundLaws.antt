@@ -33,25 +33,25 @@ use Rattle.displace_shade.specs.Sets.{AreValuesOf, FitsUse, FitUses, is_of_kind}
 use Rattle.mask_codegen.specs.Compiled.{Seen}
 use Rattle.mask_codegen.proofs.ParamTexts.{is_rowable, params_rowable}
 use Rattle.displace_shade.specs.Shaded.{bound_with}
-use Rattle.displace_shade.specs.Points.{Leaf, normal_of, u_at, v_at, dpdu, dpdv}
-use Rattle.displace_shade.specs.Variables.{s_at, t_at, cs_at, os_at, values_at}
+use Rattle.grid_variables.specs.Points.{Leaf, normal_of, u_at, v_at, dpdu, dpdv}
+use Rattle.grid_variables.specs.Variables.{s_at, t_at, cs_at, os_at, values_at}
 use Rattle.displace_shade.specs.Bindings.{FitVariables}
 use Rattle.grid_machine.specs.Run.{row_length, begun, lines_given, Leaves}
 use Rattle.displace_shade.specs.Rows.{AreRows, AreRowable, values_of, slot_of}
 use Rattle.displace_shade.specs.Given.{param_rows}
-use Rattle.displace_shade.specs.Diced.{point_count, over, ArePlaces, AreLong}
+use Rattle.grid_variables.specs.Places.{point_count, over, ArePlaces, AreLong}
 use Rattle.displace_shade.specs.Lamps.{lamp_asked}
 use Rattle.displace_shade.specs.Shop.{Runs}
 use Rattle.displace_shade.specs.declared.bound.BoundShader.{BoundShader}
 use Rattle.displace_shade.specs.declared.lamps.Lamp.{Lamp}
-use Rattle.displace_shade.specs.declared.places.Places.{Places}
+use Rattle.grid_variables.specs.declared.places.Places.{Places}
 use Rattle.sl_meaning.specs.Lowered.{slots}
 use Rattle.displace_shade.proofs.Begun.{values_counted, values_shaped}
 use Rattle.displace_shade.proofs.Filled.{no_rows}
 use Rattle.displace_shade.proofs.GivenRows.{params_rows}
 use Rattle.displace_shade.proofs.Ran.{AreValues}
 use Rattle.displace_shade.proofs.Binding.{values_fit, values_steady}
-use Rattle.displace_shade.proofs.Over.{over_long, over_all}
+use Rattle.grid_variables.proofs.Over.{over_long, over_all}
 
 word_is_string : (k : SlType) → shape_of k ≡ shapes.Word → is_string k ≡ true
 word_is_string types.Str h = refl
@@ -235,10 +235,6 @@ of_light written.Light h = refl
 of_light written.Surface h = absurd (false≢true h)
 of_light written.Displacement h = absurd (false≢true h)
 of_light written.Volume h = absurd (false≢true h)
-
-pub if_ok : {A E : Type 0} (r : Result A E) (P Q : A → Type 0) → ((x : A) → P x → Q x) → IfOk r P → IfOk r Q
-if_ok (Ok x) P Q f h = f x h
-if_ok (Err e) P Q f h = h
 
 pub some_is : {A : Type 0} (a b : A) → Some a ≡ Some b → a ≡ b
 some_is a b e = ap (λ o. unwrap_or o a) e

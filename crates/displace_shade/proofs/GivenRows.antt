@@ -16,16 +16,17 @@ use Rattle.builtins.specs.declared.shape.Shape.TheVariants as shapes
 use Rattle.builtins.specs.Shapes.{shape}
 use Rattle.grid_code.specs.declared.slot.Slot.{Slot}
 use Rattle.sl_meaning.specs.Runs.{Names}
-use Rattle.displace_shade.specs.Points.{Leaf, normal_of, u_at, v_at, dpdu, dpdv}
-use Rattle.displace_shade.specs.Variables.{s_at, t_at, cs_at, os_at, spread, bound_variable, text_of, value_by, value_or, values_at}
+use Rattle.grid_variables.specs.Points.{Leaf, normal_of, u_at, v_at, dpdu, dpdv}
+use Rattle.grid_variables.specs.Variables.{s_at, t_at, cs_at, os_at, spread, bound_variable, text_of, value_by, value_or, values_at}
 use Rattle.grid_machine.specs.Run.{row_length, same_class}
 use Rattle.displace_shade.specs.Rows.{HoldList, heights, AreRows, AreRowable, row_of, triple_rows, value_rows, values_of, varying_values}
-use Rattle.displace_shade.specs.Diced.{point_count, over, Hold, ArePlaces}
+use Rattle.grid_variables.specs.Places.{point_count, over, ArePlaces}
+use Rattle.displace_shade.specs.Diced.{Hold}
 use Rattle.displace_shade.specs.Given.{rows_by, rows_or, param_rows, with_points, with_sights, with_parameters, with_look, with_rest, surface_rows, displacement_rows, volume_rows}
-use Rattle.displace_shade.specs.declared.places.Places.{Places}
-use Rattle.displace_shade.specs.declared.variables.Variables.{Variables}
+use Rattle.grid_variables.specs.declared.places.Places.{Places}
+use Rattle.grid_variables.specs.declared.variables.Variables.{Variables}
 use Rattle.displace_shade.proofs.Filled.{number_rows, triples_rows, value_more_rows}
-use Rattle.displace_shade.proofs.Over.{over_at, over_long}
+use Rattle.grid_variables.proofs.Over.{over_at, over_long}
 
 same_given : (c : ℕ) (g h : ℕ → List Value) (rows : List ℤ) → ((i : ℕ) → i < c → g i ≡ h i) → AreRows c g rows → AreRows c h rows
 same_given c g h rows e r =

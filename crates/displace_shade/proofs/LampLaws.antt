@@ -25,7 +25,7 @@ use Rattle.mask_codegen.proofs.LightAnswers.{dim, light_answers}
 use Rattle.mask_codegen.proofs.LightAnswers as tree_answers
 use Rattle.grid_machine.specs.Asked.{IsLight, answer_at, begun_at, asked}
 use Rattle.displace_shade.specs.Lamps.{IsLamp, lamp_light, lamp_asked}
-use Rattle.displace_shade.specs.Points.{Leaf}
+use Rattle.grid_variables.specs.Points.{Leaf}
 use Rattle.displace_shade.specs.Rows.{slot_of}
 use Rattle.displace_shade.specs.Sets.{SetValue}
 use Rattle.displace_shade.specs.Shaded.{Bound, bound_at, light_spaces, light_of, with_light, lights_from}

@@ -30,14 +30,15 @@ use Rattle.sl_meaning.specs.Environment.{zero_value}
 use Rattle.sl_meaning.specs.Runs.{Names, ran}
 use Rattle.mask_codegen.specs.Compiled.{IsCodeOf}
 use Rattle.core_codegen.specs.Correct.{Answers}
-use Rattle.displace_shade.specs.Points.{Leaf, columns, rows, lines}
+use Rattle.grid_variables.specs.Points.{Leaf, columns, rows, lines}
 use Rattle.displace_shade.specs.Shaded.{Bound, spaces_of, around}
 use Rattle.grid_machine.specs.Run.{row_length, height, rows_of, same_class, params_of, step_names, uniform_inputs, varying_inputs, begun, lines_given, Leaves}
 use Rattle.displace_shade.specs.Rows.{heights, AreRows, HoldNames, values_of, written_order, uniform_values, varying_values, slot_of}
-use Rattle.displace_shade.specs.Diced.{point_count, over, triple_in, names_of, Hold, IsSized, ArePlaces}
+use Rattle.grid_variables.specs.Places.{point_count, over, IsSized, ArePlaces}
+use Rattle.displace_shade.specs.Diced.{triple_in, names_of, Hold}
 use Rattle.displace_shade.specs.Given.{surface_rows, displacement_rows}
-use Rattle.displace_shade.specs.declared.places.Places.{Places}
-use Rattle.displace_shade.specs.declared.variables.Variables.{Variables}
+use Rattle.grid_variables.specs.declared.places.Places.{Places}
+use Rattle.grid_variables.specs.declared.variables.Variables.{Variables}
 use Rattle.displace_shade.proofs.Begun.{values_counted, values_shaped}
 use Rattle.displace_shade.proofs.Looks.{Fit, Paired, shape_of_reg}
 use Rattle.displace_shade.proofs.Starts.{inputs_fit, params_paired}

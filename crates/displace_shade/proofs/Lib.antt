@@ -1,11 +1,9 @@
-pub mod Passing
 pub mod Begun
 pub mod Looks
 pub mod Starts
 pub mod Ran
 pub mod Filled
-pub mod Bounded
-pub mod Over
+pub mod Raws
 pub mod Params
 pub mod Dicing
 pub mod Stages

@@ -7,8 +7,8 @@ use Rattle.grid_code.specs.declared.slot.Slot.{Slot}
 use Rattle.grid_machine.specs.Run.{same_class}
 use Rattle.sl_ast.specs.declared.kinds.SlType.TheVariants.{Float}
 use Rattle.sl_ast.specs.Typed.{Local}
-use Rattle.displace_shade.specs.Points.{Leaf}
-use Rattle.displace_shade.specs.Variables.{bound_variable, value_or, values_at}
+use Rattle.grid_variables.specs.Points.{Leaf}
+use Rattle.grid_variables.specs.Variables.{bound_variable, value_or, values_at}
 use Rattle.displace_shade.specs.Rows.{values_of}
 use Rattle.displace_shade.specs.Given.{rows_or, param_rows}
 

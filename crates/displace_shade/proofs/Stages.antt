@@ -20,14 +20,16 @@ use Rattle.sl_meaning.specs.Environment.{Around}
 use Rattle.sl_meaning.specs.Runs.{Names, ran}
 use Rattle.dice.specs.declared.diced.GridRef.{GridRef}
 use Rattle.displace_shade.specs.Sets.{SetValue}
-use Rattle.displace_shade.specs.Points.{Leaf, columns, rows, sight, lines}
-use Rattle.displace_shade.specs.Shaded.{moved, placed, opacity, GridValue, shaded_names, shaded}
+use Rattle.grid_variables.specs.Points.{Leaf, columns, rows, sight, lines}
+use Rattle.grid_variables.specs.Kept.{moved, opacity}
+use Rattle.displace_shade.specs.Shaded.{placed, GridValue, shaded_names, shaded}
 use Rattle.grid_machine.specs.Run.{row_length}
 use Rattle.displace_shade.specs.Rows.{HoldNames, written_order}
-use Rattle.displace_shade.specs.Diced.{point_count, over, triple_in, names_of, Hold, IsSized, grid_value}
-use Rattle.displace_shade.specs.declared.variables.Variables.{Variables}
+use Rattle.grid_variables.specs.Places.{point_count, over, IsSized}
+use Rattle.displace_shade.specs.Diced.{triple_in, names_of, Hold, grid_value}
+use Rattle.grid_variables.specs.declared.variables.Variables.{Variables}
 use Rattle.displace_shade.proofs.Begun.{AreNames}
-use Rattle.displace_shade.proofs.Over.{over_at, over_all, over_long}
+use Rattle.grid_variables.proofs.Over.{over_at, over_all, over_long}
 
 -- ---- they are values of their shapes, and the uniform ones are alike
 of_shapes : (l : Leaf) (d : Variables) (i : ℕ) (p : Predefined) → shape (names_of l d i p) ≡ shape_of (name_type p)

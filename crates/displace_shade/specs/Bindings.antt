@@ -9,7 +9,7 @@ use Rattle.sl_ast.specs.declared.kinds.SlType.{SlType}
 use Rattle.sl_ast.specs.declared.kinds.SlType.TheVariants as types
 use Rattle.sl_ast.specs.Typed.{Local}
 use Rattle.displace_shade.specs.Sets.{SetValue}
-use Rattle.displace_shade.specs.Variables.{sets_predefined}
+use Rattle.grid_variables.specs.Variables.{sets_predefined}
 use Rattle.displace_shade.specs.Shaded.{Bound, bound_at}
 
 -- the kind of a variable that a parameter of that type takes

@@ -17,9 +17,10 @@ use Rattle.builtins.specs.Triples.{each_two}
 use Rattle.builtins.specs.Values.{triple_of}
 use Rattle.scene_state.specs.declared.uses.ShaderUse.{ShaderUse}
 use Rattle.displace_shade.specs.Sets.{SetValue}
-use Rattle.displace_shade.specs.Points.{Leaf}
-use Rattle.displace_shade.specs.Variables.{cs_at, os_at}
-use Rattle.displace_shade.specs.Shaded.{Bound, bound_at, opacity, shaded_names}
+use Rattle.grid_variables.specs.Points.{Leaf}
+use Rattle.grid_variables.specs.Variables.{cs_at, os_at}
+use Rattle.displace_shade.specs.Shaded.{Bound, bound_at, shaded_names}
+use Rattle.grid_variables.specs.Kept.{opacity}
 
 -- the node of that number, on the first line
 abbrev at : ℕ → Place

@@ -9,12 +9,12 @@ use Rattle.scene_state.specs.Scene.{VariableValue}
 use Rattle.sl_ast.specs.declared.typed.Value.{Value}
 use Rattle.sl_ast.specs.Typed.{Local}
 use Rattle.grid_code.specs.declared.slot.Slot.{Slot}
-use Rattle.displace_shade.specs.Points.{Leaf}
-use Rattle.displace_shade.specs.Variables.{spread, bound_variable}
+use Rattle.grid_variables.specs.Points.{Leaf}
+use Rattle.grid_variables.specs.Variables.{spread, bound_variable}
 use Rattle.displace_shade.specs.Rows.{row_of, triple_rows, value_rows}
-use Rattle.displace_shade.specs.Diced.{point_count, over}
-use Rattle.displace_shade.specs.declared.places.Places.{Places}
-use Rattle.displace_shade.specs.declared.variables.Variables.{Variables}
+use Rattle.grid_variables.specs.Places.{point_count, over}
+use Rattle.grid_variables.specs.declared.places.Places.{Places}
+use Rattle.grid_variables.specs.declared.variables.Variables.{Variables}
 
 -- a variable's value at all points
 abbrev pub rows_by : Kind → List Vec3 → List ℤ

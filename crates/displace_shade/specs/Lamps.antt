@@ -7,7 +7,7 @@ use Rattle.builtins.specs.Differences.{Lines}
 use Rattle.builtins.specs.Lights.{Light}
 use Rattle.grid_code.specs.Masked.{Asked}
 use Rattle.grid_machine.specs.Asked.{asked}
-use Rattle.displace_shade.specs.Points.{Leaf}
+use Rattle.grid_variables.specs.Points.{Leaf}
 use Rattle.displace_shade.specs.Shaded.{light_spaces, light_of}
 use Rattle.displace_shade.specs.Shop.{bound_value, Runs}
 use Rattle.displace_shade.specs.declared.lamps.Lamp.{Lamp}

@@ -1,6 +1,4 @@
 pub mod Sets
-pub mod Points
-pub mod Variables
 pub mod Shaded
 pub mod Bindings
 pub mod Rows

@@ -1,23 +1,40 @@
 -- The shaded grid of a leaf: displacement, surface and volume, one after another, each over all points (Cook, Carpenter, Catmull 1987).
-use Rattle.std.specs.Prelude.{◌≡◌, refl, ℕ, ◌*◌, ℤ, pos, neg_ℤ, ◌+ℤ◌, ◌-ℤ◌, List, [], ◌∷◌, map, Option, Some, None, slice_index_or, slice_get}
+use Rattle.std.specs.Prelude.{ℕ, ◌*◌, List, [], ◌∷◌, map, Option, Some, None, slice_index_or, slice_get}
 use Rattle.std.specs.List.{range_with_len}
-use Rattle.std.specs.Int.{int_max, int_min}
 use Rattle.fixed_math.specs.declared.vec3.Vec3.{Vec3}
 use Rattle.transforms.specs.Map.{Map}
 use Rattle.transforms.specs.declared.spaces.Spaces.{Spaces}
 use Rattle.scene_state.specs.declared.uses.ShaderUse.{ShaderUse}
 use Rattle.sl_ast.specs.declared.kinds.Predefined.TheVariants as names
 use Rattle.sl_ast.specs.declared.typed.Value.{Value}
-use Rattle.sl_ast.specs.declared.typed.Value.TheVariants.{Triple}
+use Rattle.sl_ast.specs.declared.typed.Value.TheVariants.{Number, Triple}
 use Rattle.sl_ast.specs.Typed.{Tree}
 use Rattle.builtins.specs.Lights.{Light}
-use Rattle.builtins.specs.Triples.{each, each_two}
 use Rattle.builtins.specs.Values.{triple_of}
 use Rattle.sl_meaning.specs.Environment.{Around}
-use Rattle.sl_meaning.specs.Runs.{Names, ran, light_answer}
+use Rattle.sl_meaning.specs.Runs.{Names, nothing, ran, light_answer}
 use Rattle.displace_shade.specs.Sets.{SetValue}
-use Rattle.displace_shade.specs.Points.{Leaf, columns, rows, lines, sight}
-use Rattle.displace_shade.specs.Variables.{values_at, diced_names}
+use Rattle.grid_variables.specs.Points.{Leaf, columns, rows, point_at, u_at, v_at, normal_of, sight, lines, dpdu, dpdv}
+use Rattle.grid_variables.specs.Variables.{s_at, t_at, cs_at, os_at, n_at, values_at}
+use Rattle.grid_variables.specs.Kept.{moved, opacity}
+
+-- the variables at place i before any shader runs
+abbrev pub diced_names : Leaf → ℕ → Names
+diced_names l i names.P = Triple (point_at l i)
+diced_names l i names.N = Triple (n_at l i)
+diced_names l i names.Ng = Triple (normal_of l i)
+diced_names l i names.I = Triple (sight l.camera (point_at l i))
+diced_names l i names.U = Number (u_at l i)
+diced_names l i names.V = Number (v_at l i)
+diced_names l i names.Du = Number (lines l).du
+diced_names l i names.Dv = Number (lines l).dv
+diced_names l i names.S = Number (s_at l i)
+diced_names l i names.T = Number (t_at l i)
+diced_names l i names.Cs = Triple (cs_at l i)
+diced_names l i names.Os = Triple (os_at l i)
+diced_names l i names.DPdu = Triple (dpdu l i)
+diced_names l i names.DPdv = Triple (dpdv l i)
+diced_names l i name = nothing name
 
 -- the shader of a use with what it is bound to and its space
 pub record Bound : Type 0 where
@@ -66,13 +83,6 @@ abbrev pub shaded_by : Leaf → Option Bound → List (Vec3 → Light) → (ℕ 
 shaded_by l None lights before = before
 shaded_by l (Some b) lights before = ran b.tree (around l b lights) (values_at l b.tree.params b.values) before
 
--- a coordinate moves no further than the bound
-abbrev pub kept_near : ℤ → ℤ → ℤ → ℤ
-kept_near bound old new = int_max (old -ℤ bound) (int_min new (old +ℤ bound))
-
-abbrev pub moved : ℤ → Vec3 → Vec3 → Vec3
-moved bound old new = each_two (kept_near bound) old new
-
 -- behind the displacement: points within the bound of their old places, and seen from there
 abbrev pub placed : Leaf → Names → Names → Names
 placed l old new names.P = Triple (moved l.prim.bound (triple_of (old names.P)) (triple_of (new names.P)))
@@ -81,13 +91,6 @@ placed l old new name = new name
 
 abbrev pub displaced : Leaf → Option Bound → ℕ → Names
 displaced l b i = placed l (diced_names l i) (shaded_by l b [] (diced_names l) i)
-
--- opacities are put into 0 to 1
-abbrev pub share : ℤ → ℤ
-share x = int_max (pos 0) (int_min x (pos 65536))
-
-abbrev pub opacity : Vec3 → Vec3
-opacity o = each share o
 
 -- the variables behind all three
 abbrev pub shaded_names : Leaf → SetValue → List ShaderUse → ℕ → Names
@@ -118,25 +121,3 @@ shaded l s uses =
       colours = at_points l (λ i. triple_of (behind i names.Ci));
       opacities = at_points l (λ i. opacity (triple_of (behind i names.Oi)));
     }
-
--- worked: displacement within the bound, past it on both sides, and without any; opacities below, within and above their range
-abbrev within_the_bound : kept_near (pos 3) (pos 10) (pos 12) ≡ pos 12
-within_the_bound = refl
-
-abbrev past_the_bound : kept_near (pos 3) (pos 10) (pos 20) ≡ pos 13
-past_the_bound = refl
-
-abbrev past_it_downwards : kept_near (pos 3) (pos 1) (neg_ℤ (pos 20)) ≡ neg_ℤ (pos 2)
-past_it_downwards = refl
-
-abbrev with_no_bound : kept_near (pos 0) (pos 10) (pos 12) ≡ pos 10
-with_no_bound = refl
-
-abbrev less_than_none : share (neg_ℤ (pos 1)) ≡ pos 0
-less_than_none = refl
-
-abbrev half_of_all : share (pos 32768) ≡ pos 32768
-half_of_all = refl
-
-abbrev more_than_all : share (pos 65537) ≡ pos 65536
-more_than_all = refl

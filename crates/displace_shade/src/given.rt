@@ -1,18 +1,16 @@
 // What runs of shaders are given.
 ghost use Rattle.std.specs.Prelude.{◌≡◌, ◌≤◌, ◌++◌, true, length, IfOk};
 ghost use Rattle.sl_ast.specs.TreeView.{tree_of};
-ghost use Rattle.displace_shade.specs.Diced.{AreLong};
+ghost use Rattle.grid_variables.specs.Places.{IsSized, IsColoured, ArePlaces, AreLong};
 ghost use Rattle.displace_shade.specs.Given.{param_rows, with_points, with_sights, with_parameters, with_look, with_rest, surface_rows as surface_list, displacement_rows as displacement_list, volume_rows as volume_list};
 
 use crate::arguments::params_given;
 use crate::bound::BoundShader;
-use crate::leaf::Leaf;
-use crate::places::Places;
 use crate::rows::{push_numbers, push_triples};
-use crate::variables::Variables;
 use bumpalo::Bump;
 use bumpalo::collections::into_bump_slice;
 use fixed_math::{NoMemory, Num};
+use grid_variables::{Leaf, Places, Variables};
 use std::alloc::Allocator;
 
 /// Appends points and normals.
@@ -89,19 +87,16 @@ pub(crate) fn surface_rows<'a>(
     arena: &'a Bump,
     leaf: &Leaf,
     bound: &BoundShader,
-    points: usize,
     places: &Places,
     variables: &Variables,
 ) -> Result<&'a [Num], NoMemory>
-    requires few { points ≤ 289 }
     requires named { length (tree_of bound.now.compiled.now.tree).params ≡ length bound.now.compiled.now.code.params }
     requires counted { length bound.now.values.now ≡ length bound.now.compiled.now.code.params }
-    requires points { length variables.now.points.now ≡ points }
-    requires normals { length variables.now.normals.now ≡ points }
-    requires sights { length variables.now.sights.now ≡ points }
-    requires places { AreLong points places.now }
+    requires places { ArePlaces leaf.now places.now }
+    requires sized { IsSized leaf.now variables.now }
     ensures { IfOk result (λ rows. rows.now ≡ surface_list (param_rows leaf.now (tree_of bound.now.compiled.now.tree).params bound.now.compiled.now.code.params bound.now.values.now) places.now variables.now) }
 {
+    let points = leaf.point_count();
     let mut rows = params_given(arena, leaf, bound)?;
     push_points(&mut rows, variables)?;
     push_rest(&mut rows, points, places, variables)?;
@@ -113,19 +108,16 @@ pub(crate) fn displacement_rows<'a>(
     arena: &'a Bump,
     leaf: &Leaf,
     bound: &BoundShader,
-    points: usize,
     places: &Places,
     variables: &Variables,
 ) -> Result<&'a [Num], NoMemory>
-    requires few { points ≤ 289 }
     requires named { length (tree_of bound.now.compiled.now.tree).params ≡ length bound.now.compiled.now.code.params }
     requires counted { length bound.now.values.now ≡ length bound.now.compiled.now.code.params }
-    requires points { length variables.now.points.now ≡ points }
-    requires normals { length variables.now.normals.now ≡ points }
-    requires sights { length variables.now.sights.now ≡ points }
-    requires places { AreLong points places.now }
+    requires places { ArePlaces leaf.now places.now }
+    requires sized { IsSized leaf.now variables.now }
     ensures { IfOk result (λ rows. rows.now ≡ displacement_list (param_rows leaf.now (tree_of bound.now.compiled.now.tree).params bound.now.compiled.now.code.params bound.now.values.now) places.now variables.now) }
 {
+    let points = leaf.point_count();
     let mut rows = params_given(arena, leaf, bound)?;
     push_rest(&mut rows, points, places, variables)?;
     push_points(&mut rows, variables)?;
@@ -137,18 +129,15 @@ pub(crate) fn volume_rows<'a>(
     arena: &'a Bump,
     leaf: &Leaf,
     bound: &BoundShader,
-    points: usize,
     variables: &Variables,
 ) -> Result<&'a [Num], NoMemory>
-    requires few { points ≤ 289 }
     requires named { length (tree_of bound.now.compiled.now.tree).params ≡ length bound.now.compiled.now.code.params }
     requires counted { length bound.now.values.now ≡ length bound.now.compiled.now.code.params }
-    requires points { length variables.now.points.now ≡ points }
-    requires sights { length variables.now.sights.now ≡ points }
-    requires colours { length variables.now.colours.now ≡ points }
-    requires opacities { length variables.now.opacities.now ≡ points }
+    requires sized { IsSized leaf.now variables.now }
+    requires coloured { IsColoured leaf.now variables.now }
     ensures { IfOk result (λ rows. rows.now ≡ volume_list (param_rows leaf.now (tree_of bound.now.compiled.now.tree).params bound.now.compiled.now.code.params bound.now.values.now) variables.now) }
 {
+    let _points = leaf.point_count();
     let mut rows = params_given(arena, leaf, bound)?;
     push_triples(&mut rows, variables.points)?;
     push_triples(&mut rows, variables.sights)?;

@@ -8,13 +8,13 @@ ghost use Rattle.displace_shade.specs.Shop.{set_value, bound_value};
 ghost use Rattle.displace_shade.specs.Lamps.{IsLamp, lamp_light};
 
 use crate::bound::{BoundShader, bound_at};
-use crate::leaf::Leaf;
 use crate::set::ShaderSet;
 use bumpalo::Bump;
 use bumpalo::collections::into_bump_slice;
 use fixed_math::NoMemory;
 use grid_code::Code;
 use grid_machine::Lights;
+use grid_variables::Leaf;
 use scene_state::ShaderUse;
 use sl_ast::Value;
 use transforms::{Affine, Spaces};

@@ -1,29 +1,24 @@
 // The shaded grid of a leaf: its three shaders in turn.
-ghost use Rattle.std.specs.Prelude.{◌≡◌, ℕ, [], All, map, length, get_or, IfOk};
-ghost use Rattle.fixed_math.specs.Axes.{origin};
+ghost use Rattle.std.specs.Prelude.{◌≡◌, ℕ, [], All, map, IfOk};
 ghost use Rattle.scene_state.specs.Scene.{IsUse, IsSomeUse, HasUses};
 ghost use Rattle.scene_state.specs.declared.uses.ShaderKind.TheVariants as requested;
 ghost use Rattle.sl_meaning.specs.Runs.{Names};
 ghost use Rattle.displace_shade.specs.Sets.{Fits};
-ghost use Rattle.displace_shade.specs.Points.{sight};
-ghost use Rattle.displace_shade.specs.Shaded.{bound_at as bound_at_use, bound_for, shaded_by, moved, shaded};
-ghost use Rattle.displace_shade.specs.Diced.{point_count, over, Hold, IsSized, IsColoured, ArePlaces, grid_value};
+ghost use Rattle.displace_shade.specs.Shaded.{bound_at as bound_at_use, bound_for, shaded_by, shaded};
+ghost use Rattle.grid_variables.specs.Places.{IsSized, IsColoured, ArePlaces};
+ghost use Rattle.displace_shade.specs.Diced.{Hold, grid_value};
 ghost use Rattle.displace_shade.specs.Shop.{set_value};
 ghost use Rattle.displace_shade.specs.Bindings.{FitUseVariables, FitSomeVariables, FitsPrim};
 ghost use Rattle.displace_shade.specs.Lamps.{IsLamp, lamp_light};
 
 use crate::bound::bound_at;
-use crate::diced::{diced, first_variables, geometric_normals, grid_of, places_of};
 use crate::lamps::{Lamp, lamps_of};
-use crate::leaf::Leaf;
-use crate::moves::{kept_points, sights};
-use crate::places::Places;
 use crate::runs::{colour, dim, displace};
 use crate::set::ShaderSet;
-use crate::variables::Variables;
 use bumpalo::Bump;
 use dice::GridRef;
 use fixed_math::NoMemory;
+use grid_variables::{Leaf, Places, Variables, diced, first_variables, geometric_normals, grid_of, kept_near, places_of};
 use scene_state::ShaderUse;
 use std::alloc::Global;
 
@@ -77,34 +72,6 @@ fn displaced<'a>(
         None => Ok(*variables),
         Some(n) => displaced_by(shaders, arena, leaf, places, variables, n),
     }
-}
-
-/// The variables where points are kept near their old places, and are seen from there.
-fn kept_near<'a>(
-    arena: &'a Bump,
-    leaf: &Leaf,
-    old: &Variables,
-    new: &Variables<'a>,
-) -> Result<Variables<'a>, NoMemory>
-    requires old { IsSized leaf.now old.now }
-    requires new { IsSized leaf.now new.now }
-    ensures points { IfOk result (λ e. e.points.now ≡ over (length old.now.points.now) (λ i. moved leaf.now.prim.bound (get_or old.now.points.now i origin) (get_or new.now.points.now i origin))) }
-    ensures sights { IfOk result (λ e. e.sights.now ≡ map (sight leaf.now.camera) e.points.now) }
-    ensures normals { IfOk result (λ e. e.normals.now ≡ new.now.normals.now) }
-    ensures colours { IfOk result (λ e. e.colours.now ≡ new.now.colours.now) }
-    ensures opacities { IfOk result (λ e. e.opacities.now ≡ new.now.opacities.now) }
-{
-    let prim = leaf.prim;
-    let camera = leaf.camera;
-    let points = kept_points(arena, prim.bound, old.points, new.points)?;
-    let directions = sights(arena, camera.view(), points)?;
-    Ok(Variables {
-        points,
-        normals: new.normals,
-        sights: directions,
-        colours: new.colours,
-        opacities: new.opacities,
-    })
 }
 
 /// The variables behind the surface of use `n` under lights.

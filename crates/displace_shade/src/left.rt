@@ -2,7 +2,8 @@
 ghost use Rattle.std.specs.Prelude.{◌≡◌, ◌≤◌, ◌<◌, ◌+◌, ◌*◌, ℤ, pos, length, get_or, IfOk};
 ghost use Rattle.grid_machine.specs.Run.{row_length};
 ghost use Rattle.displace_shade.specs.Rows.{AreRaws};
-ghost use Rattle.displace_shade.specs.Diced.{over, triple_in};
+ghost use Rattle.grid_variables.specs.Places.{over};
+ghost use Rattle.displace_shade.specs.Diced.{triple_in};
 
 use crate::rows::length_of_row;
 use bumpalo::Bump;

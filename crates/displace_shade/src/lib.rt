@@ -2,27 +2,17 @@
 #![tactic(auto)]
 
 mod arguments;
-mod bilinear;
 mod bound;
 mod constant;
-mod corners;
-mod diced;
 mod given;
 mod lamps;
-mod leaf;
 mod leaves;
 mod left;
-mod moves;
-mod named;
-mod places;
 mod rows;
 mod runs;
 mod set;
 mod shop;
-mod spread;
-mod variables;
 
 pub use constant::constant_law;
-pub use named::sets_predefined;
 pub use set::ShaderSet;
 pub use shop::Shop;

@@ -10,14 +10,14 @@ ghost use Rattle.grid_code.specs.Masked.{masked};
 ghost use Rattle.grid_code.specs.Shapes.{register_shape};
 ghost use Rattle.grid_code.specs.View.{block_of};
 ghost use Rattle.sl_meaning.specs.Runs.{Names, ran};
-ghost use Rattle.displace_shade.specs.Points.{columns as column_count, rows as row_count, lines};
+ghost use Rattle.grid_variables.specs.Points.{columns as column_count, rows as row_count, lines};
 ghost use Rattle.displace_shade.specs.Shaded.{spaces_of as maps_of, around};
 ghost use Rattle.grid_machine.specs.Run.{row_length, rows_of, uniform_inputs, varying_inputs, written_names, lines_given, begun, Leaves};
 ghost use Rattle.displace_shade.specs.Rows.{AreRaws, values_of};
-ghost use Rattle.displace_shade.specs.Diced.{point_count, over, triple_in, Hold, IsSized, IsColoured, ArePlaces};
-ghost use Rattle.displace_shade.specs.Given.{param_rows, displacement_rows as displacement_list, surface_rows as surface_list, volume_rows as volume_list};
+ghost use Rattle.grid_variables.specs.Places.{point_count, over, IsSized, IsColoured, ArePlaces};
+ghost use Rattle.displace_shade.specs.Diced.{triple_in, Hold};
 ghost use Rattle.displace_shade.specs.Shop.{bound_value, Runs};
-ghost use Rattle.displace_shade.specs.Variables.{values_at};
+ghost use Rattle.grid_variables.specs.Variables.{values_at};
 ghost use Rattle.displace_shade.specs.Bindings.{FitVariables};
 ghost use Rattle.displace_shade.specs.Lamps.{IsLamp, lamp_light, lamp_asked};
 
@@ -25,15 +25,13 @@ use crate::arguments::uniform_values;
 use crate::bound::BoundShader;
 use crate::given::{displacement_rows, surface_rows, volume_rows};
 use crate::lamps::{Lamp, Lamps, kept};
-use crate::leaf::Leaf;
 use crate::left::triples_from;
-use crate::places::Places;
 use crate::rows::{length_of_row, raws_of};
-use crate::variables::Variables;
 use bumpalo::Bump;
 use bumpalo::collections::into_bump_slice;
 use fixed_math::{NoMemory, Num, Vec3};
 use grid_machine::{Inputs, run};
+use grid_variables::{Leaf, Places, Variables};
 use sl_ast::Value;
 use std::alloc::Global;
 use transforms::{Affine, Spaces};
@@ -122,24 +120,6 @@ fn triples_left<'a>(
     triples_from(arena, rows, first, leaf.point_count())
 }
 
-/// The rows that a displacement is given.
-fn displacement_given<'a>(
-    arena: &'a Bump,
-    leaf: &Leaf,
-    bound: &BoundShader,
-    places: &Places,
-    variables: &Variables,
-) -> Result<&'a [Num], NoMemory>
-    requires named { length (tree_of bound.now.compiled.now.tree).params ≡ length bound.now.compiled.now.code.params }
-    requires counted { length bound.now.values.now ≡ length bound.now.compiled.now.code.params }
-    requires places { ArePlaces leaf.now places.now }
-    requires sized { IsSized leaf.now variables.now }
-    ensures { IfOk result (λ rows. rows.now ≡ displacement_list (param_rows leaf.now (tree_of bound.now.compiled.now.tree).params bound.now.compiled.now.code.params bound.now.values.now) places.now variables.now) }
-{
-    let points = leaf.point_count();
-    displacement_rows(arena, leaf, bound, points, places, variables)
-}
-
 /// The variables behind a run of a displacement, which no light reaches.
 pub(crate) fn displace<'a>(
     alloc: Global,
@@ -157,7 +137,7 @@ pub(crate) fn displace<'a>(
     ensures sized { IfOk result (λ e. IsSized leaf.now e) }
     ensures hold { IfOk result (λ e. (f : ℕ → Names) → Hold leaf.now variables.now f → Hold leaf.now e (ran (tree_of bound.now.compiled.now.tree) (around leaf.now (bound_value bound.now) []) (values_at leaf.now (tree_of bound.now.compiled.now.tree).params bound.now.values.now) f)) }
 {
-    let rows = displacement_given(arena, leaf, bound, places, variables)?;
+    let rows = displacement_rows(arena, leaf, bound, places, variables)?;
     let uniforms = surface_values(alloc, leaf, bound)?;
     let out = run_on(arena, leaf, bound, &[], &uniforms, rows)?;
     let points = triples_left(arena, leaf, out, 0)?;
@@ -169,24 +149,6 @@ pub(crate) fn displace<'a>(
         colours: variables.colours,
         opacities: variables.opacities,
     })
-}
-
-/// The rows that a surface is given.
-fn surface_given<'a>(
-    arena: &'a Bump,
-    leaf: &Leaf,
-    bound: &BoundShader,
-    places: &Places,
-    variables: &Variables,
-) -> Result<&'a [Num], NoMemory>
-    requires named { length (tree_of bound.now.compiled.now.tree).params ≡ length bound.now.compiled.now.code.params }
-    requires counted { length bound.now.values.now ≡ length bound.now.compiled.now.code.params }
-    requires places { ArePlaces leaf.now places.now }
-    requires sized { IsSized leaf.now variables.now }
-    ensures { IfOk result (λ rows. rows.now ≡ surface_list (param_rows leaf.now (tree_of bound.now.compiled.now.tree).params bound.now.compiled.now.code.params bound.now.values.now) places.now variables.now) }
-{
-    let points = leaf.point_count();
-    surface_rows(arena, leaf, bound, points, places, variables)
 }
 
 /// The variables behind a run of a surface under lights.
@@ -209,7 +171,7 @@ pub(crate) fn colour<'a, 's>(
     ensures coloured { IfOk result (λ e. IsColoured leaf.now e) }
     ensures hold { IfOk result (λ e. (f : ℕ → Names) → Hold leaf.now variables.now f → Hold leaf.now e (ran (tree_of bound.now.compiled.now.tree) (around leaf.now (bound_value bound.now) (map (lamp_light leaf.now) lamps.now)) (values_at leaf.now (tree_of bound.now.compiled.now.tree).params bound.now.values.now) f)) }
 {
-    let rows = surface_given(arena, leaf, bound, places, variables)?;
+    let rows = surface_rows(arena, leaf, bound, places, variables)?;
     let uniforms = surface_values(alloc, leaf, bound)?;
     let out = run_on(arena, leaf, bound, lamps, &uniforms, rows)?;
     let colours = triples_left(arena, leaf, out, 0)?;
@@ -221,23 +183,6 @@ pub(crate) fn colour<'a, 's>(
         colours,
         opacities,
     })
-}
-
-/// The rows that a volume is given.
-fn volume_given<'a>(
-    arena: &'a Bump,
-    leaf: &Leaf,
-    bound: &BoundShader,
-    variables: &Variables,
-) -> Result<&'a [Num], NoMemory>
-    requires named { length (tree_of bound.now.compiled.now.tree).params ≡ length bound.now.compiled.now.code.params }
-    requires counted { length bound.now.values.now ≡ length bound.now.compiled.now.code.params }
-    requires sized { IsSized leaf.now variables.now }
-    requires coloured { IsColoured leaf.now variables.now }
-    ensures { IfOk result (λ rows. rows.now ≡ volume_list (param_rows leaf.now (tree_of bound.now.compiled.now.tree).params bound.now.compiled.now.code.params bound.now.values.now) variables.now) }
-{
-    let points = leaf.point_count();
-    volume_rows(arena, leaf, bound, points, variables)
 }
 
 /// The variables behind a run of a volume, which no light reaches.
@@ -257,7 +202,7 @@ pub(crate) fn dim<'a>(
     ensures coloured { IfOk result (λ e. IsColoured leaf.now e) }
     ensures hold { IfOk result (λ e. (f : ℕ → Names) → Hold leaf.now variables.now f → Hold leaf.now e (ran (tree_of bound.now.compiled.now.tree) (around leaf.now (bound_value bound.now) []) (values_at leaf.now (tree_of bound.now.compiled.now.tree).params bound.now.values.now) f)) }
 {
-    let rows = volume_given(arena, leaf, bound, variables)?;
+    let rows = volume_rows(arena, leaf, bound, variables)?;
     let uniforms = uniform_values(alloc, leaf, bound)?;
     let out = run_on(arena, leaf, bound, &[], &uniforms, rows)?;
     let colours = triples_left(arena, leaf, out, 0)?;

@@ -6,12 +6,12 @@ ghost use Rattle.displace_shade.specs.Bindings.{FitsPrim};
 ghost use Rattle.displace_shade.specs.Diced.{grid_value};
 ghost use Rattle.displace_shade.specs.Shop.{set_value, leaf_of};
 
-use crate::leaf::Leaf;
 use crate::leaves::{Shaders, shaded_leaf};
 use crate::set::ShaderSet;
 use bumpalo::Bump;
 use dice::GridRef;
 use fixed_math::NoMemory;
+use grid_variables::Leaf;
 use patches::Piece;
 use scene_state::{Frame, Scene, ShaderUse};
 use std::alloc::Global;

@@ -14,7 +14,7 @@ use Rattle.sl_ast.specs.declared.typed.Value.{Value}
 use Rattle.sl_ast.specs.Typed.{Local, Tree}
 use Rattle.displace_shade.specs.Sets.{SetValue, FitUses, Fits}
 use Rattle.displace_shade.specs.Shaded.{Bound, bound_with}
-use Rattle.displace_shade.specs.Variables.{sets_predefined}
+use Rattle.grid_variables.specs.Variables.{sets_predefined}
 use Rattle.displace_shade.specs.Bindings.{kind_of, Binds, FitVariables, FitUseVariables, FitSomeVariables, FitsPrim}
 use Rattle.render.specs.Causes.{Cause}
 use Rattle.render.specs.Bindings.{is_of_type}

@@ -11,7 +11,7 @@ use Rattle.scene_state.specs.declared.uses.ShaderUse.{ShaderUse}
 use Rattle.sl_ast.specs.declared.kinds.SlType.TheVariants as types
 use Rattle.sl_ast.specs.Typed.{Local, Tree}
 use Rattle.displace_shade.specs.Sets.{SetValue}
-use Rattle.displace_shade.specs.Variables.{sets_predefined}
+use Rattle.grid_variables.specs.Variables.{sets_predefined}
 use Rattle.displace_shade.specs.Bindings.{FitsPrim}
 use Rattle.render.specs.declared.code.Code.TheVariants.{B2}
 use Rattle.render.specs.declared.refusal.FileId.TheVariants.{Scene}

@@ -2,7 +2,7 @@
 use Rattle.std.specs.Prelude.{◌≡◌, refl, ℕ, List, Some, None, Ok, codes, slice_get}
 use Rattle.outside.specs.Library.{Files, held_as}
 use Rattle.scene_state.specs.declared.uses.ShaderUse.{ShaderUse}
-use Rattle.displace_shade.specs.Points.{Leaf}
+use Rattle.grid_variables.specs.Points.{Leaf}
 use Rattle.displace_shade.specs.Constant.{constant_tree, IsFlat}
 use Rattle.render.specs.Shaders.{file_of, stock_text, tree_of_text}
 use Rattle.render.specs.Set.{AcceptedValue}

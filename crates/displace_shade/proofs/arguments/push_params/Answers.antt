@@ -2,7 +2,7 @@ use Rattle.std.proofs.Common.{◌<◌, ap, sym, map, length, get_or, ◌++◌, �
 use Rattle.std.proofs.lemmas.List.{length-map, get_or-map}
 use Rattle.sl_ast.specs.TypedView.{local_of}
 use Rattle.sl_meaning.specs.Environment.{zero_value}
-use Rattle.displace_shade.specs.Variables.{bound_variable}
+use Rattle.grid_variables.specs.Variables.{bound_variable}
 use Rattle.displace_shade.specs.Given.{rows_or}
 use Rattle.displace_shade.proofs.Params.{params_pushed, params_passed, no_name}
 use Rattle.displace_shade.proofs.arguments.push_params.Goals as goal

@@ -1,9 +1,9 @@
 use Rattle.std.proofs.Common.{◌≡◌, length, ap, ◌++◌, ◌∙◌, arith}
-use Rattle.displace_shade.specs.Variables.{spread}
-use Rattle.displace_shade.specs.Diced.{point_count}
+use Rattle.grid_variables.specs.Variables.{spread}
+use Rattle.grid_variables.specs.Places.{point_count}
 use Rattle.displace_shade.specs.Given.{rows_by}
-use Rattle.displace_shade.proofs.BoundLaws.{if_ok}
-use Rattle.displace_shade.proofs.Over.{over_long}
+use Rattle.grid_variables.proofs.Results.{if_ok}
+use Rattle.grid_variables.proofs.Over.{over_long}
 use Rattle.displace_shade.proofs.arguments.push_variable.Goals as goal
 
 pub push_by-requires : goal.push_by-requires

@@ -2,7 +2,7 @@ use Rattle.std.proofs.Common.{◌<◌, ap, sym, map, length, get_or, [], ◌∷�
 use Rattle.std.proofs.lemmas.List.{length-map, get_or-map}
 use Rattle.sl_ast.specs.TypedView.{local_of}
 use Rattle.sl_meaning.specs.Environment.{zero_value}
-use Rattle.displace_shade.specs.Variables.{bound_variable, value_or}
+use Rattle.grid_variables.specs.Variables.{bound_variable, value_or}
 use Rattle.displace_shade.proofs.Params.{values_pushed, values_passed, no_name}
 use Rattle.displace_shade.proofs.arguments.values_by.Goals as goal
 use Rattle.displace_shade.proofs.arguments.values_by.Goals.{then-params-k+in_ok-value_or+in_ok-push, else-params-k}

@@ -1,6 +1,6 @@
 use Rattle.std.proofs.Common.{◌≡◌, ◌++◌, true, drop, map}
 use Rattle.sl_ast.specs.TypedView.{local_of}
-use Rattle.displace_shade.specs.Variables.{values_at}
+use Rattle.grid_variables.specs.Variables.{values_at}
 use Rattle.displace_shade.specs.Rows.{values_of}
 use Rattle.displace_shade.proofs.arguments.values_by.Given as goal
 

@@ -4,7 +4,8 @@ use Rattle.displace_shade.specs.Diced.{Hold}
 use Rattle.displace_shade.specs.Shaded.{shaded_by}
 use Rattle.displace_shade.specs.Lamps.{lamp_light}
 use Rattle.displace_shade.specs.Shop.{bound_value}
-use Rattle.displace_shade.proofs.BoundLaws.{if_ok, use_there, of_surface}
+use Rattle.grid_variables.proofs.Results.{if_ok}
+use Rattle.displace_shade.proofs.BoundLaws.{use_there, of_surface}
 use Rattle.displace_shade.proofs.leaves.coloured.Goals as goal
 
 pub bound_at-bound-requires-clause-there : goal.bound_at-bound-requires-clause-there

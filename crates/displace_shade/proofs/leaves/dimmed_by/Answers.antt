@@ -3,7 +3,8 @@ use Rattle.scene_state.specs.declared.uses.ShaderKind.TheVariants as requested
 use Rattle.displace_shade.specs.Diced.{Hold}
 use Rattle.displace_shade.specs.Shaded.{shaded_by}
 use Rattle.displace_shade.specs.Shop.{bound_value}
-use Rattle.displace_shade.proofs.BoundLaws.{if_ok, use_there, of_volume}
+use Rattle.grid_variables.proofs.Results.{if_ok}
+use Rattle.displace_shade.proofs.BoundLaws.{use_there, of_volume}
 use Rattle.displace_shade.proofs.leaves.dimmed_by.Goals as goal
 
 pub bound_at-bound-requires-clause-there : goal.bound_at-bound-requires-clause-there

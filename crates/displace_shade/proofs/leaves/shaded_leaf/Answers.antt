@@ -2,12 +2,12 @@ use Rattle.std.proofs.Common.{[], map, sym, ap, subst, ◌∙◌}
 use Rattle.scene_state.specs.Scene.{IsUse, IsSomeUse}
 use Rattle.scene_state.specs.declared.uses.ShaderKind.TheVariants as requested
 use Rattle.displace_shade.specs.Diced.{Hold}
-use Rattle.displace_shade.specs.Variables.{diced_names}
-use Rattle.displace_shade.specs.Shaded.{bound_at, bound_for, lights_from, shaded_by, displaced}
+use Rattle.displace_shade.specs.Shaded.{diced_names, bound_at, bound_for, lights_from, shaded_by, displaced}
 use Rattle.displace_shade.specs.Bindings.{FitUseVariables, FitSomeVariables}
 use Rattle.displace_shade.specs.Lamps.{lamp_light}
 use Rattle.displace_shade.specs.Shop.{set_value}
-use Rattle.displace_shade.proofs.Dicing.{first_hold, first_sized}
+use Rattle.displace_shade.proofs.Dicing.{first_hold}
+use Rattle.grid_variables.proofs.Dicing.{first_sized}
 use Rattle.displace_shade.proofs.Stages.{placed_hold, near_sized, grid_is}
 use Rattle.displace_shade.proofs.leaves.shaded_leaf.Goals as goal
 

@@ -1,7 +1,7 @@
 use Rattle.std.proofs.Common.{ap, ◌∙◌}
 use Rattle.grid_machine.specs.Run.{row_length}
 use Rattle.displace_shade.specs.Diced.{triple_in}
-use Rattle.displace_shade.proofs.Over.{over_more}
+use Rattle.grid_variables.proofs.Over.{over_more}
 use Rattle.displace_shade.proofs.left.triples_from.Goals as goal
 
 pub loop-i-preserved : goal.loop-i-preserved

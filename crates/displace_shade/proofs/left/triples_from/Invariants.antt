@@ -1,6 +1,7 @@
 use Rattle.std.proofs.Common.{◌≡◌}
 use Rattle.grid_machine.specs.Run.{row_length}
-use Rattle.displace_shade.specs.Diced.{over, triple_in}
+use Rattle.grid_variables.specs.Places.{over}
+use Rattle.displace_shade.specs.Diced.{triple_in}
 use Rattle.displace_shade.proofs.left.triples_from.Given as goal
 
 abbrev pub invariant-loop-i : goal.invariant-loop-i

@@ -1,7 +1,8 @@
 use Rattle.std.proofs.Common.{get_or, pos, arith, ap, to_z, of_z, [], ◌∷◌, ◌++◌, sym, ◌∙◌}
 use Rattle.std.specs.Int.{w64}
 use Rattle.std.proofs.lemmas.List.{get_or_read, take_more}
-use Rattle.displace_shade.proofs.Bounded.{raw_read, raws_more}
+use Rattle.grid_variables.proofs.Bounded.{raw_read}
+use Rattle.displace_shade.proofs.Raws.{raws_more}
 use Rattle.displace_shade.proofs.rows.raws_of.Goals as goal
 
 pub loop-number-preserved : goal.loop-number-preserved

@@ -5,21 +5,22 @@ use Rattle.grid_machine.specs.Run.{row_length, rows_of, written_names, lines_giv
 use Rattle.dice.proofs.Directions.{cells_from}
 use Rattle.core_codegen.specs.Correct.{Answers}
 use Rattle.displace_shade.specs.Lamps.{lamp_light, lamp_asked}
-use Rattle.displace_shade.specs.Points.{columns, rows}
-use Rattle.displace_shade.specs.Variables.{values_at}
+use Rattle.grid_variables.specs.Points.{columns, rows}
+use Rattle.grid_variables.specs.Variables.{values_at}
 use Rattle.displace_shade.specs.Given.{param_rows}
-use Rattle.displace_shade.specs.Diced.{point_count, triple_in}
-use Rattle.displace_shade.proofs.Over.{over_long}
+use Rattle.grid_variables.specs.Places.{point_count}
+use Rattle.displace_shade.specs.Diced.{triple_in}
+use Rattle.grid_variables.proofs.Over.{over_long}
 use Rattle.displace_shade.proofs.Laws.{surface_law, look_shapes, look_long}
 use Rattle.displace_shade.proofs.BoundLaws.{bound_count, bound_names, bound_values, bound_rows}
 use Rattle.displace_shade.proofs.LampLaws.{lamps_answer}
 use Rattle.displace_shade.proofs.runs.colour.Goals as goal
 
-pub surface_given-requires-clause-named : goal.surface_given-requires-clause-named
-surface_given-requires-clause-named c = bound_names c.args.bound.now c.requires.runs
+pub surface_rows-requires-clause-named : goal.surface_rows-requires-clause-named
+surface_rows-requires-clause-named c = bound_names c.args.bound.now c.requires.runs
 
-pub surface_given-requires-clause-counted : goal.surface_given-requires-clause-counted
-surface_given-requires-clause-counted c = bound_count c.args.bound.now c.requires.runs
+pub surface_rows-requires-clause-counted : goal.surface_rows-requires-clause-counted
+surface_rows-requires-clause-counted c = bound_count c.args.bound.now c.requires.runs
 
 pub surface_values-requires-clause-named : goal.surface_values-requires-clause-named
 surface_values-requires-clause-named c = bound_names c.args.bound.now c.requires.runs

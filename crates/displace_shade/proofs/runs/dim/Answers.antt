@@ -5,19 +5,20 @@ use Rattle.grid_machine.specs.Run.{row_length, rows_of, written_names}
 use Rattle.sl_ast.specs.declared.kinds.SlKind.TheVariants.{Volume}
 use Rattle.displace_shade.specs.Rows.{AreRows, varying_values}
 use Rattle.displace_shade.proofs.GivenRows.{volume_given}
-use Rattle.displace_shade.specs.Variables.{values_at}
+use Rattle.grid_variables.specs.Variables.{values_at}
 use Rattle.displace_shade.specs.Given.{param_rows}
-use Rattle.displace_shade.specs.Diced.{point_count, triple_in}
-use Rattle.displace_shade.proofs.Over.{over_long}
+use Rattle.grid_variables.specs.Places.{point_count}
+use Rattle.displace_shade.specs.Diced.{triple_in}
+use Rattle.grid_variables.proofs.Over.{over_long}
 use Rattle.displace_shade.proofs.Laws.{volume_law, volume_shapes, volume_long}
 use Rattle.displace_shade.proofs.BoundLaws.{bound_count, bound_names, bound_values, bound_rows}
 use Rattle.displace_shade.proofs.runs.dim.Goals as goal
 
-pub volume_given-requires-clause-named : goal.volume_given-requires-clause-named
-volume_given-requires-clause-named c = bound_names c.args.bound.now c.requires.runs
+pub volume_rows-requires-clause-named : goal.volume_rows-requires-clause-named
+volume_rows-requires-clause-named c = bound_names c.args.bound.now c.requires.runs
 
-pub volume_given-requires-clause-counted : goal.volume_given-requires-clause-counted
-volume_given-requires-clause-counted c = bound_count c.args.bound.now c.requires.runs
+pub volume_rows-requires-clause-counted : goal.volume_rows-requires-clause-counted
+volume_rows-requires-clause-counted c = bound_count c.args.bound.now c.requires.runs
 
 pub uniform_values-requires-clause-named : goal.uniform_values-requires-clause-named
 uniform_values-requires-clause-named c = bound_names c.args.bound.now c.requires.runs

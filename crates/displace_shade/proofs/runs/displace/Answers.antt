@@ -2,19 +2,20 @@ use Rattle.std.proofs.Common.{length, refl, ap, ◌∙◌}
 use Rattle.sl_ast.specs.Names.{is_light}
 use Rattle.sl_ast.specs.TreeView.{tree_of}
 use Rattle.grid_machine.specs.Run.{row_length, rows_of, written_names}
-use Rattle.displace_shade.specs.Variables.{values_at}
+use Rattle.grid_variables.specs.Variables.{values_at}
 use Rattle.displace_shade.specs.Given.{param_rows}
-use Rattle.displace_shade.specs.Diced.{point_count, triple_in}
-use Rattle.displace_shade.proofs.Over.{over_long}
+use Rattle.grid_variables.specs.Places.{point_count}
+use Rattle.displace_shade.specs.Diced.{triple_in}
+use Rattle.grid_variables.proofs.Over.{over_long}
 use Rattle.displace_shade.proofs.Laws.{displace_law, displace_shapes, displace_long}
 use Rattle.displace_shade.proofs.BoundLaws.{bound_count, bound_names, bound_values, bound_rows}
 use Rattle.displace_shade.proofs.runs.displace.Goals as goal
 
-pub displacement_given-requires-clause-named : goal.displacement_given-requires-clause-named
-displacement_given-requires-clause-named c = bound_names c.args.bound.now c.requires.runs
+pub displacement_rows-requires-clause-named : goal.displacement_rows-requires-clause-named
+displacement_rows-requires-clause-named c = bound_names c.args.bound.now c.requires.runs
 
-pub displacement_given-requires-clause-counted : goal.displacement_given-requires-clause-counted
-displacement_given-requires-clause-counted c = bound_count c.args.bound.now c.requires.runs
+pub displacement_rows-requires-clause-counted : goal.displacement_rows-requires-clause-counted
+displacement_rows-requires-clause-counted c = bound_count c.args.bound.now c.requires.runs
 
 pub surface_values-requires-clause-named : goal.surface_values-requires-clause-named
 surface_values-requires-clause-named c = bound_names c.args.bound.now c.requires.runs

@@ -4,8 +4,8 @@ use Rattle.builtins.specs.Shapes.{shape}
 use Rattle.grid_code.specs.Shapes.{register_shape}
 use Rattle.grid_machine.specs.Run.{row_length, rows_of, uniform_inputs, varying_inputs, written_names}
 use Rattle.displace_shade.specs.Rows.{AreRaws}
-use Rattle.displace_shade.specs.Points.{columns, rows}
-use Rattle.displace_shade.specs.Diced.{point_count}
+use Rattle.grid_variables.specs.Points.{columns, rows}
+use Rattle.grid_variables.specs.Places.{point_count}
 use Rattle.displace_shade.specs.Shaded.{spaces_of}
 use Rattle.displace_shade.specs.Shop.{bound_value}
 use Rattle.displace_shade.proofs.BoundLaws.{written_back, read_long, leaves_as}

@@ -3,7 +3,7 @@ use Rattle.std.proofs.lemmas.Option.{get_or_from_slice_get}
 use Rattle.scene_state.specs.Scene.{HasUses}
 use Rattle.displace_shade.specs.Shaded.{shaded}
 use Rattle.displace_shade.specs.Shop.{set_value}
-use Rattle.displace_shade.proofs.BoundLaws.{if_ok}
+use Rattle.grid_variables.proofs.Results.{if_ok}
 use Rattle.displace_shade.proofs.shop.shaded_piece.Goals as goal
 
 pub shaded_leaf-requires-clause-variables : goal.shaded_leaf-requires-clause-variables

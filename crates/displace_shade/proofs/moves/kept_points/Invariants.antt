@@ -1,8 +1,0 @@
-use Rattle.std.proofs.Common.{◌≡◌, get_or}
-use Rattle.fixed_math.specs.Axes.{origin}
-use Rattle.displace_shade.specs.Shaded.{moved}
-use Rattle.displace_shade.specs.Diced.{over}
-use Rattle.displace_shade.proofs.moves.kept_points.Given as goal
-
-abbrev pub invariant-loop-i : goal.invariant-loop-i
-invariant-loop-i l = l.points.items ≡ over l.i (λ i. moved l.bound (get_or l.old i origin) (get_or l.new i origin))

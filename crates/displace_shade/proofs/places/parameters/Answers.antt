@@ -1,6 +1,0 @@
-use Rattle.displace_shade.specs.Diced.{parameter_at}
-use Rattle.displace_shade.proofs.Over.{over_more}
-use Rattle.displace_shade.proofs.places.parameters.Goals as goal
-
-pub loop-i-preserved : goal.loop-i-preserved
-loop-i-preserved c = over_more (parameter_at c.args.along c.args.leaf.now) c.loop-i.i c.loop-i.numbers.items c.push.new.self.items c.parameter.result c.in_ok-push.ensures.items c.parameter.ensures c.loop-i.invariant

@@ -1,6 +1,0 @@
-use Rattle.std.proofs.Common.{◌≡◌}
-use Rattle.displace_shade.specs.Diced.{over, parameter_at}
-use Rattle.displace_shade.proofs.places.parameters.Given as goal
-
-abbrev pub invariant-loop-i : goal.invariant-loop-i
-invariant-loop-i l = l.numbers.items ≡ over l.i (parameter_at l.along l.leaf)

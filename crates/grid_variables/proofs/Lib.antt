@@ -1,0 +1,5 @@
+pub mod Passing
+pub mod Results
+pub mod Bounded
+pub mod Over
+pub mod Dicing

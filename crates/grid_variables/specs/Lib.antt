@@ -1,0 +1,4 @@
+pub mod Points
+pub mod Variables
+pub mod Places
+pub mod Kept

@@ -1,0 +1,24 @@
+//! The variables at the points of a leaf's grid: those that its primitive gives, those that shaders begin with, and what is kept of those that
+//! shaders leave.
+#![tactic(auto)]
+
+mod at_points;
+mod bilinear;
+mod corners;
+mod kept;
+mod leaf;
+mod moves;
+mod named;
+mod places;
+mod stages;
+mod values;
+mod variables;
+
+pub use at_points::spread;
+pub use kept::kept_near;
+pub use leaf::Leaf;
+pub use named::{bound_variable, sets_predefined};
+pub use places::Places;
+pub use stages::{diced, first_variables, geometric_normals, grid_of, places_of};
+pub use values::{kind_of, value_or};
+pub use variables::Variables;

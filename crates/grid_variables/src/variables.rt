@@ -1,0 +1,13 @@
+// What shaders change of the points of a grid.
+use fixed_math::Vec3;
+
+/// The variables of the points of a grid that shaders change, by rows: points, normals, the directions in which they are seen, colours and
+/// opacities.
+#[derive(Clone, Copy)]
+pub struct Variables<'a> {
+    pub points: &'a [Vec3],
+    pub normals: &'a [Vec3],
+    pub sights: &'a [Vec3],
+    pub colours: &'a [Vec3],
+    pub opacities: &'a [Vec3],
+}
