@@ -16,10 +16,11 @@ use Rattle.sl_ast.specs.declared.kinds.SlType.TheVariants.{Color}
 use Rattle.sl_ast.specs.declared.operations.ValueOperation.TheVariants.{Multiply}
 use Rattle.sl_meaning.specs.Environment.{Around}
 use Rattle.sl_meaning.specs.Runs.{Names, ran}
-use Rattle.displace_shade.specs.Sets.{SetValue}
+use Rattle.shader_binding.specs.Sets.{SetValue}
 use Rattle.displace_shade.specs.Points.{Leaf}
 use Rattle.displace_shade.specs.Variables.{cs_at, os_at, values_at}
-use Rattle.displace_shade.specs.Shaded.{Bound, bound_at, bound_for, displaced, shaded_by, opacity, around, lights_from}
+use Rattle.shader_binding.specs.Sets.{Bound, bound_at, bound_for}
+use Rattle.displace_shade.specs.Shaded.{displaced, shaded_by, opacity, around, lights_from}
 use Rattle.displace_shade.specs.Constant.{constant_tree, ConstantLaw}
 
 -- a run of it

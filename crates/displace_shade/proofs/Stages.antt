@@ -19,7 +19,7 @@ use Rattle.builtins.specs.Values.{shape_of, triple_of}
 use Rattle.sl_meaning.specs.Environment.{Around}
 use Rattle.sl_meaning.specs.Runs.{Names, ran}
 use Rattle.dice.specs.declared.diced.GridRef.{GridRef}
-use Rattle.displace_shade.specs.Sets.{SetValue}
+use Rattle.shader_binding.specs.Sets.{SetValue}
 use Rattle.displace_shade.specs.Points.{Leaf, columns, rows, sight, lines}
 use Rattle.displace_shade.specs.Shaded.{moved, placed, opacity, GridValue, shaded_names, shaded}
 use Rattle.grid_machine.specs.Run.{row_length}

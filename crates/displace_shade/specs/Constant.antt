@@ -16,10 +16,11 @@ use Rattle.sl_ast.specs.Typed.{Expr, variable, apply, none, more, Stmt, assign, 
 use Rattle.builtins.specs.Triples.{each_two}
 use Rattle.builtins.specs.Values.{triple_of}
 use Rattle.scene_state.specs.declared.uses.ShaderUse.{ShaderUse}
-use Rattle.displace_shade.specs.Sets.{SetValue}
+use Rattle.shader_binding.specs.Sets.{SetValue}
 use Rattle.displace_shade.specs.Points.{Leaf}
 use Rattle.displace_shade.specs.Variables.{cs_at, os_at}
-use Rattle.displace_shade.specs.Shaded.{Bound, bound_at, opacity, shaded_names}
+use Rattle.shader_binding.specs.Sets.{Bound, bound_at}
+use Rattle.displace_shade.specs.Shaded.{opacity, shaded_names}
 
 -- the node of that number, on the first line
 abbrev at : ℕ → Place

@@ -1,8 +1,6 @@
-pub mod Sets
 pub mod Points
 pub mod Variables
 pub mod Shaded
-pub mod Bindings
 pub mod Rows
 pub mod Diced
 pub mod Given

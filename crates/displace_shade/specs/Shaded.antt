@@ -15,26 +15,9 @@ use Rattle.builtins.specs.Triples.{each, each_two}
 use Rattle.builtins.specs.Values.{triple_of}
 use Rattle.sl_meaning.specs.Environment.{Around}
 use Rattle.sl_meaning.specs.Runs.{Names, ran, light_answer}
-use Rattle.displace_shade.specs.Sets.{SetValue}
+use Rattle.shader_binding.specs.Sets.{SetValue, Bound, bound_at, bound_for}
 use Rattle.displace_shade.specs.Points.{Leaf, columns, rows, lines, sight}
 use Rattle.displace_shade.specs.Variables.{values_at, diced_names}
-
--- the shader of a use with what it is bound to and its space
-pub record Bound : Type 0 where
-  pub tree : Tree
-  pub values : List Value
-  pub space : Map
-
-abbrev pub bound_with : Option Tree → Option (List Value) → Option ShaderUse → Option Bound
-bound_with (Some t) (Some vs) (Some u) = Some record { tree = t; values = vs; space = u.space }
-bound_with _ _ _ = None
-
-abbrev pub bound_at : SetValue → List ShaderUse → ℕ → Option Bound
-bound_at s uses n = bound_with (slice_get s.trees (slice_index_or s.of_use n 0)) (slice_get s.bound n) (slice_get uses n)
-
-abbrev pub bound_for : SetValue → List ShaderUse → Option ℕ → Option Bound
-bound_for s uses None = None
-bound_for s uses (Some n) = bound_at s uses n
 
 -- the maps to camera space for a shader of a primitive, and for a light, whose object space is its own
 abbrev pub spaces_with : Leaf → Map → Map → Spaces

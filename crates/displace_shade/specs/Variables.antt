@@ -22,6 +22,7 @@ use Rattle.sl_ast.specs.Typed.{Local}
 use Rattle.builtins.specs.Table.{image}
 use Rattle.builtins.specs.Triples.{normalize}
 use Rattle.sl_meaning.specs.Runs.{Names, nothing}
+use Rattle.shader_binding.specs.Predefined.{sets_predefined}
 use Rattle.displace_shade.specs.Points.{Leaf, own_u, own_v, point_at, u_at, v_at, normal_of, sight, lines, dpdu, dpdv, turned}
 
 -- the numbers of a variable's value, one behind another; a string has none
@@ -112,11 +113,6 @@ abbrev pub n_at : Leaf → ℕ → Vec3
 n_at l i = normal_or l i (variable_named (codes "N") l.prim.vars)
 
 -- ---- what the parameters of a surface, displacement or volume take
--- variables of these names set predefined variables alone
-abbrev pub sets_predefined : List ℕ → Bool
-sets_predefined name =
-    bytes_eq name (codes "P") || (bytes_eq name (codes "N") || (bytes_eq name (codes "Cs") || (bytes_eq name (codes "Os") || (bytes_eq name (codes "s") || (bytes_eq name (codes "t") || bytes_eq name (codes "st"))))))
-
 abbrev pub bound_variable : List ℕ → List VariableValue → Option VariableValue
 bound_variable name xs = cond (sets_predefined name) None (variable_named name xs)
 

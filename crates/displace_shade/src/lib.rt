@@ -23,6 +23,5 @@ mod spread;
 mod variables;
 
 pub use constant::constant_law;
-pub use named::sets_predefined;
 pub use set::ShaderSet;
 pub use shop::Shop;

@@ -18,7 +18,7 @@ ghost use Rattle.displace_shade.specs.Diced.{point_count, over, triple_in, Hold,
 ghost use Rattle.displace_shade.specs.Given.{param_rows, displacement_rows as displacement_list, surface_rows as surface_list, volume_rows as volume_list};
 ghost use Rattle.displace_shade.specs.Shop.{bound_value, Runs};
 ghost use Rattle.displace_shade.specs.Variables.{values_at};
-ghost use Rattle.displace_shade.specs.Bindings.{FitVariables};
+ghost use Rattle.shader_binding.specs.Bindings.{FitVariables};
 ghost use Rattle.displace_shade.specs.Lamps.{IsLamp, lamp_light, lamp_asked};
 
 use crate::arguments::uniform_values;
