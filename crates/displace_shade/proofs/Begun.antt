@@ -12,7 +12,7 @@ use Rattle.sl_meaning.specs.Core.{no_slot}
 use Rattle.sl_meaning.specs.Environment.{zero_value}
 use Rattle.sl_meaning.specs.Lowered.{slots}
 use Rattle.sl_meaning.specs.Runs.{Names, nothing}
-use Rattle.displace_shade.specs.Sets.{AreValuesOf}
+use Rattle.shader_binding.specs.Sets.{AreValuesOf}
 
 -- values of their variables' shapes, the same at all points where they are uniform
 pub record AreNames (c : ℕ) (f : ℕ → Names) : Type 0 where

@@ -15,10 +15,11 @@ use Rattle.grid_code.specs.declared.slot.Slot.{Slot}
 use Rattle.sl_meaning.specs.Core as core
 use Rattle.sl_meaning.specs.Lowered.{slots}
 use Rattle.grid_machine.specs.Run.{same_class}
-use Rattle.displace_shade.specs.Sets.{AreValuesOf}
+use Rattle.shader_binding.specs.Sets.{AreValuesOf}
 use Rattle.grid_variables.specs.Points.{Leaf, own_u, own_v}
-use Rattle.grid_variables.specs.Variables.{numbers_of, corners_of, between, last_passing, variable_named, sets_predefined, bound_variable, text_of, value_by, value_or, values_at}
-use Rattle.displace_shade.specs.Bindings.{kind_of, Binds, FitVariables}
+use Rattle.grid_variables.specs.Variables.{numbers_of, corners_of, between, last_passing, variable_named, bound_variable, text_of, value_by, value_or, values_at}
+use Rattle.shader_binding.specs.Predefined.{sets_predefined}
+use Rattle.shader_binding.specs.Bindings.{kind_of, Binds, FitVariables}
 use Rattle.displace_shade.specs.Rows.{values_of, slot_of}
 
 -- what holds of a variable, if there is one

@@ -29,13 +29,13 @@ use Rattle.grid_code.specs.declared.slot.Slot.{Slot}
 use Rattle.grid_code.specs.Masked.{masked}
 use Rattle.sl_meaning.specs.Core as core
 use Rattle.sl_meaning.specs.Environment.{zero_value}
-use Rattle.displace_shade.specs.Sets.{AreValuesOf, FitsUse, FitUses, is_of_kind}
+use Rattle.shader_binding.specs.Sets.{AreValuesOf, FitsUse, FitUses, is_of_kind}
 use Rattle.mask_codegen.specs.Compiled.{Seen}
 use Rattle.mask_codegen.proofs.ParamTexts.{is_rowable, params_rowable}
-use Rattle.displace_shade.specs.Shaded.{bound_with}
+use Rattle.shader_binding.specs.Sets.{bound_with}
 use Rattle.grid_variables.specs.Points.{Leaf, normal_of, u_at, v_at, dpdu, dpdv}
 use Rattle.grid_variables.specs.Variables.{s_at, t_at, cs_at, os_at, values_at}
-use Rattle.displace_shade.specs.Bindings.{FitVariables}
+use Rattle.shader_binding.specs.Bindings.{FitVariables}
 use Rattle.grid_machine.specs.Run.{row_length, begun, lines_given, Leaves}
 use Rattle.displace_shade.specs.Rows.{AreRows, AreRowable, values_of, slot_of}
 use Rattle.displace_shade.specs.Given.{param_rows}

@@ -16,10 +16,10 @@ use Rattle.sl_ast.specs.declared.kinds.SlType.TheVariants.{Color}
 use Rattle.sl_ast.specs.declared.operations.ValueOperation.TheVariants.{Multiply}
 use Rattle.sl_meaning.specs.Environment.{Around}
 use Rattle.sl_meaning.specs.Runs.{Names, ran}
-use Rattle.displace_shade.specs.Sets.{SetValue}
+use Rattle.shader_binding.specs.Sets.{SetValue, Bound, bound_at, bound_for}
 use Rattle.grid_variables.specs.Points.{Leaf}
 use Rattle.grid_variables.specs.Variables.{cs_at, os_at, values_at}
-use Rattle.displace_shade.specs.Shaded.{Bound, bound_at, bound_for, displaced, shaded_by, around, lights_from}
+use Rattle.displace_shade.specs.Shaded.{displaced, shaded_by, around, lights_from}
 use Rattle.grid_variables.specs.Kept.{opacity}
 use Rattle.displace_shade.specs.Constant.{constant_tree, ConstantLaw}
 

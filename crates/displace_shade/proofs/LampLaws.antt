@@ -27,8 +27,9 @@ use Rattle.grid_machine.specs.Asked.{IsLight, answer_at, begun_at, asked}
 use Rattle.displace_shade.specs.Lamps.{IsLamp, lamp_light, lamp_asked}
 use Rattle.grid_variables.specs.Points.{Leaf}
 use Rattle.displace_shade.specs.Rows.{slot_of}
-use Rattle.displace_shade.specs.Sets.{SetValue}
-use Rattle.displace_shade.specs.Shaded.{Bound, bound_at, light_spaces, light_of, with_light, lights_from}
+use Rattle.shader_binding.specs.Sets.{SetValue}
+use Rattle.shader_binding.specs.Sets.{Bound, bound_at}
+use Rattle.displace_shade.specs.Shaded.{light_spaces, light_of, with_light, lights_from}
 use Rattle.displace_shade.specs.Shop.{bound_value}
 use Rattle.displace_shade.specs.declared.lamps.Lamp.{Lamp}
 use Rattle.displace_shade.proofs.Begun.{values_counted, values_shaped}

@@ -31,7 +31,8 @@ use Rattle.sl_meaning.specs.Runs.{Names, ran}
 use Rattle.mask_codegen.specs.Compiled.{IsCodeOf}
 use Rattle.core_codegen.specs.Correct.{Answers}
 use Rattle.grid_variables.specs.Points.{Leaf, columns, rows, lines}
-use Rattle.displace_shade.specs.Shaded.{Bound, spaces_of, around}
+use Rattle.shader_binding.specs.Sets.{Bound}
+use Rattle.displace_shade.specs.Shaded.{spaces_of, around}
 use Rattle.grid_machine.specs.Run.{row_length, height, rows_of, same_class, params_of, step_names, uniform_inputs, varying_inputs, begun, lines_given, Leaves}
 use Rattle.displace_shade.specs.Rows.{heights, AreRows, HoldNames, values_of, written_order, uniform_values, varying_values, slot_of}
 use Rattle.grid_variables.specs.Places.{point_count, over, IsSized, ArePlaces}

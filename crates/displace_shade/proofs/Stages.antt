@@ -19,7 +19,7 @@ use Rattle.builtins.specs.Values.{shape_of, triple_of}
 use Rattle.sl_meaning.specs.Environment.{Around}
 use Rattle.sl_meaning.specs.Runs.{Names, ran}
 use Rattle.dice.specs.declared.diced.GridRef.{GridRef}
-use Rattle.displace_shade.specs.Sets.{SetValue}
+use Rattle.shader_binding.specs.Sets.{SetValue}
 use Rattle.grid_variables.specs.Points.{Leaf, columns, rows, sight, lines}
 use Rattle.grid_variables.specs.Kept.{moved, opacity}
 use Rattle.displace_shade.specs.Shaded.{placed, GridValue, shaded_names, shaded}

@@ -16,11 +16,11 @@ use Rattle.sl_ast.specs.Typed.{Expr, variable, apply, none, more, Stmt, assign, 
 use Rattle.builtins.specs.Triples.{each_two}
 use Rattle.builtins.specs.Values.{triple_of}
 use Rattle.scene_state.specs.declared.uses.ShaderUse.{ShaderUse}
-use Rattle.displace_shade.specs.Sets.{SetValue}
+use Rattle.shader_binding.specs.Sets.{SetValue, Bound, bound_at}
 use Rattle.grid_variables.specs.Points.{Leaf}
 use Rattle.grid_variables.specs.Variables.{cs_at, os_at}
-use Rattle.displace_shade.specs.Shaded.{Bound, bound_at, shaded_names}
 use Rattle.grid_variables.specs.Kept.{opacity}
+use Rattle.displace_shade.specs.Shaded.{shaded_names}
 
 -- the node of that number, on the first line
 abbrev at : ℕ → Place

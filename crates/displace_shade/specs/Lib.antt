@@ -1,6 +1,4 @@
-pub mod Sets
 pub mod Shaded
-pub mod Bindings
 pub mod Rows
 pub mod Diced
 pub mod Given

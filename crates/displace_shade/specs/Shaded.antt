@@ -13,7 +13,7 @@ use Rattle.builtins.specs.Lights.{Light}
 use Rattle.builtins.specs.Values.{triple_of}
 use Rattle.sl_meaning.specs.Environment.{Around}
 use Rattle.sl_meaning.specs.Runs.{Names, nothing, ran, light_answer}
-use Rattle.displace_shade.specs.Sets.{SetValue}
+use Rattle.shader_binding.specs.Sets.{SetValue, Bound, bound_at, bound_for}
 use Rattle.grid_variables.specs.Points.{Leaf, columns, rows, point_at, u_at, v_at, normal_of, sight, lines, dpdu, dpdv}
 use Rattle.grid_variables.specs.Variables.{s_at, t_at, cs_at, os_at, n_at, values_at}
 use Rattle.grid_variables.specs.Kept.{moved, opacity}
@@ -35,23 +35,6 @@ diced_names l i names.Os = Triple (os_at l i)
 diced_names l i names.DPdu = Triple (dpdu l i)
 diced_names l i names.DPdv = Triple (dpdv l i)
 diced_names l i name = nothing name
-
--- the shader of a use with what it is bound to and its space
-pub record Bound : Type 0 where
-  pub tree : Tree
-  pub values : List Value
-  pub space : Map
-
-abbrev pub bound_with : Option Tree → Option (List Value) → Option ShaderUse → Option Bound
-bound_with (Some t) (Some vs) (Some u) = Some record { tree = t; values = vs; space = u.space }
-bound_with _ _ _ = None
-
-abbrev pub bound_at : SetValue → List ShaderUse → ℕ → Option Bound
-bound_at s uses n = bound_with (slice_get s.trees (slice_index_or s.of_use n 0)) (slice_get s.bound n) (slice_get uses n)
-
-abbrev pub bound_for : SetValue → List ShaderUse → Option ℕ → Option Bound
-bound_for s uses None = None
-bound_for s uses (Some n) = bound_at s uses n
 
 -- the maps to camera space for a shader of a primitive, and for a light, whose object space is its own
 abbrev pub spaces_with : Leaf → Map → Map → Spaces

@@ -4,9 +4,8 @@ use Rattle.patches.specs.Parts.{Part}
 use Rattle.scene_state.specs.Scene.{PrimValue, FrameValue}
 use Rattle.sl_ast.specs.TreeView.{tree_of}
 use Rattle.mask_codegen.specs.Compiled.{IsCodeOf}
-use Rattle.displace_shade.specs.Sets.{SetValue, AreValuesOf}
+use Rattle.shader_binding.specs.Sets.{SetValue, AreValuesOf, Bound}
 use Rattle.grid_variables.specs.Points.{Leaf}
-use Rattle.displace_shade.specs.Shaded.{Bound}
 use Rattle.displace_shade.specs.declared.set.ShaderSet.{ShaderSet}
 use Rattle.displace_shade.specs.declared.bound.BoundShader.{BoundShader}
 

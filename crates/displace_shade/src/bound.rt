@@ -3,8 +3,8 @@ ghost use Rattle.std.specs.Prelude.{◌≡◌, ◌<◌, true, Some, length, slic
 ghost use Rattle.scene_state.specs.Scene.{IsUse};
 ghost use Rattle.scene_state.specs.declared.uses.ShaderKind.{ShaderKind as UseKind};
 ghost use Rattle.sl_ast.specs.TreeView.{tree_of};
-ghost use Rattle.displace_shade.specs.Sets.{Fits, is_of_kind};
-ghost use Rattle.displace_shade.specs.Shaded.{bound_at as bound_at_use};
+ghost use Rattle.shader_binding.specs.Sets.{Fits, is_of_kind};
+ghost use Rattle.shader_binding.specs.Sets.{bound_at as bound_at_use};
 ghost use Rattle.displace_shade.specs.Shop.{set_value, bound_value, Runs};
 
 use crate::set::ShaderSet;

@@ -2,8 +2,9 @@
 ghost use Rattle.std.specs.Prelude.{◌≡◌, ◌<◌, All, Some, length, get_or, map, IfOk};
 ghost use Rattle.scene_state.specs.Scene.{IsUse};
 ghost use Rattle.scene_state.specs.declared.uses.ShaderKind.TheVariants as requested;
-ghost use Rattle.displace_shade.specs.Sets.{Fits};
-ghost use Rattle.displace_shade.specs.Shaded.{bound_at as bound_at_use, light_spaces as light_maps, lights_from};
+ghost use Rattle.shader_binding.specs.Sets.{Fits};
+ghost use Rattle.shader_binding.specs.Sets.{bound_at as bound_at_use};
+ghost use Rattle.displace_shade.specs.Shaded.{light_spaces as light_maps, lights_from};
 ghost use Rattle.displace_shade.specs.Shop.{set_value, bound_value};
 ghost use Rattle.displace_shade.specs.Lamps.{IsLamp, lamp_light};
 

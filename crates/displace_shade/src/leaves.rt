@@ -3,12 +3,12 @@ ghost use Rattle.std.specs.Prelude.{◌≡◌, ℕ, [], All, map, IfOk};
 ghost use Rattle.scene_state.specs.Scene.{IsUse, IsSomeUse, HasUses};
 ghost use Rattle.scene_state.specs.declared.uses.ShaderKind.TheVariants as requested;
 ghost use Rattle.sl_meaning.specs.Runs.{Names};
-ghost use Rattle.displace_shade.specs.Sets.{Fits};
-ghost use Rattle.displace_shade.specs.Shaded.{bound_at as bound_at_use, bound_for, shaded_by, shaded};
-ghost use Rattle.grid_variables.specs.Places.{IsSized, IsColoured, ArePlaces};
+ghost use Rattle.shader_binding.specs.Sets.{Fits, bound_at as bound_at_use, bound_for};
+ghost use Rattle.displace_shade.specs.Shaded.{shaded_by, shaded};
 ghost use Rattle.displace_shade.specs.Diced.{Hold, grid_value};
+ghost use Rattle.grid_variables.specs.Places.{IsSized, IsColoured, ArePlaces};
 ghost use Rattle.displace_shade.specs.Shop.{set_value};
-ghost use Rattle.displace_shade.specs.Bindings.{FitUseVariables, FitSomeVariables, FitsPrim};
+ghost use Rattle.shader_binding.specs.Bindings.{FitUseVariables, FitSomeVariables, FitsPrim};
 ghost use Rattle.displace_shade.specs.Lamps.{IsLamp, lamp_light};
 
 use crate::bound::bound_at;

@@ -18,7 +18,7 @@ ghost use Rattle.grid_variables.specs.Places.{point_count, over, IsSized, IsColo
 ghost use Rattle.displace_shade.specs.Diced.{triple_in, Hold};
 ghost use Rattle.displace_shade.specs.Shop.{bound_value, Runs};
 ghost use Rattle.grid_variables.specs.Variables.{values_at};
-ghost use Rattle.displace_shade.specs.Bindings.{FitVariables};
+ghost use Rattle.shader_binding.specs.Bindings.{FitVariables};
 ghost use Rattle.displace_shade.specs.Lamps.{IsLamp, lamp_light, lamp_asked};
 
 use crate::arguments::uniform_values;

@@ -1,8 +1,8 @@
 ghost use Rattle.std.specs.Prelude.{◌≡◌, ◌≤◌, ◌<◌, ◌+◌, All, Some, length, slice_get, IfOk, MatchResult};
 ghost use Rattle.scene_state.specs.Scene.{FrameValue, PrimValue, HasUses};
-ghost use Rattle.displace_shade.specs.Sets.{Fits};
+ghost use Rattle.shader_binding.specs.Sets.{Fits};
 ghost use Rattle.displace_shade.specs.Shaded.{shaded};
-ghost use Rattle.displace_shade.specs.Bindings.{FitsPrim};
+ghost use Rattle.shader_binding.specs.Bindings.{FitsPrim};
 ghost use Rattle.displace_shade.specs.Diced.{grid_value};
 ghost use Rattle.displace_shade.specs.Shop.{set_value, leaf_of};
 

@@ -20,6 +20,7 @@ use Rattle.sl_ast.specs.declared.typed.Value.TheVariants.{Number, Triple, Word}
 use Rattle.sl_ast.specs.Typed.{Local}
 use Rattle.builtins.specs.Table.{image}
 use Rattle.builtins.specs.Triples.{normalize}
+use Rattle.shader_binding.specs.Predefined.{sets_predefined}
 use Rattle.grid_variables.specs.Points.{Leaf, own_u, own_v, u_at, v_at, normal_of, turned}
 
 -- the numbers of a variable's value, one behind another; a string has none
@@ -110,11 +111,6 @@ abbrev pub n_at : Leaf → ℕ → Vec3
 n_at l i = normal_or l i (variable_named (codes "N") l.prim.vars)
 
 -- ---- what the parameters of a surface, displacement or volume take
--- variables of these names set predefined variables alone
-abbrev pub sets_predefined : List ℕ → Bool
-sets_predefined name =
-    bytes_eq name (codes "P") || (bytes_eq name (codes "N") || (bytes_eq name (codes "Cs") || (bytes_eq name (codes "Os") || (bytes_eq name (codes "s") || (bytes_eq name (codes "t") || bytes_eq name (codes "st"))))))
-
 abbrev pub bound_variable : List ℕ → List VariableValue → Option VariableValue
 bound_variable name xs = cond (sets_predefined name) None (variable_named name xs)
 

@@ -17,7 +17,7 @@ mod variables;
 pub use at_points::spread;
 pub use kept::kept_near;
 pub use leaf::Leaf;
-pub use named::{bound_variable, sets_predefined};
+pub use named::bound_variable;
 pub use places::Places;
 pub use stages::{diced, first_variables, geometric_normals, grid_of, places_of};
 pub use values::{kind_of, value_or};

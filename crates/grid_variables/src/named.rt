@@ -1,10 +1,11 @@
 // The variables of a primitive by their names.
 ghost use Rattle.std.specs.Prelude.{◌≡◌, option_map};
 ghost use Rattle.std.specs.Str.{bytes_eq};
-ghost use Rattle.grid_variables.specs.Variables.{variable_named as variable_of, is_pair as is_pair_of, setter as setter_of, sets_predefined as sets_of, bound_variable as bound_of};
+ghost use Rattle.grid_variables.specs.Variables.{variable_named as variable_of, is_pair as is_pair_of, setter as setter_of, bound_variable as bound_of};
 
 use fixed_math::Text;
 use scene_state::Variable;
+use shader_binding::sets_predefined;
 
 fn is_word(text: &Text, word: &str) -> bool
     ensures { result ≡ bytes_eq text.now word.now }
@@ -45,19 +46,6 @@ pub(crate) fn setter<'s>(variables: &'s [Variable], name: &str) -> Option<&'s Va
         }
     }
     found
-}
-
-/// Whether variables of that name set predefined variables alone, and bind to no parameter.
-pub fn sets_predefined(name: &Text) -> bool
-    ensures { result ≡ sets_of name.now }
-{
-    is_word(name, "P")
-        || is_word(name, "N")
-        || is_word(name, "Cs")
-        || is_word(name, "Os")
-        || is_word(name, "s")
-        || is_word(name, "t")
-        || is_word(name, "st")
 }
 
 /// The variable that binds to the parameter of that name.

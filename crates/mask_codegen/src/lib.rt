@@ -9,4 +9,3 @@ mod sets;
 
 pub use compiled::{Compiled, compile};
 pub use fault::CodeFault;
-pub use row_count::rows;

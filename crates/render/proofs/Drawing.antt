@@ -13,7 +13,7 @@ use Rattle.hider.specs.Fragments.{fragments}
 use Rattle.hider.specs.Tiles.{TileValue, Shows, with_covering}
 use Rattle.hider.proofs.Frames.{shows_grid}
 use Rattle.scene_state.specs.Scene.{PrimValue, FrameValue}
-use Rattle.render.specs.Set.{AcceptedValue}
+use Rattle.acceptance.specs.Set.{AcceptedValue}
 use Rattle.render.specs.Pictures.{decide, prim_leaves, prim_micropolygons}
 use Rattle.render.specs.Sampled.{ShowsMore, prims_micropolygons}
 use Rattle.render.proofs.LeafParts.{few_leaves}

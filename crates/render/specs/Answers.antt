@@ -5,38 +5,18 @@ use Rattle.outside.specs.Sink.{Written}
 use Rattle.outside.specs.Frames.{whole, Adds, AddsFront}
 use Rattle.displace_shade.specs.Shop.{set_value}
 use Rattle.render.specs.declared.accepted.Accepted.{Accepted}
-use Rattle.render.specs.Set.{AcceptedValue}
-use Rattle.render.specs.Causes as causes
-use Rattle.render.specs.Causes.{Cause, Reads}
+use Rattle.acceptance.specs.Set.{AcceptedValue}
+use Rattle.acceptance.specs.Causes as causes
+use Rattle.acceptance.specs.Causes.{Cause, Reads}
 use Rattle.render.specs.Verdict as verdicts
 use Rattle.render.specs.Verdict.{pictures_of}
 use Rattle.render.specs.Run.{is_accepted}
-use Rattle.render.specs.Codes.{status_of_code}
-use Rattle.render.specs.declared.command.Action.{Action}
-use Rattle.render.specs.declared.refusal.Refusal.{Refusal}
-use Rattle.render.specs.declared.refusal.Refusal.TheVariants as refusals
+use Rattle.acceptance.specs.Answers.{Because, status_of_refusal}
+use Rattle.command_line.specs.declared.command.Action.{Action}
+use Rattle.acceptance.specs.declared.refusal.Refusal.{Refusal}
+use Rattle.acceptance.specs.declared.refusal.Refusal.TheVariants as refusals
 use Rattle.render.specs.declared.program.Answer.{Answer}
 use Rattle.render.specs.declared.program.Answer.TheVariants.{Done, Usage, NoScene, Refused, WriteFault, NoMemory}
-
--- a refusal has its cause, but where the library failed or memory ran out
-abbrev pub Because : Refusal → Option Cause → Type 0
-Because (refusals.Missing file) cause = cause ≡ Some (causes.Missing file)
-Because (refusals.At file line code) cause = cause ≡ Some (causes.At file line code)
-Because refusals.ReadFault cause = Unit {0}
-Because refusals.NoMemory cause = Unit {0}
-
-abbrev pub as_it_is : {A : Type 0} → A → A
-as_it_is x = x
-
--- what is read, and by what view, or why it is refused
-abbrev pub Gives : {A B : Type 0} → (A → B) → Result A Refusal → Reads B → Type 0
-Gives view (Ok x) read = read ≡ Ok (view x)
-Gives view (Err refusal) read = Because refusal (causes.cause_in read)
-
--- there is no cause, or it is refused for that
-abbrev pub Clears : {A : Type 0} → Result A Refusal → Option Cause → Type 0
-Clears (Ok x) cause = cause ≡ None
-Clears (Err refusal) cause = Because refusal cause
 
 -- a scene's text, none where no file has that name, or why it isn't read
 abbrev pub GivesText : List ℕ → Result (Option (Vec ℕ Global)) Refusal → Reads (List ℕ) → Type 0
@@ -75,12 +55,6 @@ ComesBefore NoMemory = ⊥
 ComesBefore Usage = Unit {0}
 ComesBefore NoScene = Unit {0}
 ComesBefore (Refused refusal) = Unit {0}
-
-abbrev pub status_of_refusal : Refusal → ℕ
-status_of_refusal (refusals.At file line code) = status_of_code code
-status_of_refusal (refusals.Missing file) = 6
-status_of_refusal refusals.ReadFault = 7
-status_of_refusal refusals.NoMemory = 9
 
 abbrev pub number_of : Answer → ℕ
 number_of Done = 0

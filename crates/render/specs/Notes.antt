@@ -1,11 +1,11 @@
 -- The note that tells why a command is refused.
 use Rattle.std.specs.Prelude.{ℕ, List, ◌++◌, codes, decimal}
-use Rattle.render.specs.declared.refusal.FileId.{FileId}
-use Rattle.render.specs.declared.refusal.FileId.TheVariants.{Scene, Shader}
-use Rattle.render.specs.Codes.{text_of}
-use Rattle.render.specs.Causes.{Cause, Missing, At}
-use Rattle.render.specs.Command.{Source, File, Demo}
-use Rattle.render.specs.Shaders.{file_of}
+use Rattle.acceptance.specs.declared.refusal.FileId.{FileId}
+use Rattle.acceptance.specs.declared.refusal.FileId.TheVariants.{Scene, Shader}
+use Rattle.acceptance.specs.Codes.{text_of}
+use Rattle.acceptance.specs.Causes.{Cause, Missing, At}
+use Rattle.command_line.specs.Command.{Source, File, Demo}
+use Rattle.acceptance.specs.Shaders.{file_of}
 
 -- a file's name in notes, where the scene has this name
 abbrev pub name_in_notes : List ℕ → FileId → List ℕ

@@ -16,8 +16,8 @@ use Rattle.hider.specs.Cells.{Micropolygon, still, cells_of}
 use Rattle.hider.specs.Fragments.{fragments}
 use Rattle.hider.specs.Composite.{composite}
 use Rattle.outside.specs.Frames.{Picture}
-use Rattle.render.specs.Set.{AcceptedValue}
-use Rattle.render.specs.Film.{FilmValues, picture}
+use Rattle.acceptance.specs.Set.{AcceptedValue}
+use Rattle.frame_pixels.specs.Film.{FilmValues, picture}
 
 -- the split decision for a part of a primitive's patch
 abbrev pub decide : View → PrimValue → Part → Decision

@@ -4,9 +4,9 @@ use Rattle.outside.specs.Library.{Files}
 use Rattle.outside.specs.Sink.{Written}
 use Rattle.outside.specs.Frames.{whole, Adds, AddsFront}
 use Rattle.outside.specs.Asked.{AsksFront}
-use Rattle.render.specs.declared.command.Action.{Action}
-use Rattle.render.specs.declared.command.Action.TheVariants.{Render, Check}
-use Rattle.render.specs.Command.{Command, command_of}
+use Rattle.command_line.specs.declared.command.Action.{Action}
+use Rattle.command_line.specs.declared.command.Action.TheVariants.{Render, Check}
+use Rattle.command_line.specs.Command.{Command, command_of}
 use Rattle.render.specs.Verdict.{Verdict, Usage, Refused, Accepted, verdict, status_of, pictures_of, asked_of}
 
 -- the words are no command

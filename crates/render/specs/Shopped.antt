@@ -2,7 +2,7 @@
 use Rattle.scene_state.specs.Scene.{SceneValue}
 use Rattle.displace_shade.specs.Shop.{set_value}
 use Rattle.displace_shade.specs.declared.shop.Shop.{Shop}
-use Rattle.render.specs.Set.{AcceptedValue}
+use Rattle.acceptance.specs.Set.{AcceptedValue}
 
 -- a scene with the set of a shop
 abbrev pub shaded_by : SceneValue → Shop → AcceptedValue

@@ -4,9 +4,9 @@ use Rattle.outside.specs.Library.{Files, held_as}
 use Rattle.scene_state.specs.declared.uses.ShaderUse.{ShaderUse}
 use Rattle.grid_variables.specs.Points.{Leaf}
 use Rattle.displace_shade.specs.Constant.{constant_tree, IsFlat}
-use Rattle.render.specs.Shaders.{file_of, stock_text, tree_of_text}
-use Rattle.render.specs.Set.{AcceptedValue}
-use Rattle.render.specs.Verdict.{accepted}
+use Rattle.acceptance.specs.Shaders.{file_of, stock_text, tree_of_text}
+use Rattle.acceptance.specs.Set.{AcceptedValue}
+use Rattle.acceptance.specs.Accepting.{accepted}
 
 -- what is read of its text
 pub the_constant : tree_of_text (codes "constant") (stock_text (codes "constant")) ≡ Ok constant_tree

@@ -1,24 +1,17 @@
 -- What a command has to be answered.
-use Rattle.std.specs.Prelude.{ℕ, List, [], ◌∷◌, ◌++◌, length, Option, Some, None, Result, Ok, Err, if◌then◌else◌, nat_lt}
+use Rattle.std.specs.Prelude.{ℕ, List, [], ◌∷◌, ◌++◌, length, Option, Some, None, Ok, Err, if◌then◌else◌, nat_lt}
 use Rattle.outside.specs.Library.{Files, held_as}
 use Rattle.outside.specs.Frames.{Picture}
-use Rattle.rib_lex.specs.declared.token.Token.{Token}
-use Rattle.rib_lex.specs.Tokens as tokens
-use Rattle.rib_reader.specs.Reading as reading
-use Rattle.scene_state.specs.Scene.{SceneValue}
-use Rattle.scene_state.specs.Steps as steps
 use Rattle.stock.specs.Demo.{demo}
-use Rattle.render.specs.declared.code.Code.TheVariants.{M10}
-use Rattle.render.specs.declared.command.Action.{Action}
-use Rattle.render.specs.declared.command.Action.TheVariants.{Render}
-use Rattle.render.specs.declared.refusal.FileId.TheVariants.{Scene}
-use Rattle.render.specs.Causes.{Cause, Missing, At, Reads, unless}
-use Rattle.render.specs.Codes.{status_of_code, of_lex, of_request, of_state}
-use Rattle.render.specs.Command.{Source, File, Demo, Command, command_of}
-use Rattle.render.specs.Shaders.{shader_names, shaders_refused, shaders_asked}
-use Rattle.render.specs.Bindings.{uses_refused}
-use Rattle.render.specs.PrimBindings.{prims_refused}
-use Rattle.render.specs.Set.{AcceptedValue, set_of, accepted_with}
+use Rattle.acceptance.specs.declared.code.Code.TheVariants.{M10}
+use Rattle.command_line.specs.declared.command.Action.{Action}
+use Rattle.command_line.specs.declared.command.Action.TheVariants.{Render}
+use Rattle.acceptance.specs.declared.refusal.FileId.TheVariants.{Scene}
+use Rattle.acceptance.specs.Causes.{Cause, Missing, At, Reads}
+use Rattle.acceptance.specs.Codes.{status_of_code}
+use Rattle.command_line.specs.Command.{Source, File, Demo, Command, command_of}
+use Rattle.acceptance.specs.Accepting.{accepted, asked_for_scene, scene_of_text}
+use Rattle.acceptance.specs.Set.{AcceptedValue}
 use Rattle.render.specs.Pictures.{frames_of}
 
 -- the most bytes of a scene file
@@ -29,35 +22,6 @@ most_bytes = 16777216
 abbrev pub text_of_held : List ℕ → Option (List ℕ) → Reads (List ℕ)
 text_of_held name None = Err (Missing name)
 text_of_held name (Some bytes) = if nat_lt most_bytes (length bytes) then Err (At Scene 1 M10) else Ok bytes
-
--- the scene of a text, or its first fault: its tokens, its requests, then its graphics state
-abbrev pub scene_of_state : Result SceneValue steps.Placed → Reads SceneValue
-scene_of_state (Ok scene) = Ok scene
-scene_of_state (Err (code, line)) = Err (At Scene line (of_state code))
-
-abbrev pub scene_of_requests : Result (List reading.Read) reading.Placed → Reads SceneValue
-scene_of_requests (Ok requests) = scene_of_state (steps.scene_of requests)
-scene_of_requests (Err (code, line)) = Err (At Scene line (of_request code))
-
-abbrev pub scene_of_tokens : Result (List Token) tokens.Placed → Reads SceneValue
-scene_of_tokens (Ok ts) = scene_of_requests (reading.requests_of ts)
-scene_of_tokens (Err (code, line)) = Err (At Scene line (of_lex code))
-
-unfoldable pub scene_of_text : List ℕ → Reads SceneValue
-scene_of_text text = scene_of_tokens (tokens.tokens_of text)
-
--- a scene is accepted where its shaders are right, by first use, and then the parameters of its shader requests, and then the variables of
--- its primitives
-abbrev pub bound_scene : Files → SceneValue → Reads AcceptedValue
-bound_scene files scene = unless (uses_refused files scene.uses) (unless (prims_refused (set_of files scene.uses) scene.frames) (Ok (accepted_with files scene)))
-
-abbrev pub accepted_scene : Files → Reads SceneValue → Reads AcceptedValue
-accepted_scene files (Ok scene) = unless (shaders_refused files (shader_names scene.uses)) (bound_scene files scene)
-accepted_scene files (Err cause) = Err cause
-
--- the accepted scene of a text with its shaders, over the files that are held
-abbrev pub accepted : Files → List ℕ → Reads AcceptedValue
-accepted files text = accepted_scene files (scene_of_text text)
 
 pub data Verdict : Type 0 where
   Usage : Verdict
@@ -100,10 +64,6 @@ pictures_of (Accepted Render accepted) = frames_of accepted
 pictures_of _ = []
 
 -- the names to ask for: that of the scene's file, and where the scene is read those of its shaders' files, up to and with the first that is refused
-abbrev pub asked_for_scene : Files → Reads SceneValue → List (List ℕ)
-asked_for_scene files (Ok scene) = shaders_asked files (shader_names scene.uses)
-asked_for_scene files (Err cause) = []
-
 abbrev pub asked_for_text : Files → Reads (List ℕ) → List (List ℕ)
 asked_for_text files (Ok text) = asked_for_scene files (scene_of_text text)
 asked_for_text files (Err cause) = []

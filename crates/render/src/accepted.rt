@@ -1,9 +1,87 @@
+// The accepted scene of a text, with the code of its shaders.
+ghost use Rattle.std.specs.Prelude.{◌≡◌, ◌≤◌, IsErrOf, IfOk, length, map};
+ghost use Rattle.outside.specs.Causes.{Rose, Told};
+ghost use Rattle.outside.specs.Asked.{AsksFront};
+ghost use Rattle.shader_binding.specs.Sets.{Fits};
+ghost use Rattle.acceptance.specs.Accepting.{scene_of_text, accepted, asked_for_scene};
+ghost use Rattle.acceptance.specs.Answers.{Gives};
+ghost use Rattle.acceptance.specs.Reading.{set_in};
+ghost use Rattle.acceptance.specs.PrimBindings.{FitPrims};
+ghost use Rattle.acceptance.specs.Reading.{tree_read};
+ghost use Rattle.acceptance.specs.declared.refusal.Refusal.TheVariants.{ReadFault};
+ghost use Rattle.displace_shade.specs.Shop.{set_value};
+ghost use Rattle.render.specs.Answers.{accepted_in};
+ghost use Rattle.render.specs.Coded.{tree_compiled};
+
+use acceptance::{AcceptedScene, ReadShader, Refusal};
 use displace_shade::ShaderSet;
+use fixed_math::{List, NoMemory};
+use mask_codegen::{CodeFault, Compiled, compile};
+use outside::Library;
 use scene_state::Scene;
+use std::alloc::Global;
 
 /// A scene that is right, with the shaders of its requests and what their parameters are bound to.
 #[derive(Drop)]
 pub struct Accepted {
     pub scene: Scene,
     pub set: ShaderSet,
+}
+
+// The code of a shader that is read.
+fn compiled(alloc: Global, shader: ReadShader) -> Result<Compiled, NoMemory>
+    ensures { IfOk result (λ c. tree_compiled c ≡ tree_read shader) }
+{
+    match compile(alloc, shader.tree) {
+        Ok(compiled) => Ok(compiled),
+        Err(CodeFault::M9) => unreachable!(),
+        Err(CodeFault::NoMemory) => Err(NoMemory),
+    }
+}
+
+// The codes of all shaders that are read.
+fn all_compiled(alloc: Global, shaders: Vec<ReadShader>) -> Result<Vec<Compiled>, NoMemory>
+    ensures { IfOk result (λ cs. map tree_compiled cs.items ≡ map tree_read shaders.items) }
+{
+    let mut codes = Vec::new(alloc);
+    for shader in shaders {
+        codes.push(compiled(alloc, shader)?)?;
+    }
+    Ok(codes)
+}
+
+// An accepted scene with the code of its shaders.
+fn coded(alloc: Global, read: AcceptedScene) -> Result<Accepted, NoMemory>
+    ensures scene { IfOk result (λ a. a.scene ≡ read.scene) }
+    ensures set { IfOk result (λ a. set_value a.set ≡ set_in read) }
+{
+    let compiled = all_compiled(alloc, read.shaders.read.0)?;
+    Ok(Accepted {
+        scene: read.scene,
+        set: ShaderSet {
+            compiled: List(compiled),
+            of_use: read.shaders.of_use,
+            bound: read.bound,
+        },
+    })
+}
+
+/// The accepted scene of a text of at most 16,777,216 bytes with its shaders, which are asked of the library by first use, each
+/// once: the file `x.sl` of the shader x, or the stock's text where there is no such file. Or the first fault: of the scene, of its
+/// shaders by first use, then of the parameters of its shader requests (RenderMan Interface 3.2, section 11.3.3), then of the
+/// variables of its primitives. The set of shaders fits the scene, which has at most 1,000 frames, and so do the variables fit it.
+pub fn accept<L: Library>(alloc: Global, text: &[u8], library: &mut L) -> Result<Accepted, Refusal>
+    requires { length text.now ≤ 16777216 }
+    ensures held { L.held library.new ≡ L.held library.old }
+    ensures asked { Told (L.held library.old) (λ files. AsksFront (asked_for_scene files (scene_of_text text.now)) (L.asked library.old) (L.asked library.new)) }
+    ensures gives { Told (L.held library.old) (λ files. Gives accepted_in result (accepted files text.now)) }
+    ensures fits { IfOk result (λ a. Fits (set_value a.set) a.scene.uses) }
+    ensures variables { IfOk result (λ a. FitPrims (set_value a.set) a.scene.uses a.scene.frames) }
+    ensures few { IfOk result (λ a. length a.scene.frames ≤ 1000) }
+    ensures later { L.faults library.old ≤ L.faults library.new }
+    ensures read { IsErrOf result ReadFault → Rose (L.faults library.old) (L.faults library.new) }
+{
+    let read = acceptance::accept(alloc, text, library)?;
+    let accepted = coded(alloc, read)?;
+    Ok(accepted)
 }

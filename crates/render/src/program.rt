@@ -2,20 +2,20 @@
 ghost use Rattle.std.specs.Prelude.{◌≡◌, ◌≢◌, ◌≤◌, ◌⊎◌, true, false, Some, IfOk, option_map, string_bytes};
 ghost use Rattle.outside.specs.Causes.{Rose, Told};
 ghost use Rattle.outside.specs.Asked.{AsksFront};
-ghost use Rattle.render.specs.Texts.{texts};
+ghost use Rattle.command_line.specs.Texts.{texts};
 ghost use Rattle.render.specs.Run.{IsUsage, draws, draws_action, IsAccepted, HasStatus, AnswersVerdict, IsRefused, AddsFrames, AddsFirstFrames, AsksFirstNames};
-ghost use Rattle.render.specs.Command.{source_view, command_view};
+ghost use Rattle.command_line.specs.Command.{source_view, command_view};
 ghost use Rattle.render.specs.Verdict.{verdict, verdict_of_command, asked_for_command};
-ghost use Rattle.render.specs.Causes.{Cause};
+ghost use Rattle.acceptance.specs.Causes.{Cause};
 ghost use Rattle.render.specs.Notes.{scene_name, name_in_notes, fault_line, note_of};
 ghost use Rattle.render.specs.Answers.{Agrees, ComesBefore, number_of, cause_told};
 ghost use Rattle.render.specs.declared.program.Answer.TheVariants.{Usage, Refused, WriteFault, NoMemory as OutOfMemory};
-ghost use Rattle.render.specs.declared.refusal.Refusal.TheVariants.{ReadFault};
+ghost use Rattle.acceptance.specs.declared.refusal.Refusal.TheVariants.{ReadFault};
 
-use crate::command::{Action, SceneCommand, Source, scene_command};
 use crate::load::load;
-use crate::refusal::{FileId, Refusal};
 use crate::write::{Stop, write_pictures};
+use acceptance::{FileId, Refusal};
+use command_line::{Action, SceneCommand, Source, scene_command};
 use fixed_math::NoMemory;
 use outside::{FrameSink, Library, Notes};
 use std::alloc::Global;

@@ -2,10 +2,10 @@
 ghost use Rattle.std.specs.Prelude.{◌≡◌, ◌≢◌, ◌≤◌, ◌+◌, ◌^◌, ◌∷◌, [], ◌++◌, true, false, All, length, map, option_map, string_bytes, IfOk, OnOk, OnErr, IsErrOf, Err};
 ghost use Rattle.outside.specs.Causes.{HasCause, Rose};
 ghost use Rattle.outside.specs.Frames.{Adds, AddsPart, AddsFront, whole, PutsAll, PutsFront};
-ghost use Rattle.displace_shade.specs.Sets.{Fits};
-ghost use Rattle.displace_shade.specs.Bindings.{FitsPrim};
+ghost use Rattle.shader_binding.specs.Sets.{Fits};
+ghost use Rattle.shader_binding.specs.Bindings.{FitsPrim};
 ghost use Rattle.displace_shade.specs.Shop.{set_value};
-ghost use Rattle.render.specs.PrimBindings.{FitPrims};
+ghost use Rattle.acceptance.specs.PrimBindings.{FitPrims};
 ghost use Rattle.render.specs.Pictures.{picture_bytes, picture_of, frames_of};
 ghost use Rattle.render.specs.Summary.{summary_line, summary_of};
 ghost use Rattle.render.specs.Shopped.{shaded_by};
@@ -22,7 +22,7 @@ use scene_state::{Frame, Scene};
 use std::alloc::Global;
 
 /// Why not all frames were written.
-#[derive(Debug, Clone, Copy, PartialEq, Eq)]
+#[derive(Clone, Copy)]
 pub(crate) enum Stop {
     /// The sink failed.
     Stopped,

@@ -4,7 +4,7 @@ use Rattle.std.proofs.lemmas.Option.{slice_get_read}
 use Rattle.std.proofs.lemmas.List.{length-map}
 use Rattle.sl_ast.specs.TreeView.{tree_of}
 use Rattle.scene_state.specs.Scene.{IsOf}
-use Rattle.displace_shade.specs.Sets.{AreValuesOf, is_of_kind}
+use Rattle.shader_binding.specs.Sets.{AreValuesOf, is_of_kind}
 use Rattle.displace_shade.specs.Shop.{set_value}
 use Rattle.displace_shade.proofs.BoundLaws.{fits_place, fits_long, fits_use, tree_found, found_law}
 use Rattle.displace_shade.proofs.bound.bound_at.Goals as goal

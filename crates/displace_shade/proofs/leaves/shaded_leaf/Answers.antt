@@ -2,8 +2,9 @@ use Rattle.std.proofs.Common.{[], map, sym, ap, subst, ◌∙◌}
 use Rattle.scene_state.specs.Scene.{IsUse, IsSomeUse}
 use Rattle.scene_state.specs.declared.uses.ShaderKind.TheVariants as requested
 use Rattle.displace_shade.specs.Diced.{Hold}
-use Rattle.displace_shade.specs.Shaded.{diced_names, bound_at, bound_for, lights_from, shaded_by, displaced}
-use Rattle.displace_shade.specs.Bindings.{FitUseVariables, FitSomeVariables}
+use Rattle.displace_shade.specs.Shaded.{diced_names, lights_from, shaded_by, displaced}
+use Rattle.shader_binding.specs.Sets.{bound_at, bound_for}
+use Rattle.shader_binding.specs.Bindings.{FitUseVariables, FitSomeVariables}
 use Rattle.displace_shade.specs.Lamps.{lamp_light}
 use Rattle.displace_shade.specs.Shop.{set_value}
 use Rattle.displace_shade.proofs.Dicing.{first_hold}

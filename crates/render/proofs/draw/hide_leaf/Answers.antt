@@ -5,7 +5,7 @@ use Rattle.hider.specs.declared.cell.Cell.{Cell}
 use Rattle.hider.specs.Cells.{Micropolygon, still}
 use Rattle.bound_split.specs.declared.splits.Decision.{Decision}
 use Rattle.displace_shade.specs.Shaded.{GridValue}
-use Rattle.displace_shade.specs.Bindings.{FitsPrim}
+use Rattle.shader_binding.specs.Bindings.{FitsPrim}
 use Rattle.displace_shade.specs.Shop.{set_value}
 use Rattle.render.specs.Pictures.{grid_cells, diced_cells, leaf_cells, leaf_micropolygons}
 use Rattle.render.specs.Sampled.{ShowsMore}

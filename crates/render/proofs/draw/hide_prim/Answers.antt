@@ -2,8 +2,8 @@ use Rattle.std.proofs.Common.{◌≡◌, ◌+◌, ◌∷◌, [], refl, ap, sym, 
 use Rattle.std.specs.Prelude.{slice_get}
 use Rattle.patches.specs.Parts.{Part, whole_of}
 use Rattle.bound_split.specs.Leaves.{leaves, pending}
-use Rattle.displace_shade.specs.Sets.{Fits}
-use Rattle.displace_shade.specs.Bindings.{FitsPrim}
+use Rattle.shader_binding.specs.Sets.{Fits}
+use Rattle.shader_binding.specs.Bindings.{FitsPrim}
 use Rattle.displace_shade.specs.Shop.{set_value}
 use Rattle.displace_shade.specs.declared.set.ShaderSet.{ShaderSet}
 use Rattle.render.specs.Pictures.{decide, leaf_micropolygons, prim_micropolygons}

@@ -9,10 +9,10 @@ use Rattle.hider.specs.declared.sample.Sample.{Sample}
 use Rattle.hider.specs.Composite.{composite}
 use Rattle.hider.specs.Fragments.{fragments}
 use Rattle.filter_ppm.specs.Levels.{header, band}
-use Rattle.render.specs.Film.{FilmValues, pixels, picture}
+use Rattle.frame_pixels.specs.Film.{FilmValues, pixels, picture}
 use Rattle.render.specs.Pictures.{picture_bytes, micropolygons}
-use Rattle.render.specs.Sampled.{FilmFormat, film_with, frame_grid}
-use Rattle.render.proofs.Within.{pixels_within}
+use Rattle.frame_pixels.specs.Sampled.{FilmFormat, film_with, frame_grid}
+use Rattle.frame_pixels.proofs.Within.{pixels_within}
 use Rattle.render.proofs.draw.picture.Goals as goal
 
 pub pixels-requires : goal.pixels-requires

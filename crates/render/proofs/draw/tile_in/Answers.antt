@@ -4,8 +4,8 @@ use Rattle.std.proofs.lemmas.List.{take_all}
 use Rattle.std.proofs.lemmas.List.Elements.{All-get_or}
 use Rattle.std.proofs.lemmas.Option.{slice_get-get_or}
 use Rattle.scene_state.specs.Scene.{PrimValue}
-use Rattle.displace_shade.specs.Sets.{Fits}
-use Rattle.displace_shade.specs.Bindings.{FitsPrim}
+use Rattle.shader_binding.specs.Sets.{Fits}
+use Rattle.shader_binding.specs.Bindings.{FitsPrim}
 use Rattle.displace_shade.specs.Shop.{set_value}
 use Rattle.displace_shade.specs.declared.set.ShaderSet.{ShaderSet}
 use Rattle.render.specs.Shopped.{shaded_by}

@@ -1,7 +1,8 @@
 use Rattle.std.proofs.Common.{◌≡◌, ◌≤◌, ◌+◌, ◌*◌, length, take}
 use Rattle.hider.specs.Fragments.{fragments}
 use Rattle.hider.specs.Tiles.{Shows}
-use Rattle.render.specs.Sampled.{frame_grid, prims_micropolygons}
+use Rattle.frame_pixels.specs.Sampled.{frame_grid}
+use Rattle.render.specs.Sampled.{prims_micropolygons}
 use Rattle.render.specs.Shopped.{shaded_by}
 use Rattle.render.proofs.Drawing.{leaves_of}
 use Rattle.render.proofs.draw.tile_in.Given as goal

@@ -1,6 +1,6 @@
 use Rattle.std.proofs.Common.{subst, Ok}
 use Rattle.outside.specs.Causes.{Told}
-use Rattle.render.specs.Command.{source_view, command_view}
+use Rattle.command_line.specs.Command.{source_view, command_view}
 use Rattle.render.specs.Verdict.{text_of_source}
 use Rattle.render.specs.Notes.{scene_name}
 use Rattle.render.specs.Answers.{GivesText}

@@ -1,5 +1,5 @@
 use Rattle.std.proofs.Common.{ap}
-use Rattle.render.specs.Command.{source_view}
+use Rattle.command_line.specs.Command.{source_view}
 use Rattle.render.proofs.Loading.{demo_read}
 use Rattle.render.proofs.load.text_of.Goals as goal
 

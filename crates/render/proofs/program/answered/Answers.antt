@@ -1,4 +1,4 @@
-use Rattle.render.specs.Texts.{texts}
+use Rattle.command_line.specs.Texts.{texts}
 use Rattle.render.specs.Verdict.{verdict}
 use Rattle.render.proofs.Left.{nothing_left}
 use Rattle.render.proofs.program.answered.Goals as goal

@@ -1,4 +1,4 @@
-use Rattle.render.specs.Texts.{texts}
+use Rattle.command_line.specs.Texts.{texts}
 use Rattle.render.specs.Verdict.{verdict}
 use Rattle.render.proofs.Completing.{caused-told, completes-told, refused-told}
 use Rattle.render.proofs.Left.{leaves-told}

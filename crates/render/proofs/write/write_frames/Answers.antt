@@ -4,11 +4,11 @@ use Rattle.std.specs.Prelude.{OnErr}
 use Rattle.outside.specs.Frames.{whole, Adds, AddsPart, AddsFront}
 use Rattle.outside.proofs.Entries.{adds_front-err, adds-next}
 use Rattle.scene_state.specs.Scene.{FrameValue}
-use Rattle.displace_shade.specs.Sets.{Fits}
-use Rattle.displace_shade.specs.Bindings.{FitsPrim}
+use Rattle.shader_binding.specs.Sets.{Fits}
+use Rattle.shader_binding.specs.Bindings.{FitsPrim}
 use Rattle.displace_shade.specs.Shop.{set_value}
 use Rattle.displace_shade.specs.declared.set.ShaderSet.{ShaderSet}
-use Rattle.render.specs.PrimBindings.{FitPrims}
+use Rattle.acceptance.specs.PrimBindings.{FitPrims}
 use Rattle.render.specs.Pictures.{picture_of}
 use Rattle.render.specs.Shopped.{shaded_by}
 use Rattle.render.proofs.write.write_frames.Goals as goal

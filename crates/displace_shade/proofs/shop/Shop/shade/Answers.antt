@@ -2,7 +2,7 @@ use Rattle.std.proofs.Common.{◌≡◌, All, sym, ap, subst, ◌∙◌}
 use Rattle.std.specs.Prelude.{Some, slice_get}
 use Rattle.scene_state.specs.Scene.{HasUses}
 use Rattle.displace_shade.specs.Shaded.{shaded}
-use Rattle.displace_shade.specs.Bindings.{FitsPrim}
+use Rattle.shader_binding.specs.Bindings.{FitsPrim}
 use Rattle.displace_shade.specs.Diced.{grid_value}
 use Rattle.displace_shade.specs.Shop.{set_value, leaf_of}
 use Rattle.displace_shade.proofs.BoundLaws.{some_is}

@@ -1,0 +1,14 @@
+pub mod Names
+pub mod Places
+pub mod FileNames
+pub mod ReadAll
+pub mod Firsts
+pub mod Declared
+pub mod Fitting
+pub mod Bound
+pub mod Fetched
+pub mod SoFar
+pub mod Judged
+pub mod BoundValues
+pub mod SetSame
+pub mod ParamCount

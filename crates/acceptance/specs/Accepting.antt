@@ -1,0 +1,49 @@
+-- The accepted scene of a text with its shaders, or the first reason why it is refused.
+use Rattle.std.specs.Prelude.{List, [], Result, Ok, Err, ℕ}
+use Rattle.outside.specs.Library.{Files}
+use Rattle.rib_lex.specs.declared.token.Token.{Token}
+use Rattle.rib_lex.specs.Tokens as tokens
+use Rattle.rib_reader.specs.Reading as reading
+use Rattle.scene_state.specs.Scene.{SceneValue}
+use Rattle.scene_state.specs.Steps as steps
+use Rattle.acceptance.specs.declared.refusal.FileId.TheVariants.{Scene}
+use Rattle.acceptance.specs.Causes.{At, Reads, unless}
+use Rattle.acceptance.specs.Codes.{of_lex, of_request, of_state}
+use Rattle.acceptance.specs.Shaders.{shader_names, shaders_refused, shaders_asked}
+use Rattle.acceptance.specs.Bindings.{uses_refused}
+use Rattle.acceptance.specs.PrimBindings.{prims_refused}
+use Rattle.acceptance.specs.Set.{AcceptedValue, set_of, accepted_with}
+
+-- the scene of a text, or its first fault: its tokens, its requests, then its graphics state
+abbrev pub scene_of_state : Result SceneValue steps.Placed → Reads SceneValue
+scene_of_state (Ok scene) = Ok scene
+scene_of_state (Err (code, line)) = Err (At Scene line (of_state code))
+
+abbrev pub scene_of_requests : Result (List reading.Read) reading.Placed → Reads SceneValue
+scene_of_requests (Ok requests) = scene_of_state (steps.scene_of requests)
+scene_of_requests (Err (code, line)) = Err (At Scene line (of_request code))
+
+abbrev pub scene_of_tokens : Result (List Token) tokens.Placed → Reads SceneValue
+scene_of_tokens (Ok ts) = scene_of_requests (reading.requests_of ts)
+scene_of_tokens (Err (code, line)) = Err (At Scene line (of_lex code))
+
+unfoldable pub scene_of_text : List ℕ → Reads SceneValue
+scene_of_text text = scene_of_tokens (tokens.tokens_of text)
+
+-- a scene is accepted where its shaders are right, by first use, and then the parameters of its shader requests, and then the variables of
+-- its primitives
+abbrev pub bound_scene : Files → SceneValue → Reads AcceptedValue
+bound_scene files scene = unless (uses_refused files scene.uses) (unless (prims_refused (set_of files scene.uses) scene.frames) (Ok (accepted_with files scene)))
+
+abbrev pub accepted_scene : Files → Reads SceneValue → Reads AcceptedValue
+accepted_scene files (Ok scene) = unless (shaders_refused files (shader_names scene.uses)) (bound_scene files scene)
+accepted_scene files (Err cause) = Err cause
+
+-- the accepted scene of a text with its shaders, over the files that are held
+abbrev pub accepted : Files → List ℕ → Reads AcceptedValue
+accepted files text = accepted_scene files (scene_of_text text)
+
+-- the names to ask for: where the scene is read those of its shaders' files, up to and with the first that is refused
+abbrev pub asked_for_scene : Files → Reads SceneValue → List (List ℕ)
+asked_for_scene files (Ok scene) = shaders_asked files (shader_names scene.uses)
+asked_for_scene files (Err cause) = []

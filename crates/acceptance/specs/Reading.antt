@@ -1,0 +1,95 @@
+-- What reading shaders comes to.
+use Rattle.std.specs.Prelude.{◌≡◌, ℕ, Bool, List, [], ◌∷◌, ◌++◌, map, slice_get, Option, Some, None, Result, Vec, Ok, Err, All, if◌then◌else◌}
+use Rattle.std.specs.List.{list_any}
+use Rattle.std.specs.Str.{bytes_eq}
+use Rattle.std.specs.declared.alloc.Global.{Global}
+use Rattle.outside.specs.Library.{Files}
+use Rattle.scene_state.specs.declared.uses.ShaderUse.{ShaderUse}
+use Rattle.sl_ast.specs.Typed.{Tree}
+use Rattle.sl_ast.specs.TreeView.{tree_of}
+use Rattle.sl_ast.specs.declared.typed.Value.{Value}
+use Rattle.shader_binding.specs.Sets.{SetValue}
+use Rattle.acceptance.specs.declared.refusal.Refusal.{Refusal}
+use Rattle.acceptance.specs.declared.read.ReadShader.{ReadShader}
+use Rattle.acceptance.specs.declared.shaders.UsedShaders.{UsedShaders}
+use Rattle.acceptance.specs.declared.scene.AcceptedScene.{AcceptedScene}
+use Rattle.acceptance.specs.Set.{AcceptedValue}
+use Rattle.acceptance.specs.Causes.{cause_in}
+use Rattle.acceptance.specs.Shaders.{file_of, text_with, tree_of_text, shader_tree, shaders_refused}
+use Rattle.acceptance.specs.Bindings.{declared_names}
+use Rattle.acceptance.specs.Bound.{bound_values}
+use Rattle.acceptance.specs.Answers.{Because}
+
+abbrev pub name_of : ReadShader → List ℕ
+name_of s = s.name
+
+abbrev pub tree_read : ReadShader → Tree
+tree_read s = tree_of s.tree
+
+abbrev pub declared_by : ReadShader → List (List ℕ)
+declared_by s = declared_names (tree_read s)
+
+-- the text of a shader whose file is held so, or why there is none
+abbrev pub GivesShaderText : List ℕ → Option (List ℕ) → Result (Vec ℕ Global) Refusal → Type 0
+GivesShaderText name held (Ok text) = text_with held name ≡ Some text.items
+GivesShaderText name held (Err refusal) = Because refusal (cause_in (tree_of_text name (text_with held name)))
+
+-- what is held gives this tree
+pub record IsReadOf (files : Files) (s : ReadShader) : Type 0 where
+  pub tree : shader_tree files s.name ≡ Ok (tree_of s.tree)
+
+-- a shader of that name is read, or refused
+abbrev pub ReadsShader : Files → List ℕ → Result ReadShader Refusal → Type 0
+ReadsShader files name (Ok s) = IsReadOf files s
+ReadsShader files name (Err refusal) = Because refusal (cause_in (shader_tree files name))
+
+-- one more is read, or refused
+abbrev pub ReadsNext : {A : Type 0} → Files → List ℕ → List ReadShader → List ReadShader → Result A Refusal → Type 0
+ReadsNext files name old new (Ok x) = All (IsReadOf files) old → All (IsReadOf files) new
+ReadsNext files name old new (Err refusal) = Because refusal (cause_in (shader_tree files name))
+
+-- the shaders of these names are read, or one is refused
+abbrev pub ReadsShaders : Files → List (List ℕ) → Result UsedShaders Refusal → Type 0
+ReadsShaders files names (Ok shaders) = All (IsReadOf files) shaders.read
+ReadsShaders files names (Err refusal) = Because refusal (shaders_refused files names)
+
+-- beside each use stands the place of the shader of its name
+abbrev pub named_use : ShaderUse → Option (List ℕ)
+named_use u = Some u.name
+
+abbrev pub ArePlaced : List ShaderUse → UsedShaders → Type 0
+ArePlaced uses shaders = map (slice_get (map name_of shaders.read)) shaders.of_use ≡ map named_use uses
+
+abbrev pub is_among : List ℕ → List (List ℕ) → Bool
+is_among name names = list_any (λ n. bytes_eq n name) names
+
+-- a name behind those that are read, unless it is among them, and the file that is then asked for
+abbrev pub with_once : List (List ℕ) → List ℕ → List (List ℕ)
+with_once names name = if is_among name names then names else names ++ name ∷ []
+
+abbrev pub file_once : List (List ℕ) → List ℕ → List (List ℕ)
+file_once names name = if is_among name names then [] else file_of name ∷ []
+
+-- what the parameters of a use are bound to, over the shader at place n of these
+abbrev pub values_with : Option ReadShader → ShaderUse → List Value
+values_with (Some s) u = bound_values (tree_read s) u
+values_with None u = []
+
+abbrev pub values_at : List ReadShader → ShaderUse → ℕ → List Value
+values_at read u n = values_with (slice_get read n) u
+
+-- and of all uses
+abbrev pub all_values : List ReadShader → List ShaderUse → List ℕ → List (List Value)
+all_values read (u ∷ us) (n ∷ ns) = values_at read u n ∷ all_values read us ns
+all_values read _ _ = []
+
+-- the set that is made of them
+abbrev pub set_read : UsedShaders → List ShaderUse → SetValue
+set_read s uses = record { trees = map tree_read s.read; of_use = s.of_use; bound = all_values s.read uses s.of_use }
+
+-- the set of an accepted scene's shaders, and the scene with it
+abbrev pub set_in : AcceptedScene → SetValue
+set_in a = record { trees = map tree_read a.shaders.read; of_use = a.shaders.of_use; bound = a.bound }
+
+abbrev pub accepted_in : AcceptedScene → AcceptedValue
+accepted_in a = record { scene = a.scene; set = set_in a }

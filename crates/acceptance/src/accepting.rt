@@ -1,0 +1,135 @@
+// The accepted scene of a text, with its shaders.
+ghost use Rattle.std.specs.Prelude.{◌≡◌, ◌≤◌, IsErrOf, IfOk, All, length, map};
+ghost use Rattle.outside.specs.Causes.{Rose, Told};
+ghost use Rattle.outside.specs.Asked.{AsksFront};
+ghost use Rattle.rib_lex.specs.Tokens.{tokens_of};
+ghost use Rattle.rib_reader.specs.Reading.{plain, requests_of};
+ghost use Rattle.scene_state.specs.Steps.{scene_of};
+ghost use Rattle.acceptance.specs.Accepting.{scene_of_state, scene_of_requests, scene_of_text, accepted, asked_for_scene};
+ghost use Rattle.outside.specs.Library.{Files};
+ghost use Rattle.acceptance.specs.Shaders.{shader_names, shaders_asked};
+ghost use Rattle.acceptance.specs.Bindings.{uses_refused};
+ghost use Rattle.acceptance.specs.PrimBindings.{FitPrims};
+ghost use Rattle.shader_binding.specs.Sets.{Fits, FitUses};
+ghost use Rattle.acceptance.specs.Reading.{IsReadOf, ReadsShaders, ArePlaced, name_of, tree_read, all_values};
+ghost use Rattle.acceptance.specs.Answers.{Clears, Gives, as_it_is};
+ghost use Rattle.acceptance.specs.Reading.{set_in, accepted_in};
+ghost use Rattle.acceptance.specs.declared.refusal.Refusal.TheVariants.{ReadFault};
+
+use crate::bindings::bind_all;
+use crate::code::{of_lex, of_request, of_state};
+use crate::refusal::{Refusal, in_scene};
+use crate::scene::AcceptedScene;
+use crate::shaders::{UsedShaders, read_shaders};
+use crate::variables::check_variables;
+use fixed_math::List;
+use outside::Library;
+use rib_lex::{LexFault, Token, tokens};
+use rib_reader::{Request, RibFault, requests};
+use scene_state::{Scene, StateFault, scene};
+use sl_ast::Value;
+use std::alloc::Global;
+
+// The scene of requests.
+#[tactic(auto, using(scene_state::proofs::FrameCount::few_frames))]
+fn of_requests(alloc: Global, requests: &[Request]) -> Result<Scene, Refusal>
+    ensures gives { Gives as_it_is result (scene_of_state (scene_of (map plain requests.now))) }
+    ensures few { IfOk result (λ s. length s.frames ≤ 1000) }
+    ensures read { IsErrOf result ReadFault → ⊥ }
+{
+    match scene(alloc, requests) {
+        Ok(scene) => Ok(scene),
+        Err(StateFault::At { code, line }) => Err(in_scene(of_state(code), line)),
+        Err(StateFault::NoMemory) => Err(Refusal::NoMemory),
+    }
+}
+
+// The scene of tokens.
+fn of_tokens(alloc: Global, tokens: &[Token]) -> Result<Scene, Refusal>
+    ensures gives { Gives as_it_is result (scene_of_requests (requests_of tokens.now)) }
+    ensures few { IfOk result (λ s. length s.frames ≤ 1000) }
+    ensures read { IsErrOf result ReadFault → ⊥ }
+{
+    match requests(alloc, tokens) {
+        Ok(requests) => of_requests(alloc, &requests),
+        Err(RibFault::At { code, line }) => Err(in_scene(of_request(code), line)),
+        Err(RibFault::NoMemory) => Err(Refusal::NoMemory),
+    }
+}
+
+// The scene of a text.
+#[tactic(auto, unfolding(crate::specs::Accepting::scene_of_text))]
+fn read_scene(alloc: Global, text: &[u8]) -> Result<Scene, Refusal>
+    requires { length text.now ≤ 16777216 }
+    ensures gives { Gives as_it_is result (scene_of_text text.now) }
+    ensures few { IfOk result (λ s. length s.frames ≤ 1000) }
+    ensures read { IsErrOf result ReadFault → ⊥ }
+{
+    match tokens(alloc, text) {
+        Ok(tokens) => of_tokens(alloc, &tokens),
+        Err(LexFault::At { code, line }) => Err(in_scene(of_lex(code), line)),
+        Err(LexFault::NoMemory) => Err(Refusal::NoMemory),
+    }
+}
+
+// The shaders of a scene.
+fn read_used<L: Library>(
+    alloc: Global,
+    library: &mut L,
+    scene: &Scene,
+) -> Result<UsedShaders, Refusal>
+    ensures held { L.held library.new ≡ L.held library.old }
+    ensures asked { Told (L.held library.old) (λ files. AsksFront (shaders_asked files (shader_names scene.now.uses)) (L.asked library.old) (L.asked library.new)) }
+    ensures names { IfOk result (λ s. map name_of s.read ≡ shader_names scene.now.uses) }
+    ensures placed { IfOk result (λ s. ArePlaced scene.now.uses s) }
+    ensures reads { Told (L.held library.old) (λ files. ReadsShaders files (shader_names scene.now.uses) result) }
+    ensures later { L.faults library.old ≤ L.faults library.new }
+    ensures read { IsErrOf result ReadFault → Rose (L.faults library.old) (L.faults library.new) }
+{
+    read_shaders(alloc, library, scene.uses.as_slice())
+}
+
+// What the parameters of a scene's shader requests are bound to, where they fit their shaders.
+fn bind_used(
+    alloc: Global,
+    scene: &Scene,
+    shaders: &UsedShaders,
+) -> Result<Vec<List<Value>>, Refusal>
+    requires { ArePlaced scene.now.uses shaders.now }
+    ensures clears { (files : Files) → All (IsReadOf files) shaders.now.read → Clears result (uses_refused files scene.now.uses) }
+    ensures values { IfOk result (λ vss. vss.items ≡ all_values shaders.now.read scene.now.uses shaders.now.of_use) }
+    ensures fit { IfOk result (λ vss. FitUses (map tree_read shaders.now.read) scene.now.uses shaders.now.of_use vss.items) }
+    ensures read { IsErrOf result ReadFault → ⊥ }
+{
+    bind_all(alloc, scene.uses.as_slice(), shaders)
+}
+
+/// The accepted scene of a text of at most 16,777,216 bytes with its shaders, which are asked of the library by first use, each
+/// once: the file `x.sl` of the shader x, or the stock's text where there is no such file. Or the first fault: of the scene, of its
+/// shaders by first use, then of the parameters of its shader requests (RenderMan Interface 3.2, section 11.3.3), then of the
+/// variables of its primitives. The set of shaders fits the scene, which has at most 1,000 frames, and so do the variables fit it.
+pub fn accept<L: Library>(
+    alloc: Global,
+    text: &[u8],
+    library: &mut L,
+) -> Result<AcceptedScene, Refusal>
+    requires { length text.now ≤ 16777216 }
+    ensures held { L.held library.new ≡ L.held library.old }
+    ensures asked { Told (L.held library.old) (λ files. AsksFront (asked_for_scene files (scene_of_text text.now)) (L.asked library.old) (L.asked library.new)) }
+    ensures gives { Told (L.held library.old) (λ files. Gives accepted_in result (accepted files text.now)) }
+    ensures fits { IfOk result (λ a. Fits (set_in a) a.scene.uses) }
+    ensures variables { IfOk result (λ a. FitPrims (set_in a) a.scene.uses a.scene.frames) }
+    ensures few { IfOk result (λ a. length a.scene.frames ≤ 1000) }
+    ensures later { L.faults library.old ≤ L.faults library.new }
+    ensures read { IsErrOf result ReadFault → Rose (L.faults library.old) (L.faults library.new) }
+{
+    let scene = read_scene(alloc, text)?;
+    let shaders = read_used(alloc, library, &scene)?;
+    let bound = bind_used(alloc, &scene, &shaders)?;
+    check_variables(alloc, &shaders, &scene)?;
+    Ok(AcceptedScene {
+        scene,
+        shaders,
+        bound: List(bound),
+    })
+}

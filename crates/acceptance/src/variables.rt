@@ -1,0 +1,157 @@
+// How the variables of primitives fit the parameters of their shaders.
+ghost use Rattle.std.specs.Prelude.{◌≡◌, IsErrOf, map, option_map, slice_get};
+ghost use Rattle.std.specs.List.{list_any};
+ghost use Rattle.sl_ast.specs.TypedView.{local_of};
+ghost use Rattle.sl_ast.specs.TreeView.{tree_of};
+ghost use Rattle.acceptance.specs.PrimBindings as spec;
+ghost use Rattle.acceptance.specs.Reading.{tree_read, declared_by};
+ghost use Rattle.acceptance.specs.Answers.{Clears};
+ghost use Rattle.acceptance.specs.declared.refusal.Refusal.TheVariants.{ReadFault};
+
+use crate::bindings::{all_declared, is_of_type};
+use crate::code::Code;
+use crate::read::ReadShader;
+use crate::refusal::{Refusal, in_scene};
+use crate::shaders::UsedShaders;
+use shader_binding::sets_predefined;
+use fixed_math::Names;
+use scene_state::{Frame, Prim, Scene, Variable};
+use sl_ast::{ParamDecl, Tree};
+use std::alloc::Global;
+
+// Whether a variable has the name of a parameter and can't give it its value.
+fn is_unfit(variable: &Variable, param: &ParamDecl) -> bool
+    ensures { result ≡ spec.is_unfit variable.now (local_of param.now) }
+{
+    let other_kind = !is_of_type(param.kind, variable.kind);
+    let varies = variable.varying && param.uniform;
+    let named = param.name.as_str() == variable.name.as_str();
+    named && (other_kind || varies)
+}
+
+// The parameter at that place, where there is one.
+fn declared_at(tree: &Tree, place: usize) -> Option<&ParamDecl>
+    ensures { option_map (λ p. local_of p.now) result ≡ slice_get (tree_of tree.now).params place }
+{
+    tree.params().get(place)
+}
+
+// Whether a variable doesn't fit the parameter of its name, where the shader declares one.
+fn is_unfit_named(shader: &ReadShader, names: &Names<'_>, variable: &Variable) -> bool
+    requires { names.now ≡ declared_by shader.now }
+    ensures { result ≡ list_any (spec.is_unfit variable.now) (tree_read shader.now).params }
+{
+    let Some(place) = names.place_of(&variable.name) else {
+        return false;
+    };
+    match declared_at(&shader.tree, place) {
+        Some(param) => is_unfit(variable, param),
+        None => false,
+    }
+}
+
+// Whether a variable that binds doesn't fit the shader.
+fn binds_unfit(shader: &ReadShader, names: &Names<'_>, variable: &Variable) -> bool
+    requires { names.now ≡ declared_by shader.now }
+    ensures { result ≡ spec.binds_unfit (tree_read shader.now).params variable.now }
+{
+    !sets_predefined(&variable.name) && is_unfit_named(shader, names, variable)
+}
+
+// Whether one of these variables doesn't fit the shader.
+fn unfit_for(shader: &ReadShader, names: &Names<'_>, variables: &[Variable]) -> bool
+    requires { names.now ≡ declared_by shader.now }
+    ensures { result ≡ list_any (spec.binds_unfit (tree_read shader.now).params) variables.now }
+{
+    for variable in variables {
+        if binds_unfit(shader, names, variable) {
+            return true;
+        }
+    }
+    false
+}
+
+// The same for the shader at that place, where there is one.
+fn unfit_placed(
+    read: &[ReadShader],
+    declared: &[Names<'_>],
+    place: usize,
+    variables: &[Variable],
+) -> bool
+    requires { declared.now ≡ map declared_by read.now }
+    ensures { result ≡ spec.unfit_for (slice_get (map tree_read read.now) place) variables.now }
+{
+    if place >= read.len() {
+        return false;
+    }
+    unfit_for(&read[place], &declared[place], variables)
+}
+
+// The same for the shader of a use, where there is one.
+fn unfit_at(
+    shaders: &UsedShaders,
+    declared: &[Names<'_>],
+    shader: Option<u32>,
+    variables: &[Variable],
+) -> bool
+    requires { declared.now ≡ map declared_by shaders.now.read }
+    ensures { result ≡ spec.unfit_at (map tree_read shaders.now.read) shaders.now.of_use shader variables.now }
+{
+    let Some(n) = shader else {
+        return false;
+    };
+    match shaders.of_use.as_slice().get(n as usize) {
+        Some(place) => {
+            unfit_placed(
+                shaders.read.as_slice(),
+                declared,
+                *place as usize,
+                variables,
+            )
+        }
+        None => false,
+    }
+}
+
+// Whether a variable of a primitive doesn't fit its surface, displacement or atmosphere.
+fn is_unfit_prim(shaders: &UsedShaders, declared: &[Names<'_>], prim: &Prim) -> bool
+    requires { declared.now ≡ map declared_by shaders.now.read }
+    ensures { result ≡ spec.is_unfit_prim (map tree_read shaders.now.read) shaders.now.of_use prim.now }
+{
+    let variables = prim.vars.as_slice();
+    unfit_at(shaders, declared, Some(prim.surface), variables)
+        || unfit_at(shaders, declared, prim.displacement, variables)
+        || unfit_at(shaders, declared, prim.atmosphere, variables)
+}
+
+// Refuses the first primitive of a frame whose variables don't fit its shaders.
+fn check_frame(shaders: &UsedShaders, declared: &[Names<'_>], frame: &Frame) -> Result<(), Refusal>
+    requires { declared.now ≡ map declared_by shaders.now.read }
+    ensures clears { Clears result (spec.frame_refused (map tree_read shaders.now.read) shaders.now.of_use frame.now) }
+    ensures read { IsErrOf result ReadFault → ⊥ }
+{
+    let prims = frame.prims.as_slice();
+    for prim in prims {
+        if is_unfit_prim(shaders, declared, prim) {
+            return Err(in_scene(Code::B2, prim.line));
+        }
+    }
+    Ok(())
+}
+
+/// Refuses the first primitive of a scene whose variables don't fit its shaders, with B2 at its line.
+pub(crate) fn check_variables(
+    alloc: Global,
+    shaders: &UsedShaders,
+    scene: &Scene,
+) -> Result<(), Refusal>
+    ensures clears { Clears result (spec.frames_refused (map tree_read shaders.now.read) shaders.now.of_use scene.now.frames) }
+    ensures read { IsErrOf result ReadFault → ⊥ }
+{
+    let declared = all_declared(alloc, shaders.read.as_slice())?;
+    let frames = scene.frames.as_slice();
+    for frame in frames {
+        check_frame(shaders, &declared, frame)?;
+    }
+    Ok(())
+}

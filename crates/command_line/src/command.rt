@@ -1,0 +1,232 @@
+// The words of the command.
+ghost use Rattle.std.specs.Prelude.{◌≡◌, ◌≤◌, false, IfOk, IfSome, option_map, codes};
+ghost use Rattle.std.specs.List.{list_all};
+ghost use Rattle.clap.specs.Matches.{found_of, first_value};
+ghost use Rattle.clap.specs.Simple.{app_of};
+ghost use Rattle.clap.specs.Walk.{rule_of};
+ghost use Rattle.command_line.specs.Command.{reyes, action_rule, name_rule, bucket_rule, grid_points_rule, stats_rule, number_in, is_set, is_digit, patches_named, demo_command, file_command, options_for, command_named, command_for, command_of, command_view};
+ghost use Rattle.command_line.specs.Texts.{texts};
+
+use crate::patch_count::PatchCount;
+use clap::builder::ValueParser;
+use clap::error::ErrorKind;
+use clap::{Arg, ArgAction, ArgMatches, Command};
+use fixed_math::NoMemory;
+use std::alloc::{AllocError, Global};
+
+/// What is done with a scene.
+#[derive(Clone, Copy)]
+pub enum Action {
+    /// Its frames are drawn.
+    Render,
+    /// It is read to its end, and nothing is written.
+    Check,
+}
+
+/// The options of a command.
+#[derive(Clone, Copy)]
+pub struct RunOptions {
+    /// The side of a bucket in pixels, 4 to 64.
+    pub bucket: u32,
+    /// The most points of the grids that are held shaded at one time, 289 to 1,000,000.
+    pub grid_points: u32,
+    /// Whether a note tells of each frame how much was done.
+    pub stats: bool,
+}
+
+/// Where a scene comes from.
+#[derive(Drop)]
+pub enum Source<'a> {
+    /// The file of this name.
+    File(&'a str),
+    /// The demonstration scene.
+    Demo(PatchCount),
+}
+
+/// What a command asks for.
+#[derive(Drop)]
+pub struct SceneCommand<'a> {
+    pub action: Action,
+    pub source: Source<'a>,
+    pub options: RunOptions,
+}
+
+fn action_arg<'a>(alloc: Global) -> Arg<'a>
+    ensures rule { rule_of result ≡ action_rule }
+    ensures local { result.global ≡ false }
+{
+    Arg::new(alloc, "action").required(true)
+}
+
+fn name_arg<'a>(alloc: Global) -> Arg<'a>
+    ensures rule { rule_of result ≡ name_rule }
+    ensures local { result.global ≡ false }
+{
+    Arg::new(alloc, "name").required(true)
+}
+
+// The side of a bucket in pixels.
+fn bucket_arg<'a>(alloc: Global) -> Arg<'a>
+    ensures rule { rule_of result ≡ bucket_rule }
+    ensures local { result.global ≡ false }
+{
+    Arg::new(alloc, "bucket")
+        .long("bucket")
+        .value_parser(ValueParser::Unsigned(4, 64))
+        .default_value("16")
+}
+
+// The most points of the grids that are held shaded at one time.
+fn grid_points_arg<'a>(alloc: Global) -> Arg<'a>
+    ensures rule { rule_of result ≡ grid_points_rule }
+    ensures local { result.global ≡ false }
+{
+    Arg::new(alloc, "grid-points")
+        .long("grid-points")
+        .value_parser(ValueParser::Unsigned(289, 1000000))
+        .default_value("65536")
+}
+
+fn stats_arg<'a>(alloc: Global) -> Arg<'a>
+    ensures rule { rule_of result ≡ stats_rule }
+    ensures local { result.global ≡ false }
+{
+    Arg::new(alloc, "stats")
+        .long("stats")
+        .action(ArgAction::SetTrue)
+}
+
+// The command `reyes ACTION NAME [--bucket B] [--grid-points G] [--stats]`.
+fn command<'a>(alloc: Global) -> Result<Command<'a>, AllocError>
+    ensures { IfOk result (λ c. app_of c ≡ reyes) }
+{
+    Command::new(alloc, "reyes")
+        .arg(action_arg(alloc))?
+        .arg(name_arg(alloc))?
+        .arg(bucket_arg(alloc))?
+        .arg(grid_points_arg(alloc))?
+        .arg(stats_arg(alloc))
+}
+
+// The number that a text writes, where it is one in this range.
+fn number_in(low: u32, high: u32, text: &str) -> Option<u32>
+    ensures number { result ≡ number_in low high text.now }
+    ensures within { IfSome result (λ n. (low ≤ n) × (n ≤ high)) }
+{
+    match text.parse::<u32>() {
+        Ok(number) if low <= number && number <= high => Some(number),
+        _ => None,
+    }
+}
+
+fn is_set(text: Option<&str>) -> bool
+    ensures { result ≡ is_set (option_map (λ t. t.now) text.entry) }
+{
+    match text {
+        Some(text) => text == "true",
+        None => false,
+    }
+}
+
+// The options among the words that clap found.
+fn options_found(matches: &ArgMatches<'_>) -> Option<RunOptions>
+    ensures { result ≡ options_for (first_value (found_of matches.now) (codes "bucket")) (first_value (found_of matches.now) (codes "grid-points")) (first_value (found_of matches.now) (codes "stats")) }
+{
+    Some(RunOptions {
+        bucket: number_in(4, 64, matches.get_str("bucket")?)?,
+        grid_points: number_in(289, 1000000, matches.get_str("grid-points")?)?,
+        stats: is_set(matches.get_str("stats")),
+    })
+}
+
+fn is_digit(byte: u8) -> bool
+    ensures { result ≡ is_digit byte }
+{
+    byte.is_ascii_digit()
+}
+
+fn are_digits(bytes: &[u8]) -> bool
+    ensures { result ≡ list_all is_digit bytes.now }
+{
+    bytes.iter().all(|byte| is_digit(*byte))
+}
+
+// The number of patches that a row of digits writes.
+fn patches_named(name: &str) -> Option<PatchCount>
+    ensures { option_map (λ p. p.count) result ≡ patches_named name.now }
+{
+    if !are_digits(name.as_bytes()) {
+        return None;
+    }
+    let count = number_in(1, 1000, name)?;
+    Some(PatchCount { count })
+}
+
+// The command for the demonstration scene, of which a note tells what was done.
+fn demo_command<'a>(name: &str, options: RunOptions) -> Option<SceneCommand<'a>>
+    ensures { option_map command_view result ≡ demo_command (patches_named name.now) options }
+{
+    let patches = patches_named(name)?;
+    Some(SceneCommand {
+        action: Action::Render,
+        source: Source::Demo(patches),
+        options: RunOptions {
+            stats: true,
+            ..options
+        },
+    })
+}
+
+// The command for a scene in a file.
+fn file_command(action: Action, name: &str, options: RunOptions) -> SceneCommand<'_>
+    ensures { command_view result ≡ file_command action name.now options }
+{
+    SceneCommand {
+        action,
+        source: Source::File(name),
+        options,
+    }
+}
+
+// The command of that action, where there is such an action.
+fn command_named<'a>(action: &str, name: &'a str, options: RunOptions) -> Option<SceneCommand<'a>>
+    ensures { option_map command_view result ≡ command_named action.now name.now options }
+{
+    if action == "render" {
+        Some(file_command(Action::Render, name, options))
+    } else if action == "check" {
+        Some(file_command(Action::Check, name, options))
+    } else if action == "demo" {
+        demo_command(name, options)
+    } else {
+        None
+    }
+}
+
+// The command among the words that clap found.
+fn command_found<'a>(matches: &ArgMatches<'a>) -> Option<SceneCommand<'a>>
+    ensures { option_map command_view result ≡ command_for (first_value (found_of matches.now) (codes "action")) (first_value (found_of matches.now) (codes "name"))
+        (options_for (first_value (found_of matches.now) (codes "bucket")) (first_value (found_of matches.now) (codes "grid-points")) (first_value (found_of matches.now) (codes "stats"))) }
+{
+    let action = matches.get_str("action")?;
+    let name = matches.get_str("name")?;
+    let options = options_found(matches)?;
+    command_named(action, name, options)
+}
+
+/// What a command asks for, where its words are in order.
+pub fn scene_command<'a>(
+    alloc: Global,
+    words: &'a [&'a str],
+) -> Result<Option<SceneCommand<'a>>, NoMemory>
+    ensures { IfOk result (λ c. option_map command_view c ≡ command_of (texts words.now)) }
+{
+    let Ok(command) = command(alloc) else {
+        return Err(NoMemory);
+    };
+    match command.try_get_matches_from(words) {
+        Ok(matches) => Ok(command_found(&matches)),
+        Err(error) if error.kind() == ErrorKind::OutOfMemory => Err(NoMemory),
+        Err(_) => Ok(None),
+    }
+}

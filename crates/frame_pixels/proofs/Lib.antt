@@ -1,0 +1,5 @@
+pub mod Grids
+pub mod Sweeps
+pub mod Reaches
+pub mod ShownSamples
+pub mod Within

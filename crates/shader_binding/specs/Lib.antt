@@ -1,0 +1,3 @@
+pub mod Predefined
+pub mod Sets
+pub mod Bindings

@@ -1,0 +1,61 @@
+-- The shaders of a scene: their trees, the tree of each use, and the values that its parameters are bound to.
+use Rattle.std.specs.Prelude.{ℕ, Bool, true, false, List, [], ◌∷◌, Option, Some, None, slice_get, slice_index_or, ◌≡◌}
+use Rattle.transforms.specs.Map.{Map}
+use Rattle.scene_state.specs.declared.uses.ShaderKind.{ShaderKind}
+use Rattle.scene_state.specs.declared.uses.ShaderKind.TheVariants as requested
+use Rattle.scene_state.specs.declared.uses.ShaderUse.{ShaderUse}
+use Rattle.sl_ast.specs.declared.kinds.SlKind.{SlKind}
+use Rattle.sl_ast.specs.declared.kinds.SlKind.TheVariants as written
+use Rattle.sl_ast.specs.declared.typed.Value.{Value}
+use Rattle.sl_ast.specs.Typed.{Local, Tree}
+use Rattle.builtins.specs.Shapes.{shape}
+use Rattle.builtins.specs.Values.{shape_of}
+
+pub record SetValue : Type 0 where
+  pub trees : List Tree
+  pub of_use : List ℕ
+  pub bound : List (List Value)
+
+-- a shader of the kind that is asked for
+abbrev pub is_of_kind : SlKind → ShaderKind → Bool
+is_of_kind written.Surface requested.Surface = true
+is_of_kind written.Displacement requested.Displacement = true
+is_of_kind written.Light requested.Light = true
+is_of_kind written.Volume requested.Volume = true
+is_of_kind _ _ = false
+
+-- one value of the declared kind for each parameter
+abbrev pub AreValuesOf : List Local → List Value → Type 0
+AreValuesOf [] [] = Unit {0}
+AreValuesOf (l ∷ ls) (v ∷ vs) = (shape v ≡ shape_of l.kind) × AreValuesOf ls vs
+AreValuesOf _ _ = ⊥
+
+abbrev pub FitsUse : ShaderUse → List Value → Option Tree → Type 0
+FitsUse u vs None = ⊥
+FitsUse u vs (Some t) = (is_of_kind t.kind u.kind ≡ true) × AreValuesOf t.params vs
+
+abbrev pub FitUses : List Tree → List ShaderUse → List ℕ → List (List Value) → Type 0
+FitUses trees [] [] [] = Unit {0}
+FitUses trees (u ∷ us) (n ∷ ns) (vs ∷ vss) = FitsUse u vs (slice_get trees n) × FitUses trees us ns vss
+FitUses trees _ _ _ = ⊥
+
+-- the set fits a scene with these uses
+abbrev pub Fits : SetValue → List ShaderUse → Type 0
+Fits s uses = FitUses s.trees uses s.of_use s.bound
+
+-- the shader of a use with what it is bound to and its space
+pub record Bound : Type 0 where
+  pub tree : Tree
+  pub values : List Value
+  pub space : Map
+
+abbrev pub bound_with : Option Tree → Option (List Value) → Option ShaderUse → Option Bound
+bound_with (Some t) (Some vs) (Some u) = Some record { tree = t; values = vs; space = u.space }
+bound_with _ _ _ = None
+
+abbrev pub bound_at : SetValue → List ShaderUse → ℕ → Option Bound
+bound_at s uses n = bound_with (slice_get s.trees (slice_index_or s.of_use n 0)) (slice_get s.bound n) (slice_get uses n)
+
+abbrev pub bound_for : SetValue → List ShaderUse → Option ℕ → Option Bound
+bound_for s uses None = None
+bound_for s uses (Some n) = bound_at s uses n
