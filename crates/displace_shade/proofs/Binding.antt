@@ -20,7 +20,8 @@ use Rattle.grid_variables.specs.Points.{Leaf, own_u, own_v}
 use Rattle.grid_variables.specs.Variables.{numbers_of, corners_of, between, last_passing, variable_named, bound_variable, text_of, value_by, value_or, values_at}
 use Rattle.shader_binding.specs.Predefined.{sets_predefined}
 use Rattle.shader_binding.specs.Bindings.{kind_of, Binds, FitVariables}
-use Rattle.displace_shade.specs.Rows.{values_of, slot_of}
+use Rattle.grid_rows.specs.Rows.{values_of}
+use Rattle.displace_shade.specs.Rows.{slot_of}
 
 -- what holds of a variable, if there is one
 abbrev pub HoldsOf : (VariableValue → Type 0) → Option VariableValue → Type 0

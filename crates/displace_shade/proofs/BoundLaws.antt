@@ -1,9 +1,9 @@
 -- The laws of runs, for a shader that is bound; and the shader of a use in its set.
-use Rattle.std.proofs.Common.{◌≡◌, ℕ, zero, suc, ◌*◌, ◌<◌, Bool, true, false, ℤ, List, [], ◌∷◌, ◌++◌, length, map, get_or, take, drop, refl, sym, ap, ◌∙◌, subst, arith}
-use Rattle.std.specs.Prelude.{Result, Ok, Err, IfOk, not, ◌&&◌, Some, slice_get, option_map, unwrap_or}
+use Rattle.std.proofs.Common.{◌≡◌, ℕ, zero, suc, ◌*◌, ◌<◌, Bool, true, false, ℤ, List, [], ◌∷◌, length, map, get_or, refl, sym, ap, ◌∙◌, subst, arith}
+use Rattle.std.specs.Prelude.{not, ◌&&◌, Some, slice_get, option_map, unwrap_or}
 use Rattle.std.specs.List.{list_all}
 use Rattle.std.proofs.lemmas.Bool.{and_parts, false≢true}
-use Rattle.std.proofs.lemmas.List.{length-map, get_or-map, take_at}
+use Rattle.std.proofs.lemmas.List.{length-map, get_or-map}
 use Rattle.std.proofs.lemmas.Option.{slice_get-map, slice_get_read}
 use Rattle.transforms.specs.declared.spaces.Spaces.{Spaces}
 use Rattle.scene_state.specs.declared.uses.ShaderUse.{ShaderUse}
@@ -33,25 +33,26 @@ use Rattle.shader_binding.specs.Sets.{AreValuesOf, FitsUse, FitUses, is_of_kind}
 use Rattle.mask_codegen.specs.Compiled.{Seen}
 use Rattle.mask_codegen.proofs.ParamTexts.{is_rowable, params_rowable}
 use Rattle.shader_binding.specs.Sets.{bound_with}
-use Rattle.grid_variables.specs.Points.{Leaf, normal_of, u_at, v_at, dpdu, dpdv}
-use Rattle.grid_variables.specs.Variables.{s_at, t_at, cs_at, os_at, values_at}
+use Rattle.grid_variables.specs.Points.{Leaf}
+use Rattle.grid_variables.specs.Variables.{values_at}
 use Rattle.shader_binding.specs.Bindings.{FitVariables}
 use Rattle.grid_machine.specs.Run.{row_length, begun, lines_given, Leaves}
-use Rattle.displace_shade.specs.Rows.{AreRows, AreRowable, values_of, slot_of}
-use Rattle.displace_shade.specs.Given.{param_rows}
-use Rattle.grid_variables.specs.Places.{point_count, over, ArePlaces, AreLong}
+use Rattle.grid_rows.specs.Rows.{AreRows, AreRowable, values_of}
+use Rattle.displace_shade.specs.Rows.{slot_of}
+use Rattle.grid_rows.specs.Parameters.{ParameterValues}
+use Rattle.grid_rows.specs.Given.{param_rows}
+use Rattle.grid_variables.specs.Places.{point_count, over}
 use Rattle.displace_shade.specs.Lamps.{lamp_asked}
-use Rattle.displace_shade.specs.Shop.{Runs}
+use Rattle.displace_shade.specs.Shop.{parameters_of, Runs}
 use Rattle.displace_shade.specs.declared.bound.BoundShader.{BoundShader}
 use Rattle.displace_shade.specs.declared.lamps.Lamp.{Lamp}
-use Rattle.grid_variables.specs.declared.places.Places.{Places}
 use Rattle.sl_meaning.specs.Lowered.{slots}
 use Rattle.displace_shade.proofs.Begun.{values_counted, values_shaped}
-use Rattle.displace_shade.proofs.Filled.{no_rows}
-use Rattle.displace_shade.proofs.GivenRows.{params_rows}
+use Rattle.grid_rows.proofs.Filled.{no_rows}
+use Rattle.grid_rows.proofs.ParamRows.{params_rows}
 use Rattle.displace_shade.proofs.Ran.{AreValues}
 use Rattle.displace_shade.proofs.Binding.{values_fit, values_steady}
-use Rattle.grid_variables.proofs.Over.{over_long, over_all}
+use Rattle.grid_variables.proofs.Over.{over_all}
 
 word_is_string : (k : SlType) → shape_of k ≡ shapes.Word → is_string k ≡ true
 word_is_string types.Str h = refl
@@ -116,27 +117,13 @@ module _ (b : BoundShader) (r : Runs b) where
   pub bound_names : length (tree_of b.compiled.now.tree).params ≡ length b.compiled.now.code.params
   bound_names = names_count
 
--- the lengths of what doesn't change
-pub places_long : (l : Leaf) (f : Places) (c : ℕ) → ArePlaces l f → c ≡ point_count l → AreLong c f
-places_long l f c h e =
-    record {
-      normals = long f.normals.now (normal_of l) h.normals;
-      u = long f.u.now (u_at l) h.u;
-      v = long f.v.now (v_at l) h.v;
-      s = long f.s.now (s_at l) h.s;
-      t = long f.t.now (t_at l) h.t;
-      cs = long f.cs.now (cs_at l) h.cs;
-      os = long f.os.now (os_at l) h.os;
-      dpdu = long f.dpdu.now (dpdu l) h.dpdu;
-      dpdv = long f.dpdv.now (dpdv l) h.dpdv;
-    }
-  where
-    long : {A : Type 0} (xs : List A) (g : ℕ → A) → xs ≡ over (point_count l) g → length xs ≡ c
-    long xs g k = ap (λ ys. length ys) k ∙ over_long g (point_count l) ∙ sym e
+-- what its parameters give a run
+module _ (l : Leaf) (b : BoundShader) (p : ParameterValues) (e : p ≡ parameters_of b) where
+  pub rows_given : param_rows l p.locals p.slots p.values ≡ param_rows l (tree_of b.compiled.now.tree).params b.compiled.now.code.params b.values.now
+  rows_given = ap (λ q. param_rows l q.locals q.slots q.values) e
 
--- the rows that are written back to where they were
-pub written_back : (n : ℕ) (new items : List ℤ) → length new ≡ n → take n (new ++ drop (length new) items) ≡ new
-written_back n new items e = take_at new (drop (length new) items) n e
+  pub uniforms_given : values_of true p.slots (values_at l p.locals p.values 0) ≡ values_of true b.compiled.now.code.params (values_at l (tree_of b.compiled.now.tree).params b.values.now 0)
+  uniforms_given = ap (λ q. values_of true q.slots (values_at l q.locals q.values 0)) e
 
 -- lengths by the code and the grid that are read are those by the ones that are given
 pub read_long : (height : Code → ℕ) (k k' : Code) (m m' w w' n : ℕ) → k ≡ k' → m ≡ m' → w ≡ w' → n ≡ height k' * row_length (m' * w') → n ≡ height k * row_length (m * w)

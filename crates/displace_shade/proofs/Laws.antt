@@ -34,10 +34,11 @@ use Rattle.grid_variables.specs.Points.{Leaf, columns, rows, lines}
 use Rattle.shader_binding.specs.Sets.{Bound}
 use Rattle.displace_shade.specs.Shaded.{spaces_of, around}
 use Rattle.grid_machine.specs.Run.{row_length, height, rows_of, same_class, params_of, step_names, uniform_inputs, varying_inputs, begun, lines_given, Leaves}
-use Rattle.displace_shade.specs.Rows.{heights, AreRows, HoldNames, values_of, written_order, uniform_values, varying_values, slot_of}
+use Rattle.grid_rows.specs.Rows.{heights, AreRows, values_of, triple_in}
+use Rattle.displace_shade.specs.Rows.{HoldNames, written_order, uniform_values, varying_values, slot_of}
 use Rattle.grid_variables.specs.Places.{point_count, over, IsSized, ArePlaces}
-use Rattle.displace_shade.specs.Diced.{triple_in, names_of, Hold}
-use Rattle.displace_shade.specs.Given.{surface_rows, displacement_rows}
+use Rattle.displace_shade.specs.Diced.{names_of, Hold}
+use Rattle.grid_rows.specs.Given.{surface_rows, displacement_rows}
 use Rattle.grid_variables.specs.declared.places.Places.{Places}
 use Rattle.grid_variables.specs.declared.variables.Variables.{Variables}
 use Rattle.displace_shade.proofs.Begun.{values_counted, values_shaped}

@@ -2,9 +2,6 @@ pub mod Begun
 pub mod Looks
 pub mod Starts
 pub mod Ran
-pub mod Filled
-pub mod Raws
-pub mod Params
 pub mod Dicing
 pub mod Stages
 pub mod GivenRows

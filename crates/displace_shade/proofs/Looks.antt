@@ -15,7 +15,7 @@ use Rattle.grid_code.specs.Shapes.{register_class, register_shape}
 use Rattle.core_codegen.proofs.Relation.{any_true}
 use Rattle.grid_machine.specs.Run.{height, assigned, loaded}
 use Rattle.grid_machine.specs.Run as run
-use Rattle.displace_shade.specs.Rows.{value_in, HoldList}
+use Rattle.grid_rows.specs.Rows.{value_in, HoldList}
 
 -- what holds of each item, one behind another
 abbrev pub Every : {X : Type 0} → (X → Type 0) → List X → Type 0

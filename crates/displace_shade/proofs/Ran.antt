@@ -23,7 +23,8 @@ use Rattle.sl_meaning.specs.Runs.{Names, most_turns, beginning, ran}
 use Rattle.core_codegen.specs.Correct.{IsGround, Holds, Begins, Means}
 use Rattle.grid_machine.specs.Run.{row_length, height, written_names, HoldRows, begun, Leaves}
 use Rattle.grid_machine.specs.Run as run
-use Rattle.displace_shade.specs.Rows.{HoldNames, AreRows, written_order, values_of, uniform_values, varying_values}
+use Rattle.displace_shade.specs.Rows.{HoldNames, written_order, uniform_values, varying_values}
+use Rattle.grid_rows.specs.Rows.{AreRows, values_of}
 use Rattle.displace_shade.proofs.Begun.{AreNames, values_counted}
 use Rattle.displace_shade.proofs.Looks.{Every, shape_of_reg, same_value}
 use Rattle.displace_shade.proofs.Starts.{AreParams, state_keeps, state_name, state_lit, state_param}

@@ -26,7 +26,8 @@ use Rattle.displace_shade.specs.Shaded.{placed, GridValue, shaded_names, shaded}
 use Rattle.grid_machine.specs.Run.{row_length}
 use Rattle.displace_shade.specs.Rows.{HoldNames, written_order}
 use Rattle.grid_variables.specs.Places.{point_count, over, IsSized}
-use Rattle.displace_shade.specs.Diced.{triple_in, names_of, Hold, grid_value}
+use Rattle.grid_rows.specs.Rows.{triple_in}
+use Rattle.displace_shade.specs.Diced.{names_of, Hold, grid_value}
 use Rattle.grid_variables.specs.declared.variables.Variables.{Variables}
 use Rattle.displace_shade.proofs.Begun.{AreNames}
 use Rattle.grid_variables.proofs.Over.{over_at, over_all, over_long}

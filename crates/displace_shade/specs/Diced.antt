@@ -1,7 +1,6 @@
 -- The variables at the points of a leaf, by those that shaders change.
-use Rattle.std.specs.Prelude.{◌≡◌, ℕ, ◌*◌, ◌+◌, ◌<◌, ℤ, pos, List, get_or}
+use Rattle.std.specs.Prelude.{◌≡◌, ℕ, ◌<◌, get_or}
 use Rattle.fixed_math.specs.Axes.{origin}
-use Rattle.fixed_math.specs.declared.vec3.Vec3.{Vec3}
 use Rattle.sl_ast.specs.declared.kinds.Predefined.TheVariants as names
 use Rattle.sl_ast.specs.declared.typed.Value.TheVariants.{Triple}
 use Rattle.sl_meaning.specs.Runs.{Names}
@@ -10,10 +9,6 @@ use Rattle.grid_variables.specs.Places.{point_count}
 use Rattle.displace_shade.specs.Shaded.{diced_names, GridValue}
 use Rattle.grid_variables.specs.declared.variables.Variables.{Variables}
 use Rattle.dice.specs.declared.diced.GridRef.{GridRef}
-
--- the triple in three rows of length w, from row k on
-abbrev pub triple_in : List ℤ → ℕ → ℕ → ℕ → Vec3
-triple_in rows w k i = record { x = get_or rows (k * w + i) (pos 0); y = get_or rows ((k + 1) * w + i) (pos 0); z = get_or rows ((k + 2) * w + i) (pos 0) }
 
 -- the variables at place i, by those that shaders change
 abbrev pub names_of : Leaf → Variables → ℕ → Names

@@ -1,7 +1,6 @@
 pub mod Shaded
 pub mod Rows
 pub mod Diced
-pub mod Given
 pub mod Shop
 pub mod Lamps
 pub mod Constant

@@ -4,6 +4,7 @@ use Rattle.patches.specs.Parts.{Part}
 use Rattle.scene_state.specs.Scene.{PrimValue, FrameValue}
 use Rattle.sl_ast.specs.TreeView.{tree_of}
 use Rattle.mask_codegen.specs.Compiled.{IsCodeOf}
+use Rattle.grid_rows.specs.Parameters.{ParameterValues}
 use Rattle.shader_binding.specs.Sets.{SetValue, AreValuesOf, Bound}
 use Rattle.grid_variables.specs.Points.{Leaf}
 use Rattle.displace_shade.specs.declared.set.ShaderSet.{ShaderSet}
@@ -14,6 +15,10 @@ set_value s = record { trees = map (λ c. tree_of c.tree) s.compiled; of_use = s
 
 abbrev pub bound_value : BoundShader → Bound
 bound_value b = record { tree = tree_of b.compiled.now.tree; values = b.values.now; space = b.space.now }
+
+-- its parameters, as the rows of a run are made from them
+abbrev pub parameters_of : BoundShader → ParameterValues
+parameters_of b = record { locals = (tree_of b.compiled.now.tree).params; slots = b.compiled.now.code.params; values = b.values.now }
 
 -- a shader with values of its parameters
 pub record Runs (b : BoundShader) : Type 0 where

@@ -1,5 +1,5 @@
 // The shader of a use.
-ghost use Rattle.std.specs.Prelude.{◌≡◌, ◌<◌, true, Some, length, slice_get};
+ghost use Rattle.std.specs.Prelude.{◌≡◌, ◌<◌, true, Some, length};
 ghost use Rattle.scene_state.specs.Scene.{IsUse};
 ghost use Rattle.scene_state.specs.declared.uses.ShaderKind.{ShaderKind as UseKind};
 ghost use Rattle.sl_ast.specs.TreeView.{tree_of};

@@ -4,7 +4,7 @@ ghost use Rattle.scene_state.specs.Scene.{IsUse, IsSomeUse, HasUses};
 ghost use Rattle.scene_state.specs.declared.uses.ShaderKind.TheVariants as requested;
 ghost use Rattle.sl_meaning.specs.Runs.{Names};
 ghost use Rattle.shader_binding.specs.Sets.{Fits, bound_at as bound_at_use, bound_for};
-ghost use Rattle.displace_shade.specs.Shaded.{shaded_by, shaded};
+ghost use Rattle.displace_shade.specs.Shaded.{diced_names, lights_from, shaded_by, displaced as displaced_names, shaded};
 ghost use Rattle.displace_shade.specs.Diced.{Hold, grid_value};
 ghost use Rattle.grid_variables.specs.Places.{IsSized, IsColoured, ArePlaces};
 ghost use Rattle.displace_shade.specs.Shop.{set_value};
@@ -18,7 +18,7 @@ use crate::set::ShaderSet;
 use bumpalo::Bump;
 use dice::GridRef;
 use fixed_math::NoMemory;
-use grid_variables::{Leaf, Places, Variables, diced, first_variables, geometric_normals, grid_of, kept_near, places_of};
+use grid_variables::{Leaf, Places, Variables, begun, grid_of, kept_near};
 use scene_state::ShaderUse;
 use std::alloc::Global;
 
@@ -142,6 +142,56 @@ fn dimmed<'a>(
     }
 }
 
+/// The variables behind the displacement, kept near their places.
+fn placed<'a>(
+    shaders: &Shaders,
+    arena: &'a Bump,
+    leaf: &Leaf,
+    places: &Places,
+    first: &Variables<'a>,
+) -> Result<Variables<'a>, NoMemory>
+    requires fits { Fits (set_value shaders.now.set.now) shaders.now.uses.now }
+    requires uses { HasUses shaders.now.uses.now leaf.now.prim }
+    requires variables { FitsPrim (set_value shaders.now.set.now) shaders.now.uses.now leaf.now.prim }
+    requires places { ArePlaces leaf.now places.now }
+    requires sized { IsSized leaf.now first.now }
+    ensures sized { IfOk result (λ e. IsSized leaf.now e) }
+    ensures hold { IfOk result (λ e. Hold leaf.now first.now (diced_names leaf.now) → Hold leaf.now e (displaced_names leaf.now (bound_for (set_value shaders.now.set.now) shaders.now.uses.now leaf.now.prim.displacement))) }
+{
+    let free = displaced(shaders, arena, leaf, places, first, leaf.displacement())?;
+    let near = kept_near(arena, leaf, first, &free)?;
+    Ok(near)
+}
+
+/// The variables behind the surface under the lights of the primitive.
+fn lighted<'a>(
+    shaders: &Shaders,
+    arena: &'a Bump,
+    leaf: &Leaf,
+    places: &Places,
+    variables: &Variables<'a>,
+) -> Result<Variables<'a>, NoMemory>
+    requires fits { Fits (set_value shaders.now.set.now) shaders.now.uses.now }
+    requires uses { HasUses shaders.now.uses.now leaf.now.prim }
+    requires variables { FitsPrim (set_value shaders.now.set.now) shaders.now.uses.now leaf.now.prim }
+    requires places { ArePlaces leaf.now places.now }
+    requires sized { IsSized leaf.now variables.now }
+    ensures sized { IfOk result (λ e. IsSized leaf.now e) }
+    ensures coloured { IfOk result (λ e. IsColoured leaf.now e) }
+    ensures hold { IfOk result (λ e. (f : ℕ → Names) → Hold leaf.now variables.now f → Hold leaf.now e (shaded_by leaf.now (bound_at_use (set_value shaders.now.set.now) shaders.now.uses.now leaf.now.prim.surface) (lights_from leaf.now (set_value shaders.now.set.now) shaders.now.uses.now leaf.now.prim.lights) f)) }
+{
+    let lamps = lamps_of(arena, shaders.set, shaders.uses, leaf)?;
+    coloured(
+        shaders,
+        arena,
+        leaf,
+        &lamps,
+        places,
+        variables,
+        leaf.surface(),
+    )
+}
+
 /// The shaded grid of a leaf.
 pub(crate) fn shaded_leaf<'a>(
     shaders: &Shaders,
@@ -153,14 +203,9 @@ pub(crate) fn shaded_leaf<'a>(
     requires variables { FitsPrim (set_value shaders.now.set.now) shaders.now.uses.now leaf.now.prim }
     ensures { IfOk result (λ grid. grid_value grid ≡ shaded leaf.now (set_value shaders.now.set.now) shaders.now.uses.now) }
 {
-    let bare = diced(arena, leaf)?;
-    let geometric = geometric_normals(arena, leaf, bare.n)?;
-    let first = first_variables(arena, leaf, bare.p, geometric)?;
-    let places = places_of(arena, leaf, geometric)?;
-    let free = displaced(shaders, arena, leaf, &places, &first, leaf.displacement())?;
-    let near = kept_near(arena, leaf, &first, &free)?;
-    let lamps = lamps_of(arena, shaders.set, shaders.uses, leaf)?;
-    let lit = coloured(shaders, arena, leaf, &lamps, &places, &near, leaf.surface())?;
+    let first = begun(arena, leaf)?;
+    let near = placed(shaders, arena, leaf, &first.places, &first.variables)?;
+    let lit = lighted(shaders, arena, leaf, &first.places, &near)?;
     let last = dimmed(shaders, arena, leaf, &lit, leaf.atmosphere())?;
     let grid = grid_of(arena, leaf, &last)?;
     Ok(grid)

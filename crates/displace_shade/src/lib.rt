@@ -1,14 +1,10 @@
 //! Shading: displacement, surface and volume over the diced grid of a leaf.
 #![tactic(auto)]
 
-mod arguments;
 mod bound;
 mod constant;
-mod given;
 mod lamps;
 mod leaves;
-mod left;
-mod rows;
 mod runs;
 mod set;
 mod shop;

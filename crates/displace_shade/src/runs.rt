@@ -1,36 +1,31 @@
 // Runs of the three shaders of a primitive.
-ghost use Rattle.std.specs.Prelude.{◌≡◌, ◌≤◌, ◌*◌, ◌++◌, ◌∷◌, [], ℕ, true, false, All, length, map, IfOk};
-ghost use Rattle.transforms.specs.declared.spaces.Spaces.{Spaces as Maps};
+ghost use Rattle.std.specs.Prelude.{◌≡◌, ◌*◌, [], ℕ, false, All, length, map, IfOk};
 ghost use Rattle.sl_ast.specs.Names.{is_light};
 ghost use Rattle.sl_ast.specs.TreeView.{tree_of};
 ghost use Rattle.sl_ast.specs.declared.kinds.SlKind.TheVariants as kinds;
-ghost use Rattle.sl_ast.specs.declared.typed.Value.TheVariants as values;
 ghost use Rattle.builtins.specs.Shapes.{shape as shape_of_value};
-ghost use Rattle.grid_code.specs.Masked.{masked};
 ghost use Rattle.grid_code.specs.Shapes.{register_shape};
-ghost use Rattle.grid_code.specs.View.{block_of};
 ghost use Rattle.sl_meaning.specs.Runs.{Names, ran};
-ghost use Rattle.grid_variables.specs.Points.{columns as column_count, rows as row_count, lines};
 ghost use Rattle.displace_shade.specs.Shaded.{spaces_of as maps_of, around};
-ghost use Rattle.grid_machine.specs.Run.{row_length, rows_of, uniform_inputs, varying_inputs, written_names, lines_given, begun, Leaves};
-ghost use Rattle.displace_shade.specs.Rows.{AreRaws, values_of};
-ghost use Rattle.grid_variables.specs.Places.{point_count, over, IsSized, IsColoured, ArePlaces};
-ghost use Rattle.displace_shade.specs.Diced.{triple_in, Hold};
-ghost use Rattle.displace_shade.specs.Shop.{bound_value, Runs};
+ghost use Rattle.grid_machine.specs.Run.{row_length, rows_of, uniform_inputs, varying_inputs, written_names};
+ghost use Rattle.grid_rows.specs.Rows.{AreRaws};
+ghost use Rattle.grid_variables.specs.Places.{point_count, IsSized, IsColoured, ArePlaces};
+ghost use Rattle.displace_shade.specs.Diced.{Hold};
+ghost use Rattle.displace_shade.specs.Shop.{bound_value, parameters_of as parameters_list, Runs};
 ghost use Rattle.grid_variables.specs.Variables.{values_at};
 ghost use Rattle.shader_binding.specs.Bindings.{FitVariables};
-ghost use Rattle.displace_shade.specs.Lamps.{IsLamp, lamp_light, lamp_asked};
+ghost use Rattle.displace_shade.specs.Lamps.{IsLamp, lamp_light, IsLeft};
 
-use crate::arguments::uniform_values;
 use crate::bound::BoundShader;
-use crate::given::{displacement_rows, surface_rows, volume_rows};
 use crate::lamps::{Lamp, Lamps, kept};
-use crate::left::triples_from;
-use crate::rows::{length_of_row, raws_of};
 use bumpalo::Bump;
-use bumpalo::collections::into_bump_slice;
-use fixed_math::{NoMemory, Num, Vec3};
+use bumpalo::collections::into_bump_slice_mut;
+use fixed_math::{NoMemory, Num};
 use grid_machine::{Inputs, run};
+use grid_rows::{
+    Parameters, displacement_rows, length_of_row, raws_of, surface_rows, surface_values,
+    triples_left, uniform_values, volume_rows,
+};
 use grid_variables::{Leaf, Places, Variables};
 use sl_ast::Value;
 use std::alloc::Global;
@@ -53,16 +48,18 @@ fn spaces_of(leaf: &Leaf, space: &Affine) -> Spaces
     }
 }
 
-/// The uniform values of a shader on a surface: those of its parameters and the steps of u and v.
-fn surface_values(alloc: Global, leaf: &Leaf, bound: &BoundShader) -> Result<Vec<Value>, NoMemory>
-    requires named { length (tree_of bound.now.compiled.now.tree).params ≡ length bound.now.compiled.now.code.params }
-    requires counted { length bound.now.values.now ≡ length bound.now.compiled.now.code.params }
-    ensures { IfOk result (λ given. given.items ≡ values_of true bound.now.compiled.now.code.params (values_at leaf.now (tree_of bound.now.compiled.now.tree).params bound.now.values.now 0) ++ values.Number (lines leaf.now).du ∷ values.Number (lines leaf.now).dv ∷ []) }
+/// The parameters of a shader that is bound.
+fn parameters_of<'s>(bound: &BoundShader<'s>) -> Parameters<'s>
+    requires { Runs bound.now }
+    ensures { result ≡ parameters_list bound.now }
 {
-    let mut given = uniform_values(alloc, leaf, bound)?;
-    given.push(Value::Number(leaf.du()))?;
-    given.push(Value::Number(leaf.dv()))?;
-    Ok(given)
+    let compiled = bound.compiled;
+    let code = compiled.code();
+    Parameters {
+        declared: compiled.params(),
+        slots: code.params.as_slice(),
+        values: bound.values,
+    }
 }
 
 /// The six rows that a run of a shader under lights leaves.
@@ -81,12 +78,13 @@ fn run_on<'a, 's>(
     requires rows { length rows.now ≡ rows_of (varying_inputs bound.now.compiled.now.code.kind bound.now.compiled.now.code.params) * row_length (point_count leaf.now) }
     ensures long { IfOk result (λ out. length out.now ≡ 6 * row_length (point_count leaf.now)) }
     ensures small { IfOk result (λ out. AreRaws out.now) }
-    ensures values { IfOk result (λ out. Leaves bound.now.compiled.now.code.kind (point_count leaf.now) out.now (masked (block_of bound.now.compiled.now.code.nodes) record { lines = lines_given (column_count leaf.now) (row_count leaf.now) bound.now.compiled.now.code.params uniforms.now; spaces = maps_of leaf.now (bound_value bound.now); lights = map (lamp_asked (lines_given (column_count leaf.now) (row_count leaf.now) bound.now.compiled.now.code.params uniforms.now) (point_count leaf.now)) lamps.now } (point_count leaf.now) 65536 (begun bound.now.compiled.now.code.kind bound.now.compiled.now.code.params (point_count leaf.now) uniforms.now rows.now))) }
+    ensures values { IfOk result (λ out. IsLeft leaf.now bound.now lamps.now uniforms.now rows.now out.now) }
 {
     let raws = raws_of(arena, rows)?;
     let spaces = kept(arena, spaces_of(leaf, bound.space))?;
     let width = length_of_row(leaf.point_count());
-    let mut out = vec![in arena; 0; 6 * width]?;
+    let zeros = vec![in arena; 0; 6 * width]?;
+    let out = into_bump_slice_mut(zeros);
     let inputs = Inputs {
         columns: leaf.columns(),
         rows: leaf.rows(),
@@ -101,23 +99,29 @@ fn run_on<'a, 's>(
         spaces,
     };
     let lights = Lamps { lamps, spare };
-    run(code, arena, &inputs, &lights, &mut out)?;
-    Ok(into_bump_slice(out))
+    run(code, arena, &inputs, &lights, out)?;
+    Ok(out)
 }
 
-/// The triples that a run leaves for the points of a leaf, in three rows from row `first` on.
-fn triples_left<'a>(
+/// The same, for uniform values that are given up behind it.
+fn run_behind<'a, 's>(
     arena: &'a Bump,
     leaf: &Leaf,
-    rows: &[i64],
-    first: usize,
-) -> Result<&'a [Vec3], NoMemory>
-    requires first { first ≤ 3 }
-    requires long { length rows.now ≡ 6 * row_length (point_count leaf.now) }
-    requires small { AreRaws rows.now }
-    ensures { IfOk result (λ ts. ts.now ≡ over (point_count leaf.now) (triple_in rows.now (row_length (point_count leaf.now)) first)) }
+    bound: &BoundShader<'s>,
+    lamps: &[Lamp<'s, 'a>],
+    uniforms: Vec<Value>,
+    rows: &[Num],
+) -> Result<&'a [i64], NoMemory>
+    requires kind { is_light bound.now.compiled.now.code.kind ≡ false }
+    requires written { rows_of (written_names bound.now.compiled.now.code.kind) ≡ 6 }
+    requires lamps { All (IsLamp leaf.now) lamps.now }
+    requires uniforms { map shape_of_value uniforms.items ≡ map register_shape (uniform_inputs bound.now.compiled.now.code.kind bound.now.compiled.now.code.params) }
+    requires rows { length rows.now ≡ rows_of (varying_inputs bound.now.compiled.now.code.kind bound.now.compiled.now.code.params) * row_length (point_count leaf.now) }
+    ensures long { IfOk result (λ out. length out.now ≡ 6 * row_length (point_count leaf.now)) }
+    ensures small { IfOk result (λ out. AreRaws out.now) }
+    ensures values { IfOk result (λ out. IsLeft leaf.now bound.now lamps.now uniforms.items rows.now out.now) }
 {
-    triples_from(arena, rows, first, leaf.point_count())
+    run_on(arena, leaf, bound, lamps, &uniforms, rows)
 }
 
 /// The variables behind a run of a displacement, which no light reaches.
@@ -137,9 +141,10 @@ pub(crate) fn displace<'a>(
     ensures sized { IfOk result (λ e. IsSized leaf.now e) }
     ensures hold { IfOk result (λ e. (f : ℕ → Names) → Hold leaf.now variables.now f → Hold leaf.now e (ran (tree_of bound.now.compiled.now.tree) (around leaf.now (bound_value bound.now) []) (values_at leaf.now (tree_of bound.now.compiled.now.tree).params bound.now.values.now) f)) }
 {
-    let rows = displacement_rows(arena, leaf, bound, places, variables)?;
-    let uniforms = surface_values(alloc, leaf, bound)?;
-    let out = run_on(arena, leaf, bound, &[], &uniforms, rows)?;
+    let parameters = parameters_of(bound);
+    let rows = displacement_rows(arena, leaf, &parameters, places, variables)?;
+    let uniforms = surface_values(alloc, leaf, &parameters)?;
+    let out = run_behind(arena, leaf, bound, &[], uniforms, rows)?;
     let points = triples_left(arena, leaf, out, 0)?;
     let normals = triples_left(arena, leaf, out, 3)?;
     Ok(Variables {
@@ -171,9 +176,10 @@ pub(crate) fn colour<'a, 's>(
     ensures coloured { IfOk result (λ e. IsColoured leaf.now e) }
     ensures hold { IfOk result (λ e. (f : ℕ → Names) → Hold leaf.now variables.now f → Hold leaf.now e (ran (tree_of bound.now.compiled.now.tree) (around leaf.now (bound_value bound.now) (map (lamp_light leaf.now) lamps.now)) (values_at leaf.now (tree_of bound.now.compiled.now.tree).params bound.now.values.now) f)) }
 {
-    let rows = surface_rows(arena, leaf, bound, places, variables)?;
-    let uniforms = surface_values(alloc, leaf, bound)?;
-    let out = run_on(arena, leaf, bound, lamps, &uniforms, rows)?;
+    let parameters = parameters_of(bound);
+    let rows = surface_rows(arena, leaf, &parameters, places, variables)?;
+    let uniforms = surface_values(alloc, leaf, &parameters)?;
+    let out = run_behind(arena, leaf, bound, lamps, uniforms, rows)?;
     let colours = triples_left(arena, leaf, out, 0)?;
     let opacities = triples_left(arena, leaf, out, 3)?;
     Ok(Variables {
@@ -202,9 +208,10 @@ pub(crate) fn dim<'a>(
     ensures coloured { IfOk result (λ e. IsColoured leaf.now e) }
     ensures hold { IfOk result (λ e. (f : ℕ → Names) → Hold leaf.now variables.now f → Hold leaf.now e (ran (tree_of bound.now.compiled.now.tree) (around leaf.now (bound_value bound.now) []) (values_at leaf.now (tree_of bound.now.compiled.now.tree).params bound.now.values.now) f)) }
 {
-    let rows = volume_rows(arena, leaf, bound, variables)?;
-    let uniforms = uniform_values(alloc, leaf, bound)?;
-    let out = run_on(arena, leaf, bound, &[], &uniforms, rows)?;
+    let parameters = parameters_of(bound);
+    let rows = volume_rows(arena, leaf, &parameters, variables)?;
+    let uniforms = uniform_values(alloc, leaf, &parameters)?;
+    let out = run_behind(arena, leaf, bound, &[], uniforms, rows)?;
     let colours = triples_left(arena, leaf, out, 0)?;
     let opacities = triples_left(arena, leaf, out, 3)?;
     Ok(Variables {

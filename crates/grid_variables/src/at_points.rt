@@ -1,5 +1,5 @@
 // What the variables of a primitive give at all points of a leaf.
-ghost use Rattle.std.specs.Prelude.{◌≡◌, ◌≤◌, length, map, IfOk};
+ghost use Rattle.std.specs.Prelude.{◌≡◌, length, map, IfOk};
 ghost use Rattle.fixed_math.specs.Axes.{part_of};
 ghost use Rattle.builtins.specs.Triples.{normalize as unit_of};
 ghost use Rattle.grid_variables.specs.Points.{turned as turned_by, normal_of};

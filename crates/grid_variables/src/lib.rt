@@ -19,6 +19,6 @@ pub use kept::kept_near;
 pub use leaf::Leaf;
 pub use named::bound_variable;
 pub use places::Places;
-pub use stages::{diced, first_variables, geometric_normals, grid_of, places_of};
+pub use stages::{Start, begun, grid_of};
 pub use values::{kind_of, value_or};
 pub use variables::Variables;

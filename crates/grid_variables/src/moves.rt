@@ -1,5 +1,5 @@
 // Normals turned over, and the directions in which points are seen.
-ghost use Rattle.std.specs.Prelude.{◌≡◌, pos, map, IfOk};
+ghost use Rattle.std.specs.Prelude.{◌≡◌, map, IfOk};
 ghost use Rattle.builtins.specs.Triples.{negated as negated_of};
 ghost use Rattle.grid_variables.specs.Points.{turned as turned_by, flat_or as flat_of, sight as sight_of};
 

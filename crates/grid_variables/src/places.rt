@@ -1,5 +1,5 @@
 // What doesn't change at the points of a grid while shaders run.
-ghost use Rattle.std.specs.Prelude.{◌≡◌, ◌≤◌, length, map, IfOk};
+ghost use Rattle.std.specs.Prelude.{◌≡◌, IfOk};
 ghost use Rattle.grid_variables.specs.Places.{point_count, over, parameter_at, derivative_at};
 
 use crate::leaf::{Along, Leaf};

@@ -19,6 +19,13 @@ use bumpalo::collections::into_bump_slice;
 use dice::{Diced, GridRef};
 use fixed_math::{Axis, NoMemory, Vec3};
 
+/// The points of a leaf before any shader runs: the variables that shaders change, and those that stay.
+#[derive(Clone, Copy)]
+pub struct Start<'a> {
+    pub variables: Variables<'a>,
+    pub places: Places<'a>,
+}
+
 /// No triples.
 fn none<'a>(arena: &'a Bump) -> &'a [Vec3]
     ensures { result.now ≡ [] }
@@ -27,7 +34,7 @@ fn none<'a>(arena: &'a Bump) -> &'a [Vec3]
 }
 
 /// The points of a leaf's grid with the unit normals of its patch.
-pub fn diced<'a>(arena: &'a Bump, leaf: &Leaf) -> Result<Diced<'a>, NoMemory>
+fn diced<'a>(arena: &'a Bump, leaf: &Leaf) -> Result<Diced<'a>, NoMemory>
     ensures points { IfOk result (λ grid. grid.p.now ≡ diced_points (patch_point leaf.now.prim.patch) leaf.now.part leaf.now.p leaf.now.q) }
     ensures normals { IfOk result (λ grid. grid.n.now ≡ diced_points (normal (patch_du leaf.now.prim.patch) (patch_dv leaf.now.prim.patch)) leaf.now.part leaf.now.p leaf.now.q) }
 {
@@ -36,7 +43,7 @@ pub fn diced<'a>(arena: &'a Bump, leaf: &Leaf) -> Result<Diced<'a>, NoMemory>
 }
 
 /// The geometric normals of a leaf, from the unit normals of its patch.
-pub fn geometric_normals<'a>(
+fn geometric_normals<'a>(
     arena: &'a Bump,
     leaf: &Leaf,
     units: &[Vec3],
@@ -48,7 +55,7 @@ pub fn geometric_normals<'a>(
 }
 
 /// The variables of the points of a leaf before any shader runs, from its points and geometric normals.
-pub fn first_variables<'a>(
+fn first_variables<'a>(
     arena: &'a Bump,
     leaf: &Leaf,
     points: &'a [Vec3],
@@ -75,11 +82,7 @@ pub fn first_variables<'a>(
 }
 
 /// What doesn't change at the points of a leaf, whose geometric normals these are.
-pub fn places_of<'a>(
-    arena: &'a Bump,
-    leaf: &Leaf,
-    normals: &'a [Vec3],
-) -> Result<Places<'a>, NoMemory>
+fn places_of<'a>(arena: &'a Bump, leaf: &Leaf, normals: &'a [Vec3]) -> Result<Places<'a>, NoMemory>
     requires { normals.now ≡ over (point_count leaf.now) (normal_of leaf.now) }
     ensures { IfOk result (λ f. ArePlaces leaf.now f) }
 {
@@ -102,6 +105,22 @@ pub fn places_of<'a>(
         dpdu,
         dpdv,
     })
+}
+
+/// The points of a leaf before any shader runs.
+pub fn begun<'a>(arena: &'a Bump, leaf: &Leaf) -> Result<Start<'a>, NoMemory>
+    ensures points { IfOk result (λ b. b.variables.points.now ≡ diced_points (patch_point leaf.now.prim.patch) leaf.now.part leaf.now.p leaf.now.q) }
+    ensures normals { IfOk result (λ b. b.variables.normals.now ≡ over (point_count leaf.now) (n_at leaf.now)) }
+    ensures sights { IfOk result (λ b. b.variables.sights.now ≡ map (sight leaf.now.camera) (diced_points (patch_point leaf.now.prim.patch) leaf.now.part leaf.now.p leaf.now.q)) }
+    ensures colours { IfOk result (λ b. b.variables.colours.now ≡ []) }
+    ensures opacities { IfOk result (λ b. b.variables.opacities.now ≡ []) }
+    ensures places { IfOk result (λ b. ArePlaces leaf.now b.places) }
+{
+    let bare = diced(arena, leaf)?;
+    let geometric = geometric_normals(arena, leaf, bare.n)?;
+    let variables = first_variables(arena, leaf, bare.p, geometric)?;
+    let places = places_of(arena, leaf, geometric)?;
+    Ok(Start { variables, places })
 }
 
 /// The grid of a leaf behind all shaders: its opacities are put into 0 to 1.

@@ -1,50 +1,39 @@
-use Rattle.std.proofs.Common.{length, map, refl, ap, ◌∙◌}
+use Rattle.std.proofs.Common.{length, map, refl, ap, ◌∙◌, [], ◌∷◌, ◌++◌}
 use Rattle.sl_ast.specs.Names.{is_light}
 use Rattle.sl_ast.specs.TreeView.{tree_of}
+use Rattle.sl_ast.specs.declared.typed.Value.TheVariants.{Number}
 use Rattle.grid_machine.specs.Run.{row_length, rows_of, written_names, lines_given}
 use Rattle.dice.proofs.Directions.{cells_from}
 use Rattle.core_codegen.specs.Correct.{Answers}
 use Rattle.displace_shade.specs.Lamps.{lamp_light, lamp_asked}
-use Rattle.grid_variables.specs.Points.{columns, rows}
+use Rattle.grid_variables.specs.Points.{columns, rows, lines}
 use Rattle.grid_variables.specs.Variables.{values_at}
-use Rattle.displace_shade.specs.Given.{param_rows}
+use Rattle.grid_rows.specs.Given.{param_rows, surface_rows}
 use Rattle.grid_variables.specs.Places.{point_count}
-use Rattle.displace_shade.specs.Diced.{triple_in}
+use Rattle.grid_rows.specs.Rows.{triple_in}
 use Rattle.grid_variables.proofs.Over.{over_long}
 use Rattle.displace_shade.proofs.Laws.{surface_law, look_shapes, look_long}
-use Rattle.displace_shade.proofs.BoundLaws.{bound_count, bound_names, bound_values, bound_rows}
+use Rattle.displace_shade.proofs.BoundLaws.{bound_values, bound_rows, rows_given, uniforms_given}
 use Rattle.displace_shade.proofs.LampLaws.{lamps_answer}
 use Rattle.displace_shade.proofs.runs.colour.Goals as goal
 
-pub surface_rows-requires-clause-named : goal.surface_rows-requires-clause-named
-surface_rows-requires-clause-named c = bound_names c.args.bound.now c.requires.runs
+pub run_behind-requires-clause-kind : goal.run_behind-requires-clause-kind
+run_behind-requires-clause-kind c = ap is_light (c.requires.runs.code.kind ∙ c.requires.kind)
 
-pub surface_rows-requires-clause-counted : goal.surface_rows-requires-clause-counted
-surface_rows-requires-clause-counted c = bound_count c.args.bound.now c.requires.runs
+pub run_behind-requires-clause-written : goal.run_behind-requires-clause-written
+run_behind-requires-clause-written c = ap (λ k. rows_of (written_names k)) (c.requires.runs.code.kind ∙ c.requires.kind)
 
-pub surface_values-requires-clause-named : goal.surface_values-requires-clause-named
-surface_values-requires-clause-named c = bound_names c.args.bound.now c.requires.runs
-
-pub surface_values-requires-clause-counted : goal.surface_values-requires-clause-counted
-surface_values-requires-clause-counted c = bound_count c.args.bound.now c.requires.runs
-
-pub run_on-requires-clause-kind : goal.run_on-requires-clause-kind
-run_on-requires-clause-kind c = ap is_light (c.requires.runs.code.kind ∙ c.requires.kind)
-
-pub run_on-requires-clause-written : goal.run_on-requires-clause-written
-run_on-requires-clause-written c = ap (λ k. rows_of (written_names k)) (c.requires.runs.code.kind ∙ c.requires.kind)
-
-pub run_on-requires-clause-uniforms : goal.run_on-requires-clause-uniforms
-run_on-requires-clause-uniforms c =
+pub run_behind-requires-clause-uniforms : goal.run_behind-requires-clause-uniforms
+run_behind-requires-clause-uniforms c =
     let b = c.args.bound.now in
     let r = c.requires.runs in
-    look_shapes c.args.leaf.now (tree_of b.compiled.now.tree) b.compiled.now.code b.values.now b.space.now r.code (values_at c.args.leaf.now (tree_of b.compiled.now.tree).params b.values.now) (bound_values b r c.args.leaf.now c.requires.variables) (param_rows c.args.leaf.now (tree_of b.compiled.now.tree).params b.compiled.now.code.params b.values.now) (bound_rows b r c.args.leaf.now c.requires.variables) c.requires.kind c.deref.result.now (c.deref.ensures.value ∙ c.in_ok-uniforms.ensures)
+    look_shapes c.args.leaf.now (tree_of b.compiled.now.tree) b.compiled.now.code b.values.now b.space.now r.code (values_at c.args.leaf.now (tree_of b.compiled.now.tree).params b.values.now) (bound_values b r c.args.leaf.now c.requires.variables) (param_rows c.args.leaf.now (tree_of b.compiled.now.tree).params b.compiled.now.code.params b.values.now) (bound_rows b r c.args.leaf.now c.requires.variables) c.requires.kind c.in_ok-uniforms.uniforms.items (c.in_ok-uniforms.ensures ∙ ap (λ vs. vs ++ Number (lines c.args.leaf.now).du ∷ Number (lines c.args.leaf.now).dv ∷ []) (uniforms_given c.args.leaf.now b _ c.parameters_of-parameters.ensures))
 
-pub run_on-requires-clause-rows : goal.run_on-requires-clause-rows
-run_on-requires-clause-rows c =
+pub run_behind-requires-clause-rows : goal.run_behind-requires-clause-rows
+run_behind-requires-clause-rows c =
     let b = c.args.bound.now in
     let r = c.requires.runs in
-    look_long c.args.leaf.now (tree_of b.compiled.now.tree) b.compiled.now.code b.values.now b.space.now r.code (values_at c.args.leaf.now (tree_of b.compiled.now.tree).params b.values.now) (bound_values b r c.args.leaf.now c.requires.variables) (param_rows c.args.leaf.now (tree_of b.compiled.now.tree).params b.compiled.now.code.params b.values.now) (bound_rows b r c.args.leaf.now c.requires.variables) c.requires.kind c.args.places.now c.args.variables.now c.in_ok-rows.rows.now c.requires.places c.requires.sized c.in_ok-rows.ensures
+    look_long c.args.leaf.now (tree_of b.compiled.now.tree) b.compiled.now.code b.values.now b.space.now r.code (values_at c.args.leaf.now (tree_of b.compiled.now.tree).params b.values.now) (bound_values b r c.args.leaf.now c.requires.variables) (param_rows c.args.leaf.now (tree_of b.compiled.now.tree).params b.compiled.now.code.params b.values.now) (bound_rows b r c.args.leaf.now c.requires.variables) c.requires.kind c.args.places.now c.args.variables.now c.in_ok-rows.rows.now c.requires.places c.requires.sized (c.in_ok-rows.ensures ∙ ap (λ params. surface_rows params c.args.places.now c.args.variables.now) (rows_given c.args.leaf.now b _ c.parameters_of-parameters.ensures))
 
 pub triples_left-requires-clause-small : goal.triples_left-requires-clause-small
 triples_left-requires-clause-small c = c.in_ok-out.ensures.small
@@ -65,10 +54,10 @@ returns-clause-hold c =
     let b = c.args.bound.now in
     let r = c.requires.runs in
     let n = point_count c.args.leaf.now in
-    let ls = lines_given (columns c.args.leaf.now) (rows c.args.leaf.now) b.compiled.now.code.params c.deref.result.now in
+    let ls = lines_given (columns c.args.leaf.now) (rows c.args.leaf.now) b.compiled.now.code.params c.in_ok-uniforms.uniforms.items in
     let asked = map (lamp_asked ls n) c.args.lamps.now in
     let lights = map (lamp_light c.args.leaf.now) c.args.lamps.now in
     let answers : Answers n asked lights = lamps_answer c.args.leaf.now ls (cells_from c.args.leaf.now.p) (cells_from c.args.leaf.now.q) c.args.lamps.now c.requires.lamps in
-    λ f h. surface_law c.args.leaf.now (tree_of b.compiled.now.tree) b.compiled.now.code b.values.now b.space.now r.code (values_at c.args.leaf.now (tree_of b.compiled.now.tree).params b.values.now) (bound_values b r c.args.leaf.now c.requires.variables) (param_rows c.args.leaf.now (tree_of b.compiled.now.tree).params b.compiled.now.code.params b.values.now) (bound_rows b r c.args.leaf.now c.requires.variables) c.requires.kind c.args.places.now c.args.variables.now _ asked lights c.deref.result.now c.in_ok-rows.rows.now c.in_ok-out.out.now
-    answers c.requires.places c.requires.sized (c.deref.ensures.value ∙ c.in_ok-uniforms.ensures) c.in_ok-rows.ensures c.in_ok-out.ensures.values
+    λ f h. surface_law c.args.leaf.now (tree_of b.compiled.now.tree) b.compiled.now.code b.values.now b.space.now r.code (values_at c.args.leaf.now (tree_of b.compiled.now.tree).params b.values.now) (bound_values b r c.args.leaf.now c.requires.variables) (param_rows c.args.leaf.now (tree_of b.compiled.now.tree).params b.compiled.now.code.params b.values.now) (bound_rows b r c.args.leaf.now c.requires.variables) c.requires.kind c.args.places.now c.args.variables.now _ asked lights c.in_ok-uniforms.uniforms.items c.in_ok-rows.rows.now c.in_ok-out.out.now
+    answers c.requires.places c.requires.sized (c.in_ok-uniforms.ensures ∙ ap (λ vs. vs ++ Number (lines c.args.leaf.now).du ∷ Number (lines c.args.leaf.now).dv ∷ []) (uniforms_given c.args.leaf.now b _ c.parameters_of-parameters.ensures)) (c.in_ok-rows.ensures ∙ ap (λ params. surface_rows params c.args.places.now c.args.variables.now) (rows_given c.args.leaf.now b _ c.parameters_of-parameters.ensures)) c.in_ok-out.ensures.values
     c.in_ok-colours.ensures c.in_ok-opacities.ensures refl refl refl f h

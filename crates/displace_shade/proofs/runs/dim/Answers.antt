@@ -3,46 +3,34 @@ use Rattle.sl_ast.specs.Names.{is_light}
 use Rattle.sl_ast.specs.TreeView.{tree_of}
 use Rattle.grid_machine.specs.Run.{row_length, rows_of, written_names}
 use Rattle.sl_ast.specs.declared.kinds.SlKind.TheVariants.{Volume}
-use Rattle.displace_shade.specs.Rows.{AreRows, varying_values}
+use Rattle.grid_rows.specs.Rows.{AreRows, triple_in}
+use Rattle.displace_shade.specs.Rows.{varying_values}
 use Rattle.displace_shade.proofs.GivenRows.{volume_given}
 use Rattle.grid_variables.specs.Variables.{values_at}
-use Rattle.displace_shade.specs.Given.{param_rows}
+use Rattle.grid_rows.specs.Given.{param_rows, volume_rows}
 use Rattle.grid_variables.specs.Places.{point_count}
-use Rattle.displace_shade.specs.Diced.{triple_in}
 use Rattle.grid_variables.proofs.Over.{over_long}
 use Rattle.displace_shade.proofs.Laws.{volume_law, volume_shapes, volume_long}
-use Rattle.displace_shade.proofs.BoundLaws.{bound_count, bound_names, bound_values, bound_rows}
+use Rattle.displace_shade.proofs.BoundLaws.{bound_values, bound_rows, rows_given, uniforms_given}
 use Rattle.displace_shade.proofs.runs.dim.Goals as goal
 
-pub volume_rows-requires-clause-named : goal.volume_rows-requires-clause-named
-volume_rows-requires-clause-named c = bound_names c.args.bound.now c.requires.runs
+pub run_behind-requires-clause-kind : goal.run_behind-requires-clause-kind
+run_behind-requires-clause-kind c = ap is_light (c.requires.runs.code.kind ∙ c.requires.kind)
 
-pub volume_rows-requires-clause-counted : goal.volume_rows-requires-clause-counted
-volume_rows-requires-clause-counted c = bound_count c.args.bound.now c.requires.runs
+pub run_behind-requires-clause-written : goal.run_behind-requires-clause-written
+run_behind-requires-clause-written c = ap (λ k. rows_of (written_names k)) (c.requires.runs.code.kind ∙ c.requires.kind)
 
-pub uniform_values-requires-clause-named : goal.uniform_values-requires-clause-named
-uniform_values-requires-clause-named c = bound_names c.args.bound.now c.requires.runs
-
-pub uniform_values-requires-clause-counted : goal.uniform_values-requires-clause-counted
-uniform_values-requires-clause-counted c = bound_count c.args.bound.now c.requires.runs
-
-pub run_on-requires-clause-kind : goal.run_on-requires-clause-kind
-run_on-requires-clause-kind c = ap is_light (c.requires.runs.code.kind ∙ c.requires.kind)
-
-pub run_on-requires-clause-written : goal.run_on-requires-clause-written
-run_on-requires-clause-written c = ap (λ k. rows_of (written_names k)) (c.requires.runs.code.kind ∙ c.requires.kind)
-
-pub run_on-requires-clause-uniforms : goal.run_on-requires-clause-uniforms
-run_on-requires-clause-uniforms c =
+pub run_behind-requires-clause-uniforms : goal.run_behind-requires-clause-uniforms
+run_behind-requires-clause-uniforms c =
     let b = c.args.bound.now in
     let r = c.requires.runs in
-    volume_shapes c.args.leaf.now (tree_of b.compiled.now.tree) b.compiled.now.code b.values.now b.space.now r.code (values_at c.args.leaf.now (tree_of b.compiled.now.tree).params b.values.now) (bound_values b r c.args.leaf.now c.requires.variables) (param_rows c.args.leaf.now (tree_of b.compiled.now.tree).params b.compiled.now.code.params b.values.now) (bound_rows b r c.args.leaf.now c.requires.variables) c.requires.kind c.deref.result.now (c.deref.ensures.value ∙ c.in_ok-uniforms.ensures)
+    volume_shapes c.args.leaf.now (tree_of b.compiled.now.tree) b.compiled.now.code b.values.now b.space.now r.code (values_at c.args.leaf.now (tree_of b.compiled.now.tree).params b.values.now) (bound_values b r c.args.leaf.now c.requires.variables) (param_rows c.args.leaf.now (tree_of b.compiled.now.tree).params b.compiled.now.code.params b.values.now) (bound_rows b r c.args.leaf.now c.requires.variables) c.requires.kind c.in_ok-uniforms.uniforms.items (c.in_ok-uniforms.ensures ∙ uniforms_given c.args.leaf.now b _ c.parameters_of-parameters.ensures)
 
-pub run_on-requires-clause-rows : goal.run_on-requires-clause-rows
-run_on-requires-clause-rows c =
+pub run_behind-requires-clause-rows : goal.run_behind-requires-clause-rows
+run_behind-requires-clause-rows c =
     let b = c.args.bound.now in
     let r = c.requires.runs in
-    volume_long c.args.leaf.now (tree_of b.compiled.now.tree) b.compiled.now.code b.values.now b.space.now r.code (values_at c.args.leaf.now (tree_of b.compiled.now.tree).params b.values.now) (bound_values b r c.args.leaf.now c.requires.variables) (param_rows c.args.leaf.now (tree_of b.compiled.now.tree).params b.compiled.now.code.params b.values.now) (bound_rows b r c.args.leaf.now c.requires.variables) c.requires.kind c.args.variables.now c.in_ok-rows.rows.now (λ f h. subst (λ rs. AreRows (point_count c.args.leaf.now) (λ i. varying_values Volume b.compiled.now.code.params (values_at c.args.leaf.now (tree_of b.compiled.now.tree).params b.values.now i) (f i)) rs) (sym c.in_ok-rows.ensures) (volume_given c.args.leaf.now c.args.variables.now f b.compiled.now.code.params (values_at c.args.leaf.now (tree_of b.compiled.now.tree).params b.values.now) (param_rows c.args.leaf.now (tree_of b.compiled.now.tree).params b.compiled.now.code.params b.values.now) (bound_rows b r c.args.leaf.now c.requires.variables) h c.requires.sized.points c.requires.sized.sights c.requires.coloured.colours c.requires.coloured.opacities))
+    volume_long c.args.leaf.now (tree_of b.compiled.now.tree) b.compiled.now.code b.values.now b.space.now r.code (values_at c.args.leaf.now (tree_of b.compiled.now.tree).params b.values.now) (bound_values b r c.args.leaf.now c.requires.variables) (param_rows c.args.leaf.now (tree_of b.compiled.now.tree).params b.compiled.now.code.params b.values.now) (bound_rows b r c.args.leaf.now c.requires.variables) c.requires.kind c.args.variables.now c.in_ok-rows.rows.now (λ f h. subst (λ rs. AreRows (point_count c.args.leaf.now) (λ i. varying_values Volume b.compiled.now.code.params (values_at c.args.leaf.now (tree_of b.compiled.now.tree).params b.values.now i) (f i)) rs) (sym (c.in_ok-rows.ensures ∙ ap (λ params. volume_rows params c.args.variables.now) (rows_given c.args.leaf.now b _ c.parameters_of-parameters.ensures))) (volume_given c.args.leaf.now c.args.variables.now f b.compiled.now.code.params (values_at c.args.leaf.now (tree_of b.compiled.now.tree).params b.values.now) (param_rows c.args.leaf.now (tree_of b.compiled.now.tree).params b.compiled.now.code.params b.values.now) (bound_rows b r c.args.leaf.now c.requires.variables) h c.requires.sized.points c.requires.sized.sights c.requires.coloured.colours c.requires.coloured.opacities))
 
 pub triples_left-requires-clause-small : goal.triples_left-requires-clause-small
 triples_left-requires-clause-small c = c.in_ok-out.ensures.small
@@ -63,6 +51,6 @@ returns-clause-hold c =
     let b = c.args.bound.now in
     let r = c.requires.runs in
     let n = point_count c.args.leaf.now in
-    λ f h. volume_law c.args.leaf.now (tree_of b.compiled.now.tree) b.compiled.now.code b.values.now b.space.now r.code (values_at c.args.leaf.now (tree_of b.compiled.now.tree).params b.values.now) (bound_values b r c.args.leaf.now c.requires.variables) (param_rows c.args.leaf.now (tree_of b.compiled.now.tree).params b.compiled.now.code.params b.values.now) (bound_rows b r c.args.leaf.now c.requires.variables) c.requires.kind b.compiled.now.code.placed c.args.variables.now _ c.deref.result.now c.in_ok-rows.rows.now c.in_ok-out.out.now
-    (λ f h. subst (λ rs. AreRows (point_count c.args.leaf.now) (λ i. varying_values Volume b.compiled.now.code.params (values_at c.args.leaf.now (tree_of b.compiled.now.tree).params b.values.now i) (f i)) rs) (sym c.in_ok-rows.ensures) (volume_given c.args.leaf.now c.args.variables.now f b.compiled.now.code.params (values_at c.args.leaf.now (tree_of b.compiled.now.tree).params b.values.now) (param_rows c.args.leaf.now (tree_of b.compiled.now.tree).params b.compiled.now.code.params b.values.now) (bound_rows b r c.args.leaf.now c.requires.variables) h c.requires.sized.points c.requires.sized.sights c.requires.coloured.colours c.requires.coloured.opacities)) (c.deref.ensures.value ∙ c.in_ok-uniforms.ensures) c.in_ok-out.ensures.values
+    λ f h. volume_law c.args.leaf.now (tree_of b.compiled.now.tree) b.compiled.now.code b.values.now b.space.now r.code (values_at c.args.leaf.now (tree_of b.compiled.now.tree).params b.values.now) (bound_values b r c.args.leaf.now c.requires.variables) (param_rows c.args.leaf.now (tree_of b.compiled.now.tree).params b.compiled.now.code.params b.values.now) (bound_rows b r c.args.leaf.now c.requires.variables) c.requires.kind b.compiled.now.code.placed c.args.variables.now _ c.in_ok-uniforms.uniforms.items c.in_ok-rows.rows.now c.in_ok-out.out.now
+    (λ f h. subst (λ rs. AreRows (point_count c.args.leaf.now) (λ i. varying_values Volume b.compiled.now.code.params (values_at c.args.leaf.now (tree_of b.compiled.now.tree).params b.values.now i) (f i)) rs) (sym (c.in_ok-rows.ensures ∙ ap (λ params. volume_rows params c.args.variables.now) (rows_given c.args.leaf.now b _ c.parameters_of-parameters.ensures))) (volume_given c.args.leaf.now c.args.variables.now f b.compiled.now.code.params (values_at c.args.leaf.now (tree_of b.compiled.now.tree).params b.values.now) (param_rows c.args.leaf.now (tree_of b.compiled.now.tree).params b.compiled.now.code.params b.values.now) (bound_rows b r c.args.leaf.now c.requires.variables) h c.requires.sized.points c.requires.sized.sights c.requires.coloured.colours c.requires.coloured.opacities)) (c.in_ok-uniforms.ensures ∙ uniforms_given c.args.leaf.now b _ c.parameters_of-parameters.ensures) c.in_ok-out.ensures.values
     c.in_ok-colours.ensures c.in_ok-opacities.ensures refl refl refl f h

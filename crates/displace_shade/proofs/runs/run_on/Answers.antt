@@ -3,12 +3,11 @@ use Rattle.sl_ast.specs.Names.{is_light}
 use Rattle.builtins.specs.Shapes.{shape}
 use Rattle.grid_code.specs.Shapes.{register_shape}
 use Rattle.grid_machine.specs.Run.{row_length, rows_of, uniform_inputs, varying_inputs, written_names}
-use Rattle.displace_shade.specs.Rows.{AreRaws}
 use Rattle.grid_variables.specs.Points.{columns, rows}
 use Rattle.grid_variables.specs.Places.{point_count}
 use Rattle.displace_shade.specs.Shaded.{spaces_of}
 use Rattle.displace_shade.specs.Shop.{bound_value}
-use Rattle.displace_shade.proofs.BoundLaws.{written_back, read_long, leaves_as}
+use Rattle.displace_shade.proofs.BoundLaws.{read_long, leaves_as}
 use Rattle.displace_shade.proofs.LampLaws.{lamp_runs}
 use Rattle.displace_shade.proofs.runs.run_on.Goals as goal
 
@@ -31,23 +30,21 @@ run-requires-clause-varyings c =
 
 pub run-requires-clause-out : goal.run-requires-clause-out
 run-requires-clause-out c =
-    read_long (λ k. rows_of (written_names k.kind)) c.code-code.result.now c.args.bound.now.compiled.now.code c.columns.result (columns c.args.leaf.now) c.rows.result (rows c.args.leaf.now) (length c.deref_mut.result.now)
+    let items : length c.in_ok-zeros.zeros.items ≡ c.in_ok-zeros.zeros.len = sym c.in_ok-zeros.zeros.ok.0 in
+    read_long (λ k. rows_of (written_names k.kind)) c.code-code.result.now c.args.bound.now.compiled.now.code c.columns.result (columns c.args.leaf.now) c.rows.result (rows c.args.leaf.now) (length c.into_bump_slice_mut-out.result.now)
     c.code-code.ensures.code c.columns.ensures.value c.rows.ensures.value
-    (c.deref_mut.ensures.len ∙ c.in_ok-out.ensures.len ∙ ap (λ w. 6 * w) (c.length_of_row-width.ensures.value ∙ ap row_length c.point_count.ensures.value) ∙ ap (λ n. n * row_length (point_count c.args.leaf.now)) (sym c.requires.written))
+    (ap (λ xs. length xs) c.into_bump_slice_mut-out.ensures ∙ items ∙ c.in_ok-zeros.ensures.len ∙ ap (λ w. 6 * w) (c.length_of_row-width.ensures.value ∙ ap row_length c.point_count.ensures.value) ∙ ap (λ n. n * row_length (point_count c.args.leaf.now)) (sym c.requires.written))
 
 pub returns-clause-long : goal.returns-clause-long
 returns-clause-long c =
-    let n : length c.run.new.out ≡ c.in_ok-out.out.len = c.run.auto.out ∙ c.deref_mut.ensures.len in
-    ap (λ xs. length xs) (c.into_bump_slice.ensures ∙ written_back c.in_ok-out.out.len c.run.new.out c.in_ok-out.out.items n) ∙ n ∙ c.in_ok-out.ensures.len
+    let items : length c.in_ok-zeros.zeros.items ≡ c.in_ok-zeros.zeros.len = sym c.in_ok-zeros.zeros.ok.0 in
+    c.run.auto.out ∙ ap (λ xs. length xs) c.into_bump_slice_mut-out.ensures ∙ items ∙ c.in_ok-zeros.ensures.len
     ∙ ap (λ w. 6 * w) (c.length_of_row-width.ensures.value ∙ ap row_length c.point_count.ensures.value)
 
 pub returns-clause-small : goal.returns-clause-small
-returns-clause-small c =
-    let n : length c.run.new.out ≡ c.in_ok-out.out.len = c.run.auto.out ∙ c.deref_mut.ensures.len in
-    subst AreRaws (sym (c.into_bump_slice.ensures ∙ written_back c.in_ok-out.out.len c.run.new.out c.in_ok-out.out.items n)) c.run.ensures.raws
+returns-clause-small c = c.run.ensures.raws
 
 pub returns-clause-values : goal.returns-clause-values
 returns-clause-values c =
-    let n : length c.run.new.out ≡ c.in_ok-out.out.len = c.run.auto.out ∙ c.deref_mut.ensures.len in
     leaves_as c.code-code.result.now c.args.bound.now.compiled.now.code c.args.uniforms.now _ (columns c.args.leaf.now) _ (rows c.args.leaf.now) _ c.args.rows.now _ _ _ (spaces_of c.args.leaf.now (bound_value c.args.bound.now)) c.args.lamps.now _
-    c.code-code.ensures.code c.columns.ensures.value c.rows.ensures.value c.in_ok-raws.ensures.value (sym (c.into_bump_slice.ensures ∙ written_back c.in_ok-out.out.len c.run.new.out c.in_ok-out.out.items n)) (c.in_ok-spaces.ensures ∙ c.spaces_of.ensures (bound_value c.args.bound.now) refl) c.in_ok-run.ensures.values
+    c.code-code.ensures.code c.columns.ensures.value c.rows.ensures.value c.in_ok-raws.ensures.value refl (c.in_ok-spaces.ensures ∙ c.spaces_of.ensures (bound_value c.args.bound.now) refl) c.in_ok-run.ensures.values

@@ -1,7 +1,0 @@
-use Rattle.std.proofs.Common.{◌≡◌, ◌++◌, drop, map}
-use Rattle.sl_ast.specs.TypedView.{local_of}
-use Rattle.displace_shade.specs.Given.{param_rows}
-use Rattle.displace_shade.proofs.arguments.push_params.Given as goal
-
-abbrev pub invariant-loop-k : goal.invariant-loop-k
-invariant-loop-k g l = l.initial.rows.items ++ param_rows l.leaf (map local_of l.names) l.params l.values ≡ l.rows.items ++ param_rows l.leaf (drop l.k (map local_of l.names)) (drop l.k l.params) (drop l.k l.values)

@@ -1,6 +1,0 @@
-use Rattle.std.proofs.Common.{pos}
-use Rattle.displace_shade.proofs.Filled.{filled_more}
-use Rattle.displace_shade.proofs.rows.fill_up.Goals as goal
-
-pub loop-rest-preserved : goal.loop-rest-preserved
-loop-rest-preserved g c = filled_more c.args.rows.now.items c.loop-rest.rows.items c.push.new.self.items c.loop-rest._rest (pos 0) c.default.result c.in_ok-push.ensures.items c.default.ensures c.loop-rest.invariant

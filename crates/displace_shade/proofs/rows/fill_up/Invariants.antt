@@ -1,5 +1,0 @@
-use Rattle.std.proofs.Common.{◌≡◌, ◌++◌, pos, replicate}
-use Rattle.displace_shade.proofs.rows.fill_up.Given as goal
-
-abbrev pub invariant-loop-rest : goal.invariant-loop-rest
-invariant-loop-rest g l = l.rows.items ≡ l.initial.rows.items ++ replicate l._rest (pos 0)

@@ -1,9 +1,0 @@
-use Rattle.std.proofs.Common.{pos, arith}
-use Rattle.std.proofs.lemmas.List.{get_or_read}
-use Rattle.displace_shade.proofs.Filled.{numbers_more}
-use Rattle.displace_shade.proofs.rows.push_numbers.Goals as goal
-
-pub loop-number-preserved : goal.loop-number-preserved
-loop-number-preserved g c =
-    let read = get_or_read c.args.numbers.now c.loop-number.number-index c.number-item.result (omega arith) c.number-item.is (pos 0) in
-    numbers_more c.args.numbers.now c.loop-number.number-index c.args.rows.now.items c.loop-number.rows.items c.push.new.self.items c.number-item.result (omega arith) c.in_ok-push.ensures.items read c.loop-number.invariant

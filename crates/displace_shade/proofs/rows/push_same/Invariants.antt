@@ -1,5 +1,0 @@
-use Rattle.std.proofs.Common.{◌≡◌, ◌++◌, replicate}
-use Rattle.displace_shade.proofs.rows.push_same.Given as goal
-
-abbrev pub invariant-loop-point : goal.invariant-loop-point
-invariant-loop-point g l = l.rows.items ≡ l.initial.rows.items ++ replicate l._point l.number

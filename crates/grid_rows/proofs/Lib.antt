@@ -1,0 +1,5 @@
+pub mod Filled
+pub mod Raws
+pub mod Params
+pub mod ParamRows
+pub mod Lengths

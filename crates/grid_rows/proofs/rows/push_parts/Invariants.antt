@@ -1,0 +1,6 @@
+use Rattle.std.proofs.Common.{◌≡◌, ◌++◌, take, map}
+use Rattle.fixed_math.specs.Axes.{part_of}
+use Rattle.grid_rows.proofs.rows.push_parts.Given as goal
+
+abbrev pub invariant-loop-triple : goal.invariant-loop-triple
+invariant-loop-triple g l = l.rows.items ≡ l.initial.rows.items ++ map (part_of l.axis) (take l.triple-index l.triples)

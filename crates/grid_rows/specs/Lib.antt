@@ -1,0 +1,3 @@
+pub mod Parameters
+pub mod Rows
+pub mod Given
