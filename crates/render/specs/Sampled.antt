@@ -2,7 +2,7 @@
 use Rattle.std.specs.Prelude.{ℕ, ◌+◌, ◌-◌, ◌*◌, ◌/◌, ◌%◌, ◌≤◌, ◌≡◌, min, ℤ, ◌+ℤ◌, ◌*ℤ◌, List, [], ◌∷◌, ◌++◌, map, length}
 use Rattle.std.specs.List.{range_with_len, flat_map, enumerate_from}
 use Rattle.fixed_math.specs.declared.vec3.Vec3.{Vec3}
-use Rattle.scene_state.specs.Settings.{OptionValues}
+use Rattle.scene_parts.specs.Settings.{OptionValues}
 use Rattle.scene_state.specs.Scene.{PrimValue, FrameValue}
 use Rattle.transforms.specs.declared.view.View.{View}
 use Rattle.hider.specs.declared.sample.Sample.{Sample}
