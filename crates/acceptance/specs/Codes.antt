@@ -4,8 +4,8 @@ use Rattle.rib_lex.specs.declared.token.LexCode.{LexCode}
 use Rattle.rib_lex.specs.declared.token.LexCode.TheVariants as lex
 use Rattle.rib_reader.specs.declared.faults.RibCode.{RibCode}
 use Rattle.rib_reader.specs.declared.faults.RibCode.TheVariants as rib
-use Rattle.scene_state.specs.declared.fault.StateCode.{StateCode}
-use Rattle.scene_state.specs.declared.fault.StateCode.TheVariants as state
+use Rattle.scene_parts.specs.declared.code.StateCode.{StateCode}
+use Rattle.scene_parts.specs.declared.code.StateCode.TheVariants as state
 use Rattle.sl_expression_grammar.specs.declared.fault.SlCode.{SlCode}
 use Rattle.sl_expression_grammar.specs.declared.fault.SlCode.TheVariants as grammar
 use Rattle.sl_expressions.specs.declared.faults.TypeCode.{TypeCode}

@@ -15,13 +15,14 @@ use Rattle.transforms.specs.declared.fault.FormFault.{FormFault}
 use Rattle.fixed_math.specs.declared.vec3.Vec3.{Vec3}
 use Rattle.patches.specs.declared.patch.Patch.{Patch}
 use Rattle.scene_state.specs.Scene.{PrimValue, FrameValue, IsUse, IsSomeUse, HasUses}
-use Rattle.scene_state.specs.Choices.{ChoiceValues, chosen, view_of}
-use Rattle.scene_state.specs.Looks.{look_after, is_single}
-use Rattle.scene_state.specs.Shaders.{with_request, placed_in, placed, some_placed, all_placed, light_of, with_light, without_light, is_among}
+use Rattle.scene_parts.specs.Choices.{ChoiceValues, chosen, view_of}
+use Rattle.scene_parts.specs.Looks.{look_after, is_single}
+use Rattle.scene_state.specs.Shaders.{with_request, placed_in, placed, some_placed, all_placed, light_of}
+use Rattle.light_lists.specs.Lights.{with_light, without_light, is_among}
 use Rattle.scene_state.specs.State.{most_blocks, most_frames, most_lights, with_frame, name_or, moved, scaled, turned, of_rows, prim_of, Stepped, Located, first_state, closed, opened, innermost, frame_ended, attributes_ended, transform_ended, world_with, frame_made, frame_of, world_ended, with_choices, option_set, display_set, with_current, with_before, space_of, use_of, next_shader, with_shader, light_added, light_made, handle_for, illuminated_by, light_named, with_prim, with_patches, is_past, mesh_from, mesh_counted, mesh_laid, face_points, with_face, with_faces, faces_laid, located, laid}
 use Rattle.scene_state.specs.Variables.{variables_in, are_counted, mesh_extent, mesh_seat, faces_extent, face_seat}
-use Rattle.scene_state.specs.Bases.{bases_after, patch_shape, mesh_shape}
-use Rattle.scene_state.specs.Faces.{FaceValues, one_face, faces_in}
+use Rattle.scene_parts.specs.Bases.{bases_after, patch_shape, mesh_shape}
+use Rattle.scene_parts.specs.Faces.{FaceValues, one_face, faces_in}
 use Rattle.mesh_basis.specs.declared.shape.Shape.{Shape}
 use Rattle.mesh_basis.specs.declared.counts.Counts.{Counts}
 use Rattle.mesh_basis.specs.Ranges.{are_in_range}
@@ -29,8 +30,8 @@ use Rattle.mesh_basis.specs.Counts.{counts_of}
 use Rattle.mesh_basis.specs.Meshes.{patches_in}
 use Rattle.mesh_basis.specs.Polygons.{piece_count, pieces_of, flat_normal}
 use Rattle.scene_state.specs.Steps.{with_surface, with_displacement, with_atmosphere, look_set, step, after, and_then, Placed, state_from}
-use Rattle.scene_state.specs.declared.fault.StateCode.{StateCode}
-use Rattle.scene_state.specs.declared.fault.StateCode.TheVariants.{N1, N2, G5, M1, M2, M3, M4, M7}
+use Rattle.scene_parts.specs.declared.code.StateCode.{StateCode}
+use Rattle.scene_parts.specs.declared.code.StateCode.TheVariants.{N1, N2, G5, M1, M2, M3, M4, M7}
 use Rattle.scene_state.specs.declared.uses.ShaderKind.{ShaderKind}
 use Rattle.scene_state.specs.declared.uses.ShaderKind.TheVariants as kinds
 use Rattle.scene_state.specs.declared.uses.ShaderUse.{ShaderUse}

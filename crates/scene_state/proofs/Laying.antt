@@ -24,9 +24,9 @@ use Rattle.scene_state.specs.Shaders.{placed, some_placed, all_placed, worn_by}
 use Rattle.scene_state.specs.declared.attributes.Attributes.{Attributes}
 use Rattle.scene_state.specs.declared.shaders.Worn.{Worn}
 use Rattle.scene_state.specs.declared.shaders.Shaders.{Shaders}
-use Rattle.scene_state.specs.Faces.{FaceValues, use_up}
+use Rattle.scene_parts.specs.Faces.{FaceValues, use_up}
 use Rattle.scene_state.specs.State.{Stepped, prim_of, with_prim, with_patches, is_past, mesh_from, mesh_counted, mesh_laid, face_points, with_face, with_faces, faces_laid}
-use Rattle.scene_state.specs.declared.fault.StateCode.TheVariants.{G5, M3, M7}
+use Rattle.scene_parts.specs.declared.code.StateCode.TheVariants.{G5, M3, M7}
 use Rattle.scene_state.specs.Variables.{variables_in, are_counted, mesh_extent, mesh_seat, faces_extent, face_seat}
 use Rattle.scene_state.specs.declared.seat.Seat.{Seat}
 use Rattle.scene_state.specs.declared.state.State.{State}

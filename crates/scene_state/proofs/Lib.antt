@@ -1,6 +1,4 @@
-mod Words
 pub mod Runs
-pub mod BoundedLights
 pub mod Laying
 pub mod Keeping
 pub mod Places

@@ -3,10 +3,6 @@ use Rattle.std.proofs.Common.{◌≡◌, ◌∙◌, ap, sym, refl, arith, ℕ, z
 use Rattle.std.proofs.lemmas.List.{map-append}
 use Rattle.std.proofs.Math.Seq.{take-suc}
 
-pub map_same : (xs : List ℕ) → map (λ x. x) xs ≡ xs
-map_same [] = refl
-map_same (x ∷ xs) = ap (λ l. x ∷ l) (map_same xs)
-
 -- one item more, each the image of one
 pub one_mapped : {A B : Type 0} (f : A → B) (xs : List A) (k : ℕ) (d : A) (done more : List B) (y : B) → k < length xs → y ≡ f (slice_index_or xs k d) →
     more ≡ done ++ y ∷ [] → done ≡ map f (take k xs) → more ≡ map f (take (k + 1) xs)

@@ -21,7 +21,7 @@ use Rattle.mesh_basis.specs.declared.shape.Shape.{Shape}
 use Rattle.mesh_basis.specs.declared.counts.Counts.{Counts}
 use Rattle.mesh_basis.specs.Counts.{linear_count, cubic_count, count_along, both, counts_of}
 use Rattle.mesh_basis.specs.Polygons.{piece_count}
-use Rattle.scene_state.specs.Faces.{are_places}
+use Rattle.scene_parts.specs.Faces.{are_places}
 use Rattle.scene_state.specs.Scene.{IsVariable, corners}
 use Rattle.scene_state.specs.declared.seat.Extent.{Extent}
 use Rattle.scene_state.specs.declared.seat.Seat.{Seat}

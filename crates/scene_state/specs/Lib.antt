@@ -1,10 +1,5 @@
-pub mod Settings
 pub mod Scene
 pub mod FirstUse
-pub mod Choices
-pub mod Looks
-pub mod Bases
-pub mod Faces
 pub mod Variables
 pub mod Shaders
 pub mod State

@@ -8,7 +8,7 @@ use Rattle.patches.specs.declared.patch.Patch.{Patch}
 use Rattle.rib_reader.specs.declared.params.Kind.{Kind}
 use Rattle.rib_reader.specs.declared.params.Values.{Values}
 use Rattle.rib_reader.specs.Lists.{count, width, is_of_kind}
-use Rattle.scene_state.specs.Settings.{OptionValues}
+use Rattle.scene_parts.specs.Settings.{OptionValues}
 use Rattle.scene_state.specs.declared.uses.ShaderKind.{ShaderKind}
 use Rattle.scene_state.specs.declared.uses.ShaderKind.TheVariants.{Surface, Displacement, Light, Volume}
 use Rattle.scene_state.specs.declared.uses.ShaderUse.{ShaderUse}

@@ -4,8 +4,8 @@ use Rattle.std.specs.List.{slice_get, list_any}
 use Rattle.std.specs.Option.{option_or}
 use Rattle.std.specs.Ordering.{int_eq}
 use Rattle.transforms.specs.Map.{identity}
-use Rattle.scene_state.specs.Looks.{first_look}
-use Rattle.scene_state.specs.Bases.{first_bases}
+use Rattle.scene_parts.specs.Looks.{first_look}
+use Rattle.scene_parts.specs.Bases.{first_bases}
 use Rattle.scene_state.specs.declared.uses.ShaderKind.TheVariants.{Surface}
 use Rattle.scene_state.specs.declared.uses.ShaderUse.{ShaderUse}
 use Rattle.scene_state.specs.declared.attributes.Attributes.{Attributes}
@@ -70,13 +70,3 @@ worn_by s a =
 abbrev pub light_of : List Handle → ℤ → Option ℕ
 light_of [] number = None
 light_of (h ∷ hs) number = option_or (light_of hs number) (if int_eq h.number number then Some h.light else None)
-
-abbrev pub is_among : ℕ → List ℕ → Bool
-is_among k lights = list_any (λ n. n == k) lights
-
--- the light is last in force where it wasn't in force
-abbrev pub with_light : ℕ → List ℕ → List ℕ
-with_light k lights = if is_among k lights then lights else lights ++ k ∷ []
-
-abbrev pub without_light : ℕ → List ℕ → List ℕ
-without_light k lights = filter (λ n. not (n == k)) lights

@@ -23,14 +23,15 @@ use Rattle.rib_reader.specs.Rules.{word_at, whole_at}
 use Rattle.rib_reader.specs.Lists.{points_in}
 use Rattle.rib_reader.specs.Reading.{Read}
 use Rattle.scene_state.specs.Scene.{PrimValue, FrameValue, most_prims}
-use Rattle.scene_state.specs.Choices.{ChoiceValues, first_choices, chosen, view_of}
-use Rattle.scene_state.specs.Bases.{patch_shape, mesh_shape}
-use Rattle.scene_state.specs.Faces.{FaceValues, one_face, faces_in}
+use Rattle.scene_parts.specs.Choices.{ChoiceValues, first_choices, chosen, view_of}
+use Rattle.scene_parts.specs.Bases.{patch_shape, mesh_shape}
+use Rattle.scene_parts.specs.Faces.{FaceValues, one_face, faces_in}
 use Rattle.scene_state.specs.Variables.{variables_in, are_counted, variables_of, mesh_extent, mesh_seat, faces_extent, face_seat}
-use Rattle.scene_state.specs.Looks.{LookValues, is_single}
-use Rattle.scene_state.specs.Shaders.{first_attributes, first_shaders, with_request, placed, some_placed, all_placed, light_of, with_light, without_light}
-use Rattle.scene_state.specs.declared.fault.StateCode.{StateCode}
-use Rattle.scene_state.specs.declared.fault.StateCode.TheVariants.{N1, N2, N3, N5, G1, G2, G3, G4, G5, M1, M2, M3, M4, M7}
+use Rattle.scene_parts.specs.Looks.{LookValues, is_single}
+use Rattle.scene_state.specs.Shaders.{first_attributes, first_shaders, with_request, placed, some_placed, all_placed, light_of}
+use Rattle.light_lists.specs.Lights.{with_light, without_light}
+use Rattle.scene_parts.specs.declared.code.StateCode.{StateCode}
+use Rattle.scene_parts.specs.declared.code.StateCode.TheVariants.{N1, N2, N3, N5, G1, G2, G3, G4, G5, M1, M2, M3, M4, M7}
 use Rattle.scene_state.specs.declared.uses.ShaderKind.{ShaderKind}
 use Rattle.scene_state.specs.declared.uses.ShaderKind.TheVariants as shader_kinds
 use Rattle.scene_state.specs.declared.uses.ShaderUse.{ShaderUse}

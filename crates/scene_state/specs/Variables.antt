@@ -15,7 +15,7 @@ use Rattle.mesh_basis.specs.declared.basis.Basis.TheVariants.{Bezier}
 use Rattle.mesh_basis.specs.declared.shape.Shape.{Shape}
 use Rattle.mesh_basis.specs.declared.counts.Counts.{Counts}
 use Rattle.mesh_basis.specs.Polygons.{piece_corners}
-use Rattle.scene_state.specs.Faces.{FaceValues}
+use Rattle.scene_parts.specs.Faces.{FaceValues}
 use Rattle.scene_state.specs.Scene.{VariableValue}
 use Rattle.scene_state.specs.declared.seat.Extent.{Extent}
 use Rattle.scene_state.specs.declared.seat.Seat.{Seat}

@@ -2,10 +2,9 @@
 ghost use Rattle.std.specs.Prelude.{◌≡◌, IfOk};
 ghost use Rattle.scene_state.specs.Shaders.{first_attributes};
 
-use crate::bases::Bases;
-use crate::lights_in_force::LightsInForce;
-use crate::look::Look;
 use fixed_math::NoMemory;
+use light_lists::LightsInForce;
+use scene_parts::{Bases, Look};
 use std::alloc::Global;
 
 /// The attributes in force. A shader is named by its place among all shader requests so far.

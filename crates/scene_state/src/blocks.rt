@@ -5,11 +5,12 @@ ghost use Rattle.scene_state.specs.Answers.{Steps};
 ghost use Rattle.scene_state.specs.declared.state.Block.TheVariants.{InAttributes, InTransform};
 
 use crate::attributes::Attributes;
-use crate::fault::{StateCode, Stop, code_of};
+use crate::fault::{Stop, code_of};
 use crate::frame::Frame;
-use crate::lights_in_force::LightsInForce;
 use crate::state::{Block, State, World};
 use fixed_math::{List, NoMemory};
+use light_lists::LightsInForce;
+use scene_parts::StateCode;
 use std::alloc::Global;
 use transforms::{Affine, Camera};
 

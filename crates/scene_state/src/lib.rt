@@ -2,17 +2,10 @@
 #![tactic(auto)]
 
 mod attributes;
-mod bases;
 mod blocks;
-mod choices;
-mod faces;
 mod fault;
-mod filter;
 mod frame;
 mod lights;
-mod lights_in_force;
-mod look;
-mod options;
 mod patching;
 mod placing;
 mod points;
@@ -20,7 +13,6 @@ mod prims;
 mod reading;
 mod seat;
 mod shaders;
-mod shared_lights;
 mod shared_name;
 mod state;
 mod steps;
@@ -28,9 +20,8 @@ mod turning;
 mod uses;
 mod variables;
 
-pub use fault::{StateCode, StateFault};
-pub use filter::Filter;
+pub use fault::StateFault;
 pub use frame::{Frame, Primitive as Prim, Scene, Variable};
-pub use options::Options;
 pub use reading::scene;
+pub use scene_parts::{Filter, Options, StateCode};
 pub use uses::{ShaderKind, ShaderUse};

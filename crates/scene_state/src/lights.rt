@@ -11,12 +11,13 @@ ghost use Rattle.scene_state.specs.Shaders.{with_request};
 ghost use Rattle.scene_state.specs.Steps.{with_surface, with_displacement, with_atmosphere};
 ghost use Rattle.scene_state.specs.Answers.{Steps, GivesMap};
 
-use crate::fault::{StateCode, Stop, code_of};
+use crate::fault::{Stop, code_of};
 use crate::shaders::{Handle, light_of};
 use crate::state::State;
 use crate::uses::{ShaderKind, ShaderUse, params_copy};
 use fixed_math::NoMemory;
 use rib_reader::Request;
+use scene_parts::StateCode;
 use std::alloc::Global;
 use transforms::{Affine, FormFault};
 

@@ -10,9 +10,8 @@ ghost use Rattle.scene_state.specs.State.{prim_of, with_prim, with_patches, mesh
 ghost use Rattle.scene_state.specs.Scene.{IsPlace, most_prims};
 ghost use Rattle.scene_state.specs.Answers.{Steps};
 
-use crate::fault::{StateCode, Stop};
+use crate::fault::Stop;
 use crate::frame::{Primitive, Variable};
-use crate::look::Look;
 use crate::seat::{Face, Seat, face_seat, mesh_seat};
 use crate::shaders::Worn;
 use crate::state::State;
@@ -21,6 +20,7 @@ use fixed_math::{List, NoMemory, Vec3};
 use mesh_basis::{Counts, Shape, flat_normal, patch_at, piece_of};
 use patches::Patch;
 use rib_reader::{Param, Request};
+use scene_parts::{Look, StateCode};
 use std::alloc::Global;
 use transforms::Affine;
 

@@ -5,14 +5,13 @@ ghost use Rattle.rib_reader.specs.Reading.{plain};
 ghost use Rattle.rib_reader.specs.declared.req.Req.TheVariants as reqs;
 ghost use Rattle.mesh_basis.specs.Ranges.{are_in_range};
 ghost use Rattle.mesh_basis.specs.Polygons.{piece_count};
-ghost use Rattle.scene_state.specs.Faces.{FaceValues, use_up, are_places};
+ghost use Rattle.scene_parts.specs.Faces.{FaceValues, use_up, are_places};
 ghost use Rattle.scene_state.specs.Variables.{variables_in, are_counted, faces_extent, face_seat, IsOfKind, IsThere};
 ghost use Rattle.scene_state.specs.State.{mesh_laid, face_points, with_face, with_faces, faces_laid, patch_set, mesh_set, polygon_set, polygons_set};
 ghost use Rattle.scene_state.specs.Scene.{most_prims};
 ghost use Rattle.scene_state.specs.Answers.{Steps};
 
-use crate::faces::{Faces, faces_in, one_face, piece_total};
-use crate::fault::{StateCode, Stop};
+use crate::fault::Stop;
 use crate::points::face_points;
 use crate::seat::{Face, faces_extent, mesh_extent};
 use crate::state::State;
@@ -20,6 +19,7 @@ use crate::variables::{are_counted, variables_in};
 use fixed_math::{NoMemory, Vec3};
 use mesh_basis::{Shape, are_in_range, counts_of};
 use rib_reader::{Param, Request};
+use scene_parts::{Faces, StateCode, faces_in, one_face, piece_total};
 use std::alloc::Global;
 use transforms::Affine;
 

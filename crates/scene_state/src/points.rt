@@ -7,10 +7,11 @@ ghost use Rattle.mesh_basis.specs.Polygons.{point};
 ghost use Rattle.scene_state.specs.State.{saturated, camera_point, points_from, in_space, located, face_points};
 ghost use Rattle.scene_state.specs.Answers.{GivesPoints};
 
-use crate::fault::{StateCode, Stop, code_of};
+use crate::fault::{Stop, code_of};
 use crate::state::State;
 use fixed_math::{List, NoMemory, Num, Vec3};
 use rib_reader::Request;
+use scene_parts::StateCode;
 use std::alloc::Global;
 use transforms::{Affine, FormFault};
 

@@ -5,11 +5,12 @@ ghost use Rattle.scene_state.specs.Steps.{state_from, last_line};
 ghost use Rattle.scene_state.specs.FirstUse.{InFirstUse};
 ghost use Rattle.scene_state.specs.Answers.{GivesState, GivesScene};
 
-use crate::fault::{StateCode, StateFault};
+use crate::fault::StateFault;
 use crate::frame::Scene;
 use crate::state::State;
 use fixed_math::List;
 use rib_reader::Request;
+use scene_parts::StateCode;
 use std::alloc::Global;
 use std::mem;
 

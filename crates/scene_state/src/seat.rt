@@ -4,8 +4,8 @@ ghost use Rattle.mesh_basis.specs.Polygons.{piece_count};
 ghost use Rattle.scene_state.specs.Scene.{IsPlace, most_prims};
 ghost use Rattle.scene_state.specs.Variables.{corners_along, corner_in, corners_of, mesh_extent, mesh_place, mesh_corners, mesh_seat, faces_extent, face_seat, HasSides};
 
-use crate::faces::Faces;
 use mesh_basis::{Counts, Shape, piece_corners};
+use scene_parts::Faces;
 
 /// How many faces, points and corners of faces a primitive has. The faces of a mesh are its patches, and both its points and its
 /// corners are the corners of its patches.

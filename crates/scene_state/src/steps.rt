@@ -6,10 +6,11 @@ ghost use Rattle.scene_state.specs.State.{option_set, display_set};
 ghost use Rattle.scene_state.specs.Steps.{look_set, bases_set, after};
 ghost use Rattle.scene_state.specs.Answers.{Steps};
 
-use crate::fault::{StateCode, Stop};
+use crate::fault::Stop;
 use crate::shared_name::SharedName;
 use crate::state::State;
 use rib_reader::{Req, Request};
+use scene_parts::StateCode;
 use std::alloc::Global;
 
 impl State {

@@ -5,7 +5,7 @@ use Rattle.rib_reader.specs.Reading.{plain}
 use Rattle.scene_state.specs.Steps.{Placed, after, and_then, state_from}
 use Rattle.scene_state.specs.Answers.{Steps, GivesState, stopped_at}
 use Rattle.scene_state.specs.declared.state.State.{State}
-use Rattle.scene_state.specs.declared.fault.StateCode.{StateCode}
+use Rattle.scene_parts.specs.declared.code.StateCode.{StateCode}
 use Rattle.scene_state.specs.declared.fault.Stop.{Stop}
 use Rattle.scene_state.specs.declared.fault.Stop.TheVariants.{Fault, NoMemory}
 use Rattle.scene_state.proofs.state.State.go_through.Goals as goal

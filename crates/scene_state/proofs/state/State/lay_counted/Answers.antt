@@ -5,7 +5,7 @@ use Rattle.mesh_basis.specs.Ranges.{are_in_range}
 use Rattle.mesh_basis.specs.Polygons.{piece_count}
 use Rattle.scene_state.specs.State.{is_past, with_faces}
 use Rattle.scene_state.specs.Variables.{variables_in, are_counted, faces_extent}
-use Rattle.scene_state.specs.Faces.{FaceValues, are_places}
+use Rattle.scene_parts.specs.Faces.{FaceValues, are_places}
 use Rattle.scene_state.proofs.Laying.{pieces_few, faces_are}
 use Rattle.scene_state.proofs.state.State.lay_counted.Goals as goal
 

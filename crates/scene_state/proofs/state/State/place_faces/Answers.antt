@@ -1,7 +1,7 @@
 use Rattle.std.proofs.Common.{◌≡◌, ◌∙◌, ap, sym, subst, arith, ◌+◌, ◌-◌, ◌<◌, ◌≤◌, true, length, take, drop, slice_index_or}
 use Rattle.rib_reader.specs.Reading.{plain}
 use Rattle.mesh_basis.specs.Polygons.{piece_count}
-use Rattle.scene_state.specs.Faces.{are_places}
+use Rattle.scene_parts.specs.Faces.{are_places}
 use Rattle.scene_state.specs.Variables.{variables_in, faces_extent, face_seat}
 use Rattle.scene_state.specs.State.{face_points, with_face, with_faces}
 use Rattle.scene_state.proofs.Laying.{Left, face_fits, face_less, face_next, face_length, faces_end}

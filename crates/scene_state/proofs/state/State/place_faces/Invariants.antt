@@ -1,6 +1,6 @@
 use Rattle.std.proofs.Common.{◌≡◌, ◌+◌, true, length, drop}
 use Rattle.rib_reader.specs.Reading.{plain}
-use Rattle.scene_state.specs.Faces.{are_places}
+use Rattle.scene_parts.specs.Faces.{are_places}
 use Rattle.scene_state.specs.State.{with_faces}
 use Rattle.scene_state.proofs.Laying.{Left}
 use Rattle.scene_state.proofs.state.State.place_faces.Given as goal

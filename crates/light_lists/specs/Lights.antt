@@ -1,0 +1,13 @@
+-- Lists of lights, and what putting a light into force and taking it out makes of them.
+use Rattle.std.specs.Prelude.{ℕ, ◌==◌, Bool, not, List, [], ◌∷◌, ◌++◌, filter, if◌then◌else◌}
+use Rattle.std.specs.List.{list_any}
+
+abbrev pub is_among : ℕ → List ℕ → Bool
+is_among k lights = list_any (λ n. n == k) lights
+
+-- the light is last in force where it wasn't in force
+abbrev pub with_light : ℕ → List ℕ → List ℕ
+with_light k lights = if is_among k lights then lights else lights ++ k ∷ []
+
+abbrev pub without_light : ℕ → List ℕ → List ℕ
+without_light k lights = filter (λ n. not (n == k)) lights

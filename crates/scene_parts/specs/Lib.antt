@@ -1,0 +1,5 @@
+pub mod Settings
+pub mod Choices
+pub mod Looks
+pub mod Bases
+pub mod Faces

@@ -1,0 +1,32 @@
+-- The options of a picture.
+use Rattle.std.specs.Prelude.{ℕ, ◌≤◌, ℤ, pos, ◌<ℤ◌}
+use Rattle.scene_parts.specs.declared.filter.Filter.{Filter}
+
+-- the samples across and down a pixel; the pixel filter and its widths in 1/256 pixel; exposure; the greatest value
+-- of a channel, and the limits into which it is put
+pub record OptionValues : Type 0 where
+  pub xs : ℕ
+  pub ys : ℕ
+  pub filter : Filter
+  pub wx : ℕ
+  pub wy : ℕ
+  pub gain : ℤ
+  pub gamma : ℤ
+  pub one : ℕ
+  pub min : ℕ
+  pub max : ℕ
+
+pub record AreOptions (o : OptionValues) : Type 0 where
+  pub some_across : 1 ≤ o.xs
+  pub most_across : o.xs ≤ 16
+  pub some_down : 1 ≤ o.ys
+  pub most_down : o.ys ≤ 16
+  pub some_width : 1 ≤ o.wx
+  pub most_width : o.wx ≤ 4096
+  pub some_height : 1 ≤ o.wy
+  pub most_height : o.wy ≤ 4096
+  pub gamma_above : pos 0 <ℤ o.gamma
+  pub one_above : 1 ≤ o.one
+  pub one_byte : o.one ≤ 255
+  pub order : o.min ≤ o.max
+  pub within : o.max ≤ o.one
