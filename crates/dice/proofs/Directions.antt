@@ -1,13 +1,14 @@
 -- Laws of cross products and their units, and of a shader's parameters.
-use Rattle.std.proofs.Common.{◌≡◌, ℕ, zero, suc, ◌+◌, ◌*◌, ◌/◌, ◌^◌, ◌<◌, ◌≤◌, ℤ, pos, unsigned_abs, to_z, of_z, arith, List, [], ◌∷◌, slice_index_or}
-use Rattle.std.specs.Int.{w128}
+use Rattle.std.proofs.Common.{◌≡◌, ◌∙◌, refl, ℕ, zero, suc, ◌+◌, ◌*◌, ◌/◌, ◌^◌, ◌<◌, ◌≤◌, ℤ, pos, ◌*ℤ◌, ◌-ℤ◌, unsigned_abs, to_z, of_z, arith, List, [], ◌∷◌, slice_index_or}
+use Rattle.std.specs.Int.{w64, w128}
+use Rattle.patches.specs.Slopes.{AreBelow}
 use Rattle.fixed_math.specs.declared.vec3.Vec3.{Vec3}
 use Rattle.fixed_math.specs.Unit.{unit_part}
 use Rattle.std.proofs.lemmas.Int.{ints, to_z-of_z, fits_signed_from_abs}
 use Rattle.std.proofs.Math.Nat.{div-le_of_le-mul}
 use Rattle.std.proofs.lemmas.Nat.{pow_pos}
 use Rattle.fixed_math.specs.Fixed.{sat}
-use Rattle.dice.specs.Normals.{item, direction}
+use Rattle.dice.specs.Normals.{item, minor, cross, direction}
 
 three_below : (x y z : ℤ) → unsigned_abs x ≤ 2 ^ 81 → unsigned_abs y ≤ 2 ^ 81 → unsigned_abs z ≤ 2 ^ 81 →
     (i : ℕ) → i < 3 → unsigned_abs (slice_index_or (x ∷ y ∷ z ∷ []) i (pos 0)) < 2 ^ 100
@@ -23,6 +24,27 @@ same z h = to_z-of_z w128 z (fits_signed_from_abs w128 z (omega arith))
 pub cross_below : (x y z : ℤ) → unsigned_abs x ≤ 2 ^ 81 → unsigned_abs y ≤ 2 ^ 81 → unsigned_abs z ≤ 2 ^ 81 →
     (i : ℕ) → i < 3 → unsigned_abs (slice_index_or (to_z w128 (of_z w128 x) ∷ to_z w128 (of_z w128 y) ∷ to_z w128 (of_z w128 z) ∷ []) i (pos 0)) < 2 ^ 100
 cross_below x y z a b c = rw (same x a, same y b, same z c) (three_below x y z a b c)
+
+-- a number of a list of derivatives, as the code reads it
+abbrev read : List ℤ → ℕ → ℤ
+read zs k = to_z w64 (of_z w64 (item zs k))
+
+same_factor : (zs : List ℤ) (k : ℕ) → AreBelow (2 ^ 40) zs → read zs k ≡ item zs k
+same_factor zs k h = let b : unsigned_abs (item zs k) ≤ 2 ^ 40 = h k in to_z-of_z w64 (item zs k) (fits_signed_from_abs w64 (item zs k) (omega arith))
+
+pub factor_below : (zs : List ℤ) (k : ℕ) → AreBelow (2 ^ 40) zs → unsigned_abs (to_z w64 (of_z w64 (item zs k))) ≤ 2 ^ 40
+factor_below zs k h = rw (same_factor zs k h) (h k)
+
+minor_read : (a b : List ℤ) (i j : ℕ) → AreBelow (2 ^ 40) a → AreBelow (2 ^ 40) b → read a i *ℤ read b j -ℤ read a j *ℤ read b i ≡ minor a b i j
+minor_read a b i j h k = rw (same_factor a i h, same_factor b j k, same_factor a j h, same_factor b i k) refl
+
+-- the cross product, of its three numbers
+pub cross_read : (a b : List ℤ) → AreBelow (2 ^ 40) a → AreBelow (2 ^ 40) b → (x y z : ℤ) → unsigned_abs x ≤ 2 ^ 81 → unsigned_abs y ≤ 2 ^ 81 → unsigned_abs z ≤ 2 ^ 81 →
+    x ≡ read a 1 *ℤ read b 2 -ℤ read a 2 *ℤ read b 1 → y ≡ read a 2 *ℤ read b 0 -ℤ read a 0 *ℤ read b 2 → z ≡ read a 0 *ℤ read b 1 -ℤ read a 1 *ℤ read b 0 →
+    to_z w128 (of_z w128 x) ∷ to_z w128 (of_z w128 y) ∷ to_z w128 (of_z w128 z) ∷ [] ≡ cross a b
+unfolding cross
+cross_read a b h k x y z l m n e f g =
+    rw (same x l, same y m, same z n, e ∙ minor_read a b 1 2 h k, f ∙ minor_read a b 2 0 h k, g ∙ minor_read a b 0 1 h k) refl
 
 same_point : (r s : Vec3) → r.x ≡ s.x → r.y ≡ s.y → r.z ≡ s.z → r ≡ s
 same_point r s e f g = let h : vec3 r.x r.y r.z ≡ vec3 s.x s.y s.z = cc in h

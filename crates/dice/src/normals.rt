@@ -24,7 +24,6 @@ fn minor(a: i64, b: i64, c: i64, d: i64) -> i128
 }
 
 /// The exact cross product.
-#[tactic(auto, unfolding(crate::specs::Normals::cross))]
 fn cross(a: [i64; 3], b: [i64; 3]) -> [i128; 3]
     requires small_a { AreBelow (2 ^ 40) a }
     requires small_b { AreBelow (2 ^ 40) b }

@@ -2,6 +2,7 @@ pub mod DigitLemmas
 pub mod Decimals
 pub mod NumberLemmas
 pub mod Texts
+pub mod Unescaping
 pub mod Steps
 pub mod Joins
 pub mod Spellings
