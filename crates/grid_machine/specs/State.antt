@@ -1,10 +1,7 @@
 -- The machine's state as that of the code, and when two states are the same on a grid.
 use Rattle.std.specs.Prelude.{◌≡◌, ℕ, ◌+◌, ◌*◌, ◌<◌, ◌==◌, suc, Bool, true, false, List, [], ◌∷◌, length, get_or, cond}
-use Rattle.std.specs.List.{list_all, list_any}
-use Rattle.std.specs.Str.{bytes_eq}
+use Rattle.std.specs.List.{list_all}
 use Rattle.std.specs.Borrow.{Bor}
-use Rattle.sl_ast.specs.declared.typed.Value.{Value}
-use Rattle.sl_ast.specs.declared.typed.Value.TheVariants as values
 use Rattle.sl_ast.specs.declared.kinds.LightStmt.{LightStmt}
 use Rattle.sl_ast.specs.declared.kinds.LightStmt.TheVariants.{Illuminance, Illuminate, Solar}
 use Rattle.sl_ast.specs.declared.kinds.Predefined.TheVariants as names

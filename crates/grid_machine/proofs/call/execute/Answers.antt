@@ -1,4 +1,4 @@
-use Rattle.std.proofs.Common.{◌≡◌, ◌*◌, refl, map, sym, ap, ◌∙◌}
+use Rattle.std.proofs.Common.{◌*◌, refl, map, sym, ap, ◌∙◌}
 use Rattle.grid_code.specs.Shapes.{register_shape}
 use Rattle.grid_code.specs.Uses.{has, names_at}
 use Rattle.grid_code.specs.View.{block_of}
