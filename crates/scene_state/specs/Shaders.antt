@@ -1,6 +1,6 @@
 -- Shader requests, and lights by their numbers (RenderMan Interface 3.2, sections 4.2.3 to 4.2.6).
-use Rattle.std.specs.Prelude.{ℕ, ◌==◌, ℤ, Bool, not, List, [], ◌∷◌, ◌++◌, length, filter, Option, Some, None, if◌then◌else◌, codes, set}
-use Rattle.std.specs.List.{slice_get, list_any}
+use Rattle.std.specs.Prelude.{ℕ, ℤ, List, [], ◌∷◌, ◌++◌, length, Option, Some, None, if◌then◌else◌, codes, set}
+use Rattle.std.specs.List.{slice_get}
 use Rattle.std.specs.Option.{option_or}
 use Rattle.std.specs.Ordering.{int_eq}
 use Rattle.transforms.specs.Map.{identity}

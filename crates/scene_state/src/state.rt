@@ -1,5 +1,5 @@
 // The state between two requests.
-ghost use Rattle.std.specs.Prelude.{◌≡◌, IfOk};
+ghost use Rattle.std.specs.Prelude.{◌≡◌, IfOk, codes};
 ghost use Rattle.scene_state.specs.State.{first_state};
 
 use crate::attributes::Attributes;
@@ -58,14 +58,21 @@ pub(crate) struct State {
     pub(crate) frames: List<Frame>,
 }
 
+// The picture's name before the first request.
+fn first_name(alloc: Global) -> Result<SharedName, NoMemory>
+    ensures { IfOk result (λ n. n ≡ codes "out.ppm") }
+{
+    SharedName::new(alloc, Text::from_bytes(alloc, b"out.ppm")?)
+}
+
 impl State {
     /// The state before the first request.
     pub(crate) fn first(alloc: Global) -> Result<State, NoMemory>
         ensures { IfOk result (λ s. s ≡ first_state) }
     {
-        let shaders = Shaders::first(alloc)?;
+        let name = first_name(alloc)?;
         let attributes = Attributes::first(alloc)?;
-        let name = SharedName::new(alloc, Text::from_bytes(alloc, b"out.ppm")?)?;
+        let shaders = Shaders::first(alloc)?;
         Ok(State {
             choices: Choices::first(),
             name,
