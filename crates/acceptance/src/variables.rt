@@ -13,9 +13,9 @@ use crate::code::Code;
 use crate::read::ReadShader;
 use crate::refusal::{Refusal, in_scene};
 use crate::shaders::UsedShaders;
-use shader_binding::sets_predefined;
 use fixed_math::Names;
 use scene_state::{Frame, Prim, Scene, Variable};
+use shader_binding::sets_predefined;
 use sl_ast::{ParamDecl, Tree};
 use std::alloc::Global;
 

@@ -5,7 +5,6 @@ ghost use Rattle.outside.specs.Asked.{AsksFront};
 ghost use Rattle.shader_binding.specs.Sets.{Fits};
 ghost use Rattle.acceptance.specs.Accepting.{scene_of_text, accepted, asked_for_scene};
 ghost use Rattle.acceptance.specs.Answers.{Gives};
-ghost use Rattle.acceptance.specs.Reading.{set_in};
 ghost use Rattle.acceptance.specs.PrimBindings.{FitPrims};
 ghost use Rattle.acceptance.specs.Reading.{tree_read};
 ghost use Rattle.acceptance.specs.declared.refusal.Refusal.TheVariants.{ReadFault};
@@ -13,12 +12,13 @@ ghost use Rattle.displace_shade.specs.Shop.{set_value};
 ghost use Rattle.render.specs.Answers.{accepted_in};
 ghost use Rattle.render.specs.Coded.{tree_compiled};
 
-use acceptance::{AcceptedScene, ReadShader, Refusal};
+use acceptance::{ReadShader, Refusal, UsedShaders};
 use displace_shade::ShaderSet;
 use fixed_math::{List, NoMemory};
 use mask_codegen::{CodeFault, Compiled, compile};
 use outside::Library;
 use scene_state::Scene;
+use sl_ast::Value;
 use std::alloc::Global;
 
 /// A scene that is right, with the shaders of its requests and what their parameters are bound to.
@@ -50,19 +50,18 @@ fn all_compiled(alloc: Global, shaders: Vec<ReadShader>) -> Result<Vec<Compiled>
     Ok(codes)
 }
 
-// An accepted scene with the code of its shaders.
-fn coded(alloc: Global, read: AcceptedScene) -> Result<Accepted, NoMemory>
-    ensures scene { IfOk result (λ a. a.scene ≡ read.scene) }
-    ensures set { IfOk result (λ a. set_value a.set ≡ set_in read) }
+// The set of shaders with what their uses' parameters are bound to.
+fn set_of(
+    alloc: Global,
+    shaders: UsedShaders,
+    bound: List<List<Value>>,
+) -> Result<ShaderSet, NoMemory>
+    ensures { IfOk result (λ s. set_value s ≡ record { trees = map tree_read shaders.read; of_use = shaders.of_use; bound = bound }) }
 {
-    let compiled = all_compiled(alloc, read.shaders.read.0)?;
-    Ok(Accepted {
-        scene: read.scene,
-        set: ShaderSet {
-            compiled: List(compiled),
-            of_use: read.shaders.of_use,
-            bound: read.bound,
-        },
+    Ok(ShaderSet {
+        compiled: List(all_compiled(alloc, shaders.read.0)?),
+        of_use: shaders.of_use,
+        bound,
     })
 }
 
@@ -82,6 +81,9 @@ pub fn accept<L: Library>(alloc: Global, text: &[u8], library: &mut L) -> Result
     ensures read { IsErrOf result ReadFault → Rose (L.faults library.old) (L.faults library.new) }
 {
     let read = acceptance::accept(alloc, text, library)?;
-    let accepted = coded(alloc, read)?;
-    Ok(accepted)
+    let set = set_of(alloc, read.shaders, read.bound)?;
+    Ok(Accepted {
+        scene: read.scene,
+        set,
+    })
 }

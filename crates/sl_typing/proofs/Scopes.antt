@@ -1,5 +1,5 @@
 -- Scopes that grow.
-use Rattle.std.proofs.Common.{◌≡◌, ℕ, List, [], ◌∷◌, ◌++◌, refl, sym, ap, ◌∙◌, ap₂, subst}
+use Rattle.std.proofs.Common.{◌≡◌, List, [], ◌∷◌, ◌++◌, refl, sym, ap, ◌∙◌, ap₂, subst}
 use Rattle.sl_expressions.specs.declared.places.Local.{Local}
 use Rattle.sl_typing.specs.Views.{Extends}
 

@@ -1,10 +1,9 @@
-use Rattle.std.proofs.Common.{◌+◌, [], ◌∷◌, false, Ok, drop, length, map, option_map, refl, arith, ap, ap₂, sym, subst, ◌∙◌}
+use Rattle.std.proofs.Common.{◌+◌, false, drop, length, map, option_map, refl, arith, ap, sym, subst, ◌∙◌}
 use Rattle.sl_ast.specs.Syntax as U
-use Rattle.sl_ast.specs.SyntaxView.{expr_of, stmt_of, declared_of, assignment_of, cone_of}
+use Rattle.sl_ast.specs.SyntaxView.{expr_of, stmt_of, assignment_of, cone_of}
 use Rattle.sl_ast.specs.declared.kinds.LightStmt.TheVariants.{Solar}
 use Rattle.sl_expressions.specs.Exprs.{typed_expr, typed_args}
 use Rattle.sl_expressions.specs.Found.{◌>>=◌}
-use Rattle.sl_expressions.specs.Typed as T
 use Rattle.sl_expressions.specs.TypedView.{tstmt_of}
 use Rattle.sl_expressions.specs.Views.{Gives, around_of, local_of}
 use Rattle.sl_typing.specs.Stmts as spec
@@ -13,8 +12,8 @@ use Rattle.sl_typing.specs.Measures.{size_stmt, size_rows}
 use Rattle.sl_typing.specs.Views.{boxed_of}
 use Rattle.sl_typing.proofs.Behind.{rows_step}
 use Rattle.sl_typing.proofs.Nodes.{block_is, small_stmt}
-use Rattle.sl_typing.proofs.Scopes.{extends_same, extends_trans, left_same}
-use Rattle.sl_typing.proofs.StmtRows.{added, given_one, in_branch, steps_in_two}
+use Rattle.sl_typing.proofs.Scopes.{extends_trans, left_same}
+use Rattle.sl_typing.proofs.StmtRows.{added, in_branch, steps_in_two}
 use Rattle.sl_typing.proofs.stmts.+stmts.Goals as goal
 
 pub rows-stmt-requires : goal.rows-stmt-requires
