@@ -56,7 +56,6 @@ impl SampleGrid {
     }
 
     /// Sample `n`.
-    #[tactic(auto, unfolding(crate::specs::Samples::sample_in))]
     pub(crate) fn sample(&self, n: usize) -> Sample
         requires valid { IsSampleGrid self.now }
         requires inside { n < sample_count self.now }

@@ -1,12 +1,24 @@
-use Rattle.std.proofs.Common.{◌≡◌, ◌∙◌, ap, to_z, of_z, arith, refl}
+use Rattle.std.proofs.Common.{◌≡◌, ◌≤◌, ◌<◌, ◌+◌, ◌^◌, ◌∙◌, ap, unsigned_abs, to_z, of_z, arith, refl}
 use Rattle.std.specs.Int.{w128}
-use Rattle.std.specs.Prelude.{◌*ℤ◌, ◌+ℤ◌}
+use Rattle.std.specs.Prelude.{ℤ, ◌*ℤ◌, ◌+ℤ◌}
 use Rattle.std.proofs.lemmas.Int.{ints}
+use lib.Signed.{mag}
 use Rattle.fixed_math.specs.Fixed.{sat}
 use Rattle.fixed_math.proofs.Fits.{read_back}
 use Rattle.hider.specs.Coverage.{mean_at}
 use Rattle.hider.proofs.Between.{areas_small, read_area, mean_at-raw}
 use Rattle.hider.proofs.means.mean_at.Goals as goal
+
+-- sums of shares, read back
+once_twice : (z : ℤ) → unsigned_abs z ≤ 2 ^ 90 → unsigned_abs z ≤ 2 ^ 91
+once_twice z h = omega arith
+
+sum_fits : (a b : ℤ) → mag a < 2 ^ 127 → mag b < 2 ^ 127 → unsigned_abs a ≤ 2 ^ 91 → unsigned_abs b ≤ 2 ^ 91 → unsigned_abs (to_z w128 (of_z w128 a)) + unsigned_abs (to_z w128 (of_z w128 b)) < 2 ^ 127
+sum_fits a b fa fb ha hb = rw (read_back a fa, read_back b fb) (omega arith)
+
+sum_bound : (a b s : ℤ) → mag a < 2 ^ 127 → mag b < 2 ^ 127 → unsigned_abs a ≤ 2 ^ 90 → unsigned_abs b ≤ 2 ^ 90 →
+    unsigned_abs s ≤ unsigned_abs (to_z w128 (of_z w128 a)) + unsigned_abs (to_z w128 (of_z w128 b)) → unsigned_abs s ≤ 2 ^ 91
+sum_bound a b s fa fb ha hb h = let k = rw (read_back a fa, read_back b fb) at h in omega (arith, k)
 
 pub returns : goal.returns
 returns c =
@@ -28,3 +40,22 @@ returns c =
     let mean : c.floor_div.result ≡ mean_at w c.args.a c.args.b c.args.c = c.floor_div.ensures ∙ rw (p2, e, e2, whole) refl in
     c.sat.ensures ∙ ap sat (q ∙ mean)
     ∙ mean_at-raw w c.args.a c.args.b c.args.c c.requires.parts c.share-at_a.ensures.number c.share-at_b.ensures.number c.share-at_c.ensures.number
+
+pub share-at_a-requires : goal.share-at_a-requires
+share-at_a-requires c = let n = areas_small c.args.areas.now c.requires.parts c.requires.small in rw (read_area c.args.areas.now.a n.a) n.a
+
+pub share-at_b-requires : goal.share-at_b-requires
+share-at_b-requires c = let n = areas_small c.args.areas.now c.requires.parts c.requires.small in rw (read_area c.args.areas.now.b n.b) n.b
+
+pub share-at_c-requires : goal.share-at_c-requires
+share-at_c-requires c = let n = areas_small c.args.areas.now c.requires.parts c.requires.small in rw (read_area c.args.areas.now.c n.c) n.c
+
+pub plus-requires : goal.plus-requires
+plus-requires c =
+    sum_fits c.share-at_a.result c.share-at_b.result c.share-at_a.type_inv c.share-at_b.type_inv (once_twice c.share-at_a.result c.share-at_a.ensures.bound) (once_twice c.share-at_b.result c.share-at_b.ensures.bound)
+
+pub plus-requires-2 : goal.plus-requires-2
+plus-requires-2 c =
+    sum_fits c.plus.result c.share-at_c.result c.plus.type_inv c.share-at_c.type_inv
+    (sum_bound c.share-at_a.result c.share-at_b.result c.plus.result c.share-at_a.type_inv c.share-at_b.type_inv c.share-at_a.ensures.bound c.share-at_b.ensures.bound c.plus.ensures.bound)
+    (once_twice c.share-at_c.result c.share-at_c.ensures.bound)
