@@ -187,48 +187,56 @@ fn set_node(
     }
 }
 
-fn if_node(test: TreeExpr, then: Box<TreeStmt>, place: Place) -> TreeStmt
-    ensures { tree_stmt result ≡ A.test (tree_expr test) (tree_stmt then.value) place }
+fn if_node(test: Box<TreeExpr>, then: Box<TreeStmt>, place: Place) -> TreeStmt
+    ensures { tree_stmt result ≡ A.test (tree_expr test.value) (tree_stmt then.value) place }
 {
-    TreeStmt::If { test, then, place }
+    TreeStmt::If {
+        test: Box::into_inner(test),
+        then,
+        place,
+    }
 }
 
 fn if_else_node(
-    test: TreeExpr,
+    test: Box<TreeExpr>,
     then: Box<TreeStmt>,
     otherwise: Box<TreeStmt>,
     place: Place,
 ) -> TreeStmt
-    ensures { tree_stmt result ≡ A.test_else (tree_expr test) (tree_stmt then.value) (tree_stmt otherwise.value) place }
+    ensures { tree_stmt result ≡ A.test_else (tree_expr test.value) (tree_stmt then.value) (tree_stmt otherwise.value) place }
 {
     TreeStmt::IfElse {
-        test,
+        test: Box::into_inner(test),
         then,
         otherwise,
         place,
     }
 }
 
-fn while_node(test: TreeExpr, body: Box<TreeStmt>, place: Place) -> TreeStmt
-    ensures { tree_stmt result ≡ A.repeat (tree_expr test) (tree_stmt body.value) place }
+fn while_node(test: Box<TreeExpr>, body: Box<TreeStmt>, place: Place) -> TreeStmt
+    ensures { tree_stmt result ≡ A.repeat (tree_expr test.value) (tree_stmt body.value) place }
 {
-    TreeStmt::While { test, body, place }
+    TreeStmt::While {
+        test: Box::into_inner(test),
+        body,
+        place,
+    }
 }
 
 // A `for` from its parts.
 #[tactic(auto, using(sl_ast::proofs::TypedRows::held_stmts))]
 fn for_node(
     first: Vec<TreeStmt>,
-    test: TreeExpr,
+    test: Box<TreeExpr>,
     step: Vec<TreeStmt>,
     body: Box<TreeStmt>,
     place: Place,
 ) -> TreeStmt
-    ensures { tree_stmt result ≡ A.steps (A.stmts (map tree_stmt first.items)) (tree_expr test) (A.stmts (map tree_stmt step.items)) (tree_stmt body.value) place }
+    ensures { tree_stmt result ≡ A.steps (A.stmts (map tree_stmt first.items)) (tree_expr test.value) (A.stmts (map tree_stmt step.items)) (tree_stmt body.value) place }
 {
     TreeStmt::For {
         first: List(first),
-        test,
+        test: Box::into_inner(test),
         step: List(step),
         body,
         place,
@@ -498,7 +506,7 @@ fn stmt(
         }
         TypedStmt::If { test, then, line } => {
             let at = place(*line, next);
-            let test = expr(test, alloc, by_default, known, next)?;
+            let test = condition(test, alloc, by_default, known, next)?;
             let then = branch(then, alloc, by_default, known, next)?;
             Ok(if_node(test, then, at))
         }
@@ -509,14 +517,14 @@ fn stmt(
             line,
         } => {
             let at = place(*line, next);
-            let test = expr(test, alloc, by_default, known, next)?;
+            let test = condition(test, alloc, by_default, known, next)?;
             let then = branch(then, alloc, by_default, known, next)?;
             let otherwise = branch(otherwise, alloc, by_default, known, next)?;
             Ok(if_else_node(test, then, otherwise, at))
         }
         TypedStmt::While { test, body, line } => {
             let at = place(*line, next);
-            let test = expr(test, alloc, by_default, known, next)?;
+            let test = condition(test, alloc, by_default, known, next)?;
             let body = branch(body, alloc, by_default, known, next)?;
             Ok(while_node(test, body, at))
         }
@@ -529,7 +537,7 @@ fn stmt(
         } => {
             let at = place(*line, next);
             let first = stmts(first.as_slice(), alloc, by_default, known, next)?;
-            let test = expr(test, alloc, by_default, known, next)?;
+            let test = condition(test, alloc, by_default, known, next)?;
             let step = stmts(step.as_slice(), alloc, by_default, known, next)?;
             let body = branch(body, alloc, by_default, known, next)?;
             Ok(for_node(first, test, step, body, at))
@@ -546,6 +554,23 @@ fn stmt(
             Ok(lights_node(*word, args, body, at))
         }
     }
+}
+
+// The condition of a statement, in a box: so what is held while the rest of the statement is made is one pointer.
+#[cycle(inline)]
+fn condition(
+    e: &TypedExpr,
+    alloc: Global,
+    by_default: bool,
+    known: &[Known<'_>],
+    next: &mut u32,
+) -> Result<Box<TreeExpr>, NoMemory>
+    requires { next.old + spec.count (functions by_default known.now) (typed_of e.now) ≤ 65536 }
+    ensures tree { IfOk result (λ t. tree_expr t.value ≡ spec.inline (functions by_default known.now) next.old (typed_of e.now)) }
+    ensures next { OnOk result (next.new ≡ next.old + spec.count (functions by_default known.now) (typed_of e.now)) }
+{
+    let made = expr(e, alloc, by_default, known, next)?;
+    Ok(Box::new(alloc, made)?)
 }
 
 #[cycle(inline)]

@@ -168,8 +168,8 @@ stmt-stmts-requires-in-For t c =
     let v = ap (λ xs. fold_stmts weighing [] (T.stmts (map tstmt_of xs))) c.as_slice-in-For.ensures in
     (omega (arith, c.decreases, w, v), omega (arith, c.requires, q, d, c.place-at-in-For.ensures.next))
 
-pub stmt-expr-requires-in-For : goal.stmt-expr-requires-in-For
-stmt-expr-requires-in-For t c =
+pub stmt-condition-requires-in-For : goal.stmt-condition-requires-in-For
+stmt-condition-requires-in-For t c =
     let fs = functions c.args.by_default c.args.known.now in
     let q = ap (count_stmt fs) (for_shown c.args.s.now c.in-For.first c.in-For.test c.in-For.step c.in-For.body c.in-For.line c.in-For.is) in
     let d = ap (λ xs. count_stmts fs (T.stmts (map tstmt_of xs))) c.as_slice-in-For.ensures in
@@ -401,6 +401,10 @@ stmt-returns-in_ok-body-in-For-clause-next t c =
     ∙ ap₂ (λ ys s. n + count_stmt fs (steps c.in-For.first ys s)) c.as_slice-in-For-2.ensures c.deref-in-For.ensures
     ∙ ap (λ s. n + count_stmt fs s) (sym (for_shown c.args.s.now c.in-For.first c.in-For.test c.in-For.step c.in-For.body c.in-For.line c.in-For.is))
 
+pub condition-expr-requires : goal.condition-expr-requires
+condition-expr-requires t c =
+    (omega (arith, c.decreases), c.requires)
+
 pub branch-stmt-requires : goal.branch-stmt-requires
 branch-stmt-requires t c =
     (omega (arith, c.decreases), c.requires)
@@ -441,8 +445,8 @@ stmt-expr-requires-in-Set t c =
     let fs = functions c.args.by_default c.args.known.now in
     (omega (arith, c.decreases, ap weighed c.in-Set.is), omega (arith, c.requires, ap (counted fs) c.in-Set.is, c.place-at-in-Set.ensures.next))
 
-pub stmt-expr-requires-in-If : goal.stmt-expr-requires-in-If
-stmt-expr-requires-in-If t c =
+pub stmt-condition-requires : goal.stmt-condition-requires
+stmt-condition-requires t c =
     let fs = functions c.args.by_default c.args.known.now in
     (omega (arith, c.decreases, ap weighed c.in-If.is), omega (arith, c.requires, ap (counted fs) c.in-If.is, c.place-at-in-If.ensures.next))
 
@@ -451,8 +455,8 @@ stmt-branch-deref-requires t c =
     let fs = functions c.args.by_default c.args.known.now in
     (omega (arith, c.decreases, ap weighed c.in-If.is, ap weighed c.deref.ensures), omega (arith, c.requires, ap (counted fs) c.in-If.is, ap (counted fs) c.deref.ensures, c.place-at-in-If.ensures.next, c.in_ok-test-in-If.ensures.next))
 
-pub stmt-expr-requires-in-IfElse : goal.stmt-expr-requires-in-IfElse
-stmt-expr-requires-in-IfElse t c =
+pub stmt-condition-requires-in-IfElse : goal.stmt-condition-requires-in-IfElse
+stmt-condition-requires-in-IfElse t c =
     let fs = functions c.args.by_default c.args.known.now in
     (omega (arith, c.decreases, ap weighed c.in-IfElse.is), omega (arith, c.requires, ap (counted fs) c.in-IfElse.is, c.place-at-in-IfElse.ensures.next))
 
@@ -466,8 +470,8 @@ stmt-branch-deref-requires-in-IfElse-2 t c =
     let fs = functions c.args.by_default c.args.known.now in
     (omega (arith, c.decreases, ap weighed c.in-IfElse.is, ap weighed c.deref-in-IfElse-2.ensures), omega (arith, c.requires, ap (counted fs) c.in-IfElse.is, ap (counted fs) c.deref-in-IfElse.ensures, ap (counted fs) c.deref-in-IfElse-2.ensures, c.place-at-in-IfElse.ensures.next, c.in_ok-test-in-IfElse.ensures.next, c.in_ok-then-in-IfElse.ensures.next))
 
-pub stmt-expr-requires-in-While : goal.stmt-expr-requires-in-While
-stmt-expr-requires-in-While t c =
+pub stmt-condition-requires-in-While : goal.stmt-condition-requires-in-While
+stmt-condition-requires-in-While t c =
     let fs = functions c.args.by_default c.args.known.now in
     (omega (arith, c.decreases, ap weighed c.in-While.is), omega (arith, c.requires, ap (counted fs) c.in-While.is, c.place-at-in-While.ensures.next))
 

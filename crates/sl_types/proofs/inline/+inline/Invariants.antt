@@ -26,6 +26,9 @@ decreases-chain l = 1 + fold weighing [] (T.chained (typed_of l.first.now) (map 
 abbrev pub decreases-stmt : goal.decreases-stmt
 decreases-stmt l = 1 + fold_stmt weighing [] (tstmt_of l.s.now) + weight_known l.by_default (map callee_of l.known.now)
 
+abbrev pub decreases-condition : goal.decreases-condition
+decreases-condition l = 1 + fold weighing [] (typed_of l.e.now) + weight_known l.by_default (map callee_of l.known.now)
+
 abbrev pub decreases-branch : goal.decreases-branch
 decreases-branch l = 2 + fold_stmt weighing [] (tstmt_of l.s.now) + weight_known l.by_default (map callee_of l.known.now)
 
