@@ -6,8 +6,8 @@ use Rattle.std.specs.Option.{option_map, option_or}
 use Rattle.std.specs.Str.{bytes_eq}
 use Rattle.std.proofs.lemmas.Option.{slice_get-get_or}
 use Rattle.outside.specs.Library.{Files}
-use Rattle.rib_reader.specs.declared.params.Param.{Param}
-use Rattle.scene_state.specs.declared.uses.ShaderUse.{ShaderUse}
+use Rattle.rib_values.specs.declared.params.Param.{Param}
+use Rattle.scene.specs.declared.uses.ShaderUse.{ShaderUse}
 use Rattle.sl_ast.specs.TreeView.{tree_of}
 use Rattle.acceptance.specs.declared.refusal.Refusal.{Refusal}
 use Rattle.acceptance.specs.declared.read.ReadShader.{ReadShader}

@@ -7,10 +7,10 @@ use Rattle.std.specs.Str.{bytes_eq}
 use Rattle.std.proofs.lemmas.List.{take_more, take_all, length-take}
 use Rattle.std.proofs.lemmas.Option.{slice_get-get_or}
 use Rattle.transforms.specs.Map.{Map}
-use Rattle.rib_reader.specs.declared.params.Param.{Param}
-use Rattle.rib_reader.specs.declared.params.Values.{Values}
+use Rattle.rib_values.specs.declared.params.Param.{Param}
+use Rattle.rib_values.specs.declared.params.Values.{Values}
 use Rattle.rib_reader.specs.Holding.{holding, last_named}
-use Rattle.scene_state.specs.declared.uses.ShaderUse.{ShaderUse}
+use Rattle.scene.specs.declared.uses.ShaderUse.{ShaderUse}
 use Rattle.sl_ast.specs.declared.kinds.SlType.{SlType}
 use Rattle.sl_ast.specs.declared.kinds.SlType.TheVariants as types
 use Rattle.sl_ast.specs.declared.typed.Value.{Value}

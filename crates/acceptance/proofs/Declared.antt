@@ -5,7 +5,7 @@ use Rattle.std.specs.List.{list_any}
 use Rattle.std.specs.Option.{option_or}
 use Rattle.std.specs.Str.{bytes_eq}
 use Rattle.fixed_math.specs.Names.{last_place}
-use Rattle.scene_state.specs.Scene.{VariableValue}
+use Rattle.scene.specs.Scene.{VariableValue}
 use Rattle.sl_ast.specs.Typed.{Local}
 use Rattle.sl_types.specs.Distinct.{are_distinct}
 use Rattle.sl_types.proofs.Distinct.{distinct_parts}

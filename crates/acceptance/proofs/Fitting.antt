@@ -4,10 +4,10 @@ use Rattle.std.specs.Prelude.{slice_get, slice_index_or}
 use Rattle.std.specs.List.{list_any}
 use Rattle.std.specs.Str.{bytes_eq}
 use Rattle.std.proofs.lemmas.List.Elements.{All-nil, All-cons, All-weaker}
-use Rattle.rib_reader.specs.declared.params.Kind.{Kind}
-use Rattle.rib_reader.specs.declared.params.Kind.TheVariants as kinds
-use Rattle.scene_state.specs.Scene.{VariableValue, PrimValue, FrameValue}
-use Rattle.scene_state.specs.declared.uses.ShaderUse.{ShaderUse}
+use Rattle.rib_values.specs.declared.params.Kind.{Kind}
+use Rattle.rib_values.specs.declared.params.Kind.TheVariants as kinds
+use Rattle.scene.specs.Scene.{VariableValue, PrimValue, FrameValue}
+use Rattle.scene.specs.declared.uses.ShaderUse.{ShaderUse}
 use Rattle.sl_ast.specs.declared.kinds.SlType.{SlType}
 use Rattle.sl_ast.specs.declared.kinds.SlType.TheVariants as types
 use Rattle.sl_ast.specs.declared.typed.Value.{Value}

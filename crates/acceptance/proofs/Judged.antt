@@ -3,7 +3,7 @@ use Rattle.std.proofs.Common.{◌≡◌, ℕ, List, map, Option, Some, None, Ok,
 use Rattle.outside.specs.Causes.{Told}
 use Rattle.outside.specs.Library.{Files}
 use Rattle.outside.specs.Asked.{AsksFront}
-use Rattle.scene_state.specs.Scene.{SceneValue}
+use Rattle.scene.specs.Scene.{SceneValue}
 use Rattle.acceptance.specs.declared.refusal.Refusal.{Refusal}
 use Rattle.acceptance.specs.declared.refusal.Refusal.TheVariants.{Missing, At, ReadFault, NoMemory}
 use Rattle.acceptance.specs.declared.read.ReadShader.{ReadShader}
@@ -12,7 +12,7 @@ use Rattle.acceptance.specs.Shaders.{shader_names, shaders_refused, shaders_aske
 use Rattle.acceptance.specs.Bindings.{uses_refused}
 use Rattle.acceptance.specs.PrimBindings.{frames_refused, prims_refused}
 use Rattle.acceptance.specs.Accepting.{scene_of_text, accepted, accepted_scene, bound_scene, asked_for_scene}
-use Rattle.acceptance.specs.declared.scene.AcceptedScene.{AcceptedScene}
+use Rattle.acceptance.specs.declared.accepted_scene.AcceptedScene.{AcceptedScene}
 use Rattle.acceptance.specs.declared.shaders.UsedShaders.{UsedShaders}
 use Rattle.acceptance.specs.Set.{set_of, accepted_with}
 use Rattle.acceptance.specs.Reading.{name_of, tree_read, ArePlaced, IsReadOf, set_read}

@@ -4,7 +4,7 @@ use Rattle.std.specs.Prelude.{slice_get, Result, Ok, Err, OnErr}
 use Rattle.std.specs.Option.{option_map, option_or}
 use Rattle.std.specs.Str.{bytes_eq}
 use Rattle.std.proofs.lemmas.List.{length-map, append-nil, take_more, map-append}
-use Rattle.scene_state.specs.declared.uses.ShaderUse.{ShaderUse}
+use Rattle.scene.specs.declared.uses.ShaderUse.{ShaderUse}
 use Rattle.acceptance.specs.declared.read.ReadShader.{ReadShader}
 use Rattle.outside.specs.Asked.{AsksAll, AsksFront}
 use Rattle.outside.proofs.Asking.{asks_all-none}

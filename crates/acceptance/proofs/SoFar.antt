@@ -6,7 +6,7 @@ use Rattle.outside.specs.Causes.{Told}
 use Rattle.outside.specs.Library.{Files}
 use Rattle.outside.specs.Asked.{AsksAll, AsksFront}
 use Rattle.outside.proofs.Asking.{asks_all-none, asks_all-more}
-use Rattle.scene_state.specs.declared.uses.ShaderUse.{ShaderUse}
+use Rattle.scene.specs.declared.uses.ShaderUse.{ShaderUse}
 use Rattle.acceptance.specs.declared.refusal.Refusal.{Refusal}
 use Rattle.acceptance.specs.declared.read.ReadShader.{ReadShader}
 use Rattle.acceptance.specs.Causes.{cause_in}

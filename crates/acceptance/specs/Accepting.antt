@@ -4,7 +4,7 @@ use Rattle.outside.specs.Library.{Files}
 use Rattle.rib_lex.specs.declared.token.Token.{Token}
 use Rattle.rib_lex.specs.Tokens as tokens
 use Rattle.rib_reader.specs.Reading as reading
-use Rattle.scene_state.specs.Scene.{SceneValue}
+use Rattle.scene.specs.Scene.{SceneValue}
 use Rattle.scene_state.specs.Steps as steps
 use Rattle.acceptance.specs.declared.refusal.FileId.TheVariants.{Scene}
 use Rattle.acceptance.specs.Causes.{At, Reads, unless}

@@ -4,11 +4,11 @@ use Rattle.std.specs.List.{range_with_len}
 use Rattle.fixed_math.specs.declared.vec3.Vec3.{Vec3}
 use Rattle.transforms.specs.Map.{Map, identity, translation}
 use Rattle.transforms.specs.declared.spaces.Spaces.{Spaces}
-use Rattle.rib_reader.specs.declared.params.Param.{Param}
-use Rattle.rib_reader.specs.declared.params.Values.{Values}
-use Rattle.rib_reader.specs.declared.params.Values.TheVariants.{Numbers, Strings}
+use Rattle.rib_values.specs.declared.params.Param.{Param}
+use Rattle.rib_values.specs.declared.params.Values.{Values}
+use Rattle.rib_values.specs.declared.params.Values.TheVariants.{Numbers, Strings}
 use Rattle.rib_reader.specs.Holding.{last_named}
-use Rattle.scene_state.specs.declared.uses.ShaderUse.{ShaderUse}
+use Rattle.scene.specs.declared.uses.ShaderUse.{ShaderUse}
 use Rattle.sl_ast.specs.declared.kinds.SlType.{SlType}
 use Rattle.sl_ast.specs.declared.kinds.SlType.TheVariants as types
 use Rattle.sl_ast.specs.declared.typed.Value.{Value}

@@ -3,11 +3,11 @@
 use Rattle.std.specs.Prelude.{◌≡◌, refl, ℕ, Bool, true, false, not, ◌&&◌, ◌||◌, List, [], ◌∷◌, map, slice_get, Option, Some, None, All, codes, if◌then◌else◌}
 use Rattle.std.specs.List.{list_any}
 use Rattle.std.specs.Str.{bytes_eq}
-use Rattle.rib_reader.specs.declared.params.Kind.{Kind}
-use Rattle.rib_reader.specs.declared.params.Kind.TheVariants as kinds
-use Rattle.rib_reader.specs.declared.params.Values.TheVariants.{Numbers}
-use Rattle.scene_state.specs.Scene.{VariableValue, PrimValue, FrameValue}
-use Rattle.scene_state.specs.declared.uses.ShaderUse.{ShaderUse}
+use Rattle.rib_values.specs.declared.params.Kind.{Kind}
+use Rattle.rib_values.specs.declared.params.Kind.TheVariants as kinds
+use Rattle.rib_values.specs.declared.params.Values.TheVariants.{Numbers}
+use Rattle.scene.specs.Scene.{VariableValue, PrimValue, FrameValue}
+use Rattle.scene.specs.declared.uses.ShaderUse.{ShaderUse}
 use Rattle.sl_ast.specs.declared.kinds.SlType.TheVariants as types
 use Rattle.sl_ast.specs.Typed.{Local, Tree}
 use Rattle.shader_binding.specs.Sets.{SetValue}

@@ -4,7 +4,7 @@ use Rattle.std.specs.List.{list_any}
 use Rattle.std.specs.Str.{bytes_eq}
 use Rattle.std.specs.declared.alloc.Global.{Global}
 use Rattle.outside.specs.Library.{Files}
-use Rattle.scene_state.specs.declared.uses.ShaderUse.{ShaderUse}
+use Rattle.scene.specs.declared.uses.ShaderUse.{ShaderUse}
 use Rattle.sl_ast.specs.Typed.{Tree}
 use Rattle.sl_ast.specs.TreeView.{tree_of}
 use Rattle.sl_ast.specs.declared.typed.Value.{Value}
@@ -12,7 +12,7 @@ use Rattle.shader_binding.specs.Sets.{SetValue}
 use Rattle.acceptance.specs.declared.refusal.Refusal.{Refusal}
 use Rattle.acceptance.specs.declared.read.ReadShader.{ReadShader}
 use Rattle.acceptance.specs.declared.shaders.UsedShaders.{UsedShaders}
-use Rattle.acceptance.specs.declared.scene.AcceptedScene.{AcceptedScene}
+use Rattle.acceptance.specs.declared.accepted_scene.AcceptedScene.{AcceptedScene}
 use Rattle.acceptance.specs.Set.{AcceptedValue}
 use Rattle.acceptance.specs.Causes.{cause_in}
 use Rattle.acceptance.specs.Shaders.{file_of, text_with, tree_of_text, shader_tree, shaders_refused}

@@ -1,8 +1,8 @@
 -- The shaders of a scene over the files that are held.
 use Rattle.std.specs.Prelude.{ℕ, List, [], map, Option, Some, None, Ok, Err, filter_map}
 use Rattle.outside.specs.Library.{Files}
-use Rattle.scene_state.specs.Scene.{SceneValue}
-use Rattle.scene_state.specs.declared.uses.ShaderUse.{ShaderUse}
+use Rattle.scene.specs.Scene.{SceneValue}
+use Rattle.scene.specs.declared.uses.ShaderUse.{ShaderUse}
 use Rattle.sl_ast.specs.declared.typed.Value.{Value}
 use Rattle.sl_ast.specs.Typed.{Tree}
 use Rattle.fixed_math.specs.Names.{last_place}

@@ -16,10 +16,10 @@ ghost use Rattle.acceptance.specs.Answers.{Clears, Gives, as_it_is};
 ghost use Rattle.acceptance.specs.Reading.{set_in, accepted_in};
 ghost use Rattle.acceptance.specs.declared.refusal.Refusal.TheVariants.{ReadFault};
 
+use crate::accepted_scene::AcceptedScene;
 use crate::bindings::bind_all;
 use crate::code::{of_lex, of_request, of_state};
 use crate::refusal::{Refusal, in_scene};
-use crate::scene::AcceptedScene;
 use crate::shaders::{UsedShaders, read_shaders};
 use crate::variables::check_variables;
 use fixed_math::List;

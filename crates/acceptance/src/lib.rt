@@ -1,19 +1,19 @@
 //! A scene's text read and accepted with its shaders, or the first reason why it is refused.
 #![tactic(auto)]
 
+mod accepted_scene;
 mod accepting;
 mod bindings;
 mod code;
 mod read;
 mod refusal;
-mod scene;
 mod shaders;
 mod values;
 mod variables;
 
+pub use accepted_scene::AcceptedScene;
 pub use accepting::accept;
 pub use code::Code;
 pub use read::ReadShader;
 pub use refusal::{FileId, Refusal, in_scene};
-pub use scene::AcceptedScene;
 pub use shaders::UsedShaders;

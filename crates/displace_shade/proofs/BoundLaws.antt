@@ -6,10 +6,10 @@ use Rattle.std.proofs.lemmas.Bool.{and_parts, false≢true}
 use Rattle.std.proofs.lemmas.List.{length-map, get_or-map}
 use Rattle.std.proofs.lemmas.Option.{slice_get-map, slice_get_read}
 use Rattle.transforms.specs.declared.spaces.Spaces.{Spaces}
-use Rattle.scene_state.specs.declared.uses.ShaderUse.{ShaderUse}
-use Rattle.scene_state.specs.Scene.{IsUse}
-use Rattle.scene_state.specs.declared.uses.ShaderKind.{ShaderKind as UseKind}
-use Rattle.scene_state.specs.declared.uses.ShaderKind.TheVariants as requested
+use Rattle.scene.specs.declared.uses.ShaderUse.{ShaderUse}
+use Rattle.scene.specs.Scene.{IsUse}
+use Rattle.scene.specs.declared.uses.ShaderKind.{ShaderKind as UseKind}
+use Rattle.scene.specs.declared.uses.ShaderKind.TheVariants as requested
 use Rattle.sl_ast.specs.declared.kinds.SlKind.{SlKind}
 use Rattle.sl_ast.specs.declared.kinds.SlKind.TheVariants as written
 use Rattle.sl_ast.specs.declared.kinds.SlType.{SlType}

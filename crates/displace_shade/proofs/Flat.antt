@@ -2,7 +2,7 @@
 use Rattle.std.proofs.Common.{◌≡◌, ℕ, cond, List, [], ◌∷◌, Option, Some, None, refl, ap, ◌∙◌}
 use Rattle.fixed_math.specs.Fixed.{mul}
 use Rattle.fixed_math.specs.declared.vec3.Vec3.{Vec3}
-use Rattle.scene_state.specs.declared.uses.ShaderUse.{ShaderUse}
+use Rattle.scene.specs.declared.uses.ShaderUse.{ShaderUse}
 use Rattle.sl_ast.specs.Names.{writes}
 use Rattle.sl_ast.specs.declared.kinds.Predefined.TheVariants as names
 use Rattle.sl_ast.specs.declared.kinds.SlKind.{SlKind}

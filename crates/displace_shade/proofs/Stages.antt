@@ -4,7 +4,7 @@ use Rattle.std.proofs.lemmas.Bool.{cond-false, false≢true}
 use Rattle.std.proofs.lemmas.List.{get_or-map, length-map}
 use Rattle.fixed_math.specs.Axes.{origin}
 use Rattle.fixed_math.specs.declared.vec3.Vec3.{Vec3}
-use Rattle.scene_state.specs.declared.uses.ShaderUse.{ShaderUse}
+use Rattle.scene.specs.declared.uses.ShaderUse.{ShaderUse}
 use Rattle.sl_ast.specs.declared.kinds.Predefined.{Predefined}
 use Rattle.sl_ast.specs.declared.kinds.Predefined.TheVariants as names
 use Rattle.sl_ast.specs.declared.kinds.SlKind.{SlKind}

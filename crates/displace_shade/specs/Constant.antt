@@ -15,7 +15,7 @@ use Rattle.sl_ast.specs.declared.typed.Variable.TheVariants.{Predefined}
 use Rattle.sl_ast.specs.Typed.{Expr, variable, apply, none, more, Stmt, assign, stmts, Tree}
 use Rattle.builtins.specs.Triples.{each_two}
 use Rattle.builtins.specs.Values.{triple_of}
-use Rattle.scene_state.specs.declared.uses.ShaderUse.{ShaderUse}
+use Rattle.scene.specs.declared.uses.ShaderUse.{ShaderUse}
 use Rattle.shader_binding.specs.Sets.{SetValue, Bound, bound_at}
 use Rattle.grid_variables.specs.Points.{Leaf}
 use Rattle.grid_variables.specs.Variables.{cs_at, os_at}

@@ -4,7 +4,7 @@ use Rattle.std.specs.List.{range_with_len}
 use Rattle.fixed_math.specs.declared.vec3.Vec3.{Vec3}
 use Rattle.transforms.specs.Map.{Map}
 use Rattle.transforms.specs.declared.spaces.Spaces.{Spaces}
-use Rattle.scene_state.specs.declared.uses.ShaderUse.{ShaderUse}
+use Rattle.scene.specs.declared.uses.ShaderUse.{ShaderUse}
 use Rattle.sl_ast.specs.declared.kinds.Predefined.TheVariants as names
 use Rattle.sl_ast.specs.declared.typed.Value.{Value}
 use Rattle.sl_ast.specs.declared.typed.Value.TheVariants.{Number, Triple}

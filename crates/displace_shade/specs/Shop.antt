@@ -1,7 +1,7 @@
 -- The shop's set as plain data, a shader that is bound, and the leaf of a frame's primitive.
 use Rattle.std.specs.Prelude.{ℕ, map}
 use Rattle.patches.specs.Parts.{Part}
-use Rattle.scene_state.specs.Scene.{PrimValue, FrameValue}
+use Rattle.scene.specs.Scene.{PrimValue, FrameValue}
 use Rattle.sl_ast.specs.TreeView.{tree_of}
 use Rattle.mask_codegen.specs.Compiled.{IsCodeOf}
 use Rattle.grid_rows.specs.Parameters.{ParameterValues}

@@ -1,7 +1,7 @@
 // The shader of a use.
 ghost use Rattle.std.specs.Prelude.{◌≡◌, ◌<◌, true, Some, length};
-ghost use Rattle.scene_state.specs.Scene.{IsUse};
-ghost use Rattle.scene_state.specs.declared.uses.ShaderKind.{ShaderKind as UseKind};
+ghost use Rattle.scene.specs.Scene.{IsUse};
+ghost use Rattle.scene.specs.declared.uses.ShaderKind.{ShaderKind as UseKind};
 ghost use Rattle.sl_ast.specs.TreeView.{tree_of};
 ghost use Rattle.shader_binding.specs.Sets.{Fits, is_of_kind};
 ghost use Rattle.shader_binding.specs.Sets.{bound_at as bound_at_use};
@@ -9,7 +9,7 @@ ghost use Rattle.displace_shade.specs.Shop.{set_value, bound_value, Runs};
 
 use crate::set::ShaderSet;
 use mask_codegen::Compiled;
-use scene_state::ShaderUse;
+use scene::ShaderUse;
 use sl_ast::Value;
 use transforms::Affine;
 

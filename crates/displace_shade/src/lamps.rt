@@ -1,7 +1,7 @@
 // The lights of a primitive.
 ghost use Rattle.std.specs.Prelude.{◌≡◌, ◌<◌, All, Some, length, get_or, map, IfOk};
-ghost use Rattle.scene_state.specs.Scene.{IsUse};
-ghost use Rattle.scene_state.specs.declared.uses.ShaderKind.TheVariants as requested;
+ghost use Rattle.scene.specs.Scene.{IsUse};
+ghost use Rattle.scene.specs.declared.uses.ShaderKind.TheVariants as requested;
 ghost use Rattle.shader_binding.specs.Sets.{Fits};
 ghost use Rattle.shader_binding.specs.Sets.{bound_at as bound_at_use};
 ghost use Rattle.displace_shade.specs.Shaded.{light_spaces as light_maps, lights_from};
@@ -16,7 +16,7 @@ use fixed_math::NoMemory;
 use grid_code::Code;
 use grid_machine::Lights;
 use grid_variables::Leaf;
-use scene_state::ShaderUse;
+use scene::ShaderUse;
 use sl_ast::Value;
 use transforms::{Affine, Spaces};
 

@@ -1,7 +1,7 @@
 // The shaded grid of a leaf: its three shaders in turn.
 ghost use Rattle.std.specs.Prelude.{◌≡◌, ℕ, [], All, map, IfOk};
-ghost use Rattle.scene_state.specs.Scene.{IsUse, IsSomeUse, HasUses};
-ghost use Rattle.scene_state.specs.declared.uses.ShaderKind.TheVariants as requested;
+ghost use Rattle.scene.specs.Scene.{IsUse, IsSomeUse, HasUses};
+ghost use Rattle.scene.specs.declared.uses.ShaderKind.TheVariants as requested;
 ghost use Rattle.sl_meaning.specs.Runs.{Names};
 ghost use Rattle.shader_binding.specs.Sets.{Fits, bound_at as bound_at_use, bound_for};
 ghost use Rattle.displace_shade.specs.Shaded.{diced_names, lights_from, shaded_by, displaced as displaced_names, shaded};
@@ -19,7 +19,7 @@ use bumpalo::Bump;
 use dice::GridRef;
 use fixed_math::NoMemory;
 use grid_variables::{Leaf, Places, Variables, begun, grid_of, kept_near};
-use scene_state::ShaderUse;
+use scene::ShaderUse;
 use std::alloc::Global;
 
 /// The shaders of a scene and their uses, with memory for what a run needs.

@@ -1,5 +1,5 @@
 ghost use Rattle.std.specs.Prelude.{◌≡◌, ◌≤◌, ◌<◌, ◌+◌, All, Some, length, slice_get, IfOk, MatchResult};
-ghost use Rattle.scene_state.specs.Scene.{FrameValue, PrimValue, HasUses};
+ghost use Rattle.scene.specs.Scene.{FrameValue, PrimValue, HasUses};
 ghost use Rattle.shader_binding.specs.Sets.{Fits};
 ghost use Rattle.displace_shade.specs.Shaded.{shaded};
 ghost use Rattle.shader_binding.specs.Bindings.{FitsPrim};
@@ -13,7 +13,7 @@ use dice::GridRef;
 use fixed_math::NoMemory;
 use grid_variables::Leaf;
 use patches::Piece;
-use scene_state::{Frame, Scene, ShaderUse};
+use scene::{Frame, Scene, ShaderUse};
 use std::alloc::Global;
 
 /// The leaf of a piece of a primitive of a frame.

@@ -11,7 +11,7 @@ use Rattle.fixed_math.specs.Power.{with_exponent, exp2, exp_bits}
 use Rattle.fixed_math.proofs.Floor.{floor_by_between}
 use Rattle.fixed_math.proofs.Sat.{sat_mono, mul_mono, sat_of_raw}
 use Rattle.filter_ppm.specs.Weight.{counts, slope, across, weight, reach}
-use Rattle.scene_parts.specs.Settings.{OptionValues}
+use Rattle.scene.specs.Settings.{OptionValues}
 
 and_true : (p q : Bool) → (p && q) ≡ true → (p ≡ true) × (q ≡ true)
 and_true true q e = (refl, e)

@@ -7,7 +7,7 @@ use Rattle.fixed_math.specs.Whole.{floor_by, clamp}
 use Rattle.fixed_math.specs.Fixed.{mul, div}
 use Rattle.fixed_math.specs.Power.{pow}
 use Rattle.fixed_math.specs.declared.vec3.Vec3.{Vec3}
-use Rattle.scene_parts.specs.Settings.{OptionValues}
+use Rattle.scene.specs.Settings.{OptionValues}
 
 -- a channel times the gain, to the power 1 / gamma
 unfoldable pub exposed_part : OptionValues → ℤ → ℤ

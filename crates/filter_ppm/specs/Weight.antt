@@ -5,9 +5,9 @@ use Rattle.fixed_math.specs.Spots.{Spot}
 use Rattle.fixed_math.specs.Root.{isqrt, isqrt_from}
 use Rattle.fixed_math.specs.Fixed.{add, mul}
 use Rattle.fixed_math.specs.Power.{exp, exp2, exp_bits}
-use Rattle.scene_parts.specs.declared.filter.Filter.{Filter}
-use Rattle.scene_parts.specs.declared.filter.Filter.TheVariants.{Box, Triangle, Gaussian}
-use Rattle.scene_parts.specs.Settings.{OptionValues}
+use Rattle.scene.specs.declared.filter.Filter.{Filter}
+use Rattle.scene.specs.declared.filter.Filter.TheVariants.{Box, Triangle, Gaussian}
+use Rattle.scene.specs.Settings.{OptionValues}
 
 -- the place d lies within a filter of width w about 0, its left end with it
 abbrev pub counts : ℕ → ℤ → Bool

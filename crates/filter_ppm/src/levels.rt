@@ -2,7 +2,7 @@ ghost use Rattle.std.specs.Prelude.{◌≡◌, ◌≤◌, ◌<◌, ◌*◌, pos}
 ghost use Rattle.filter_ppm.specs.Levels.{exposed_part, exposed, level, limited, quantized, levels};
 
 use fixed_math::{Num, Vec3, floor_by, plus, times};
-use scene_state::Options;
+use scene::Options;
 
 #[tactic(auto, unfolding(crate::specs::Levels::exposed_part))]
 fn expose_part(o: &Options, v: Num) -> Num

@@ -2,7 +2,7 @@ ghost use Rattle.std.specs.Prelude.{◌≡◌, ◌≤◌, ◌++◌, All, OnOk, I
 ghost use Rattle.filter_ppm.specs.Levels.{header, level_bytes, pixel_bytes, band};
 
 use fixed_math::NoMemory;
-use scene_state::Options;
+use scene::Options;
 use std::alloc::Global;
 
 /// The header of a picture in the format PPM (P6): `P6`, the width and the height, and `one`.

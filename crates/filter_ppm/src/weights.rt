@@ -2,7 +2,7 @@ ghost use Rattle.std.specs.Prelude.{◌≡◌, ◌≤◌, ◌≤ℤ◌, ◌*ℤ�
 ghost use Rattle.filter_ppm.specs.Weight.{counts, slope, across, bell, by_filter, weight, reach};
 
 use fixed_math::{Num, floor_by, minus, times};
-use scene_state::{Filter, Options};
+use scene::{Filter, Options};
 
 /// Whether the place `d` lies within a filter of width `width`.
 fn is_within(width: u32, d: i64) -> bool

@@ -8,7 +8,7 @@ use Rattle.std.proofs.Math.Seq.{take-add}
 use Rattle.frame_pixels.specs.declared.shown.ShownSample.{ShownSample}
 use Rattle.std.proofs.lemmas.List.{length-append, length-take}
 use Rattle.std.proofs.Math.Nat.{mul-le-mul_right, add-mul, mul_comm}
-use Rattle.scene_parts.specs.Settings.{OptionValues}
+use Rattle.scene.specs.Settings.{OptionValues}
 use Rattle.filter_ppm.specs.Mean.{Totals, nothing, with_colour, mean, sum_of, weighted_mean}
 use Rattle.frame_pixels.specs.Film.{FilmValues}
 use Rattle.frame_pixels.specs.Sampled.{AddsSamples, format_of, sample_of, shown_samples, sample_count, per_pixel, counts_for, mean_about}

@@ -3,7 +3,7 @@ use Rattle.std.specs.Prelude.{ℕ, List, ◌++◌, map}
 use Rattle.std.specs.List.{range_with_len}
 use Rattle.fixed_math.specs.declared.vec3.Vec3.{Vec3}
 use Rattle.fixed_math.specs.Spots.{PixelRect, whole_frame, pixel_count, pixel_x, pixel_y}
-use Rattle.scene_parts.specs.Settings.{OptionValues}
+use Rattle.scene.specs.Settings.{OptionValues}
 use Rattle.hider.specs.Samples.{samples_in}
 use Rattle.hider.specs.declared.sample.Sample.{Sample}
 use Rattle.filter_ppm.specs.Weight.{weight_at}

@@ -1,7 +1,7 @@
 ghost use Rattle.std.specs.Prelude.{◌≡◌, ◌≤◌};
 ghost use Rattle.frame_pixels.specs.Sampled.{FilmFormat, IsFormat};
 
-use scene_state::Options;
+use scene::Options;
 use std::marker::Model;
 
 /// The size of a frame in pixels, 1 to 4,096 each way, and its options.

@@ -10,7 +10,7 @@ use crate::film::Film;
 use crate::shown::ShownSample;
 use fixed_math::NoMemory;
 use hider::{Spot, Tile};
-use scene_state::Options;
+use scene::Options;
 use std::alloc::Global;
 
 /// The number of samples of a pixel.

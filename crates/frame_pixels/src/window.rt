@@ -10,7 +10,7 @@ use crate::reach::window_of;
 use crate::shown::ShownSample;
 use filter_ppm::{Sums, weight};
 use fixed_math::{Num, Vec3};
-use scene_state::Options;
+use scene::Options;
 
 /// A place less the middle of a pixel.
 fn from_middle(place: i64, pixel: u32) -> i64

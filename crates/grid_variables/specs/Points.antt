@@ -8,7 +8,7 @@ use Rattle.transforms.specs.declared.view.View.{View}
 use Rattle.dice.specs.Grids.{line_count, line_at}
 use Rattle.dice.specs.Normals.{normal}
 use Rattle.dice.specs.Placed.{parameter_of, step_of, derivative_of}
-use Rattle.scene_state.specs.Scene.{PrimValue}
+use Rattle.scene.specs.Scene.{PrimValue}
 use Rattle.builtins.specs.Triples.{negated}
 use Rattle.builtins.specs.Differences.{Lines}
 

@@ -15,7 +15,7 @@ use builtins::normalize;
 use bumpalo::Bump;
 use bumpalo::collections::into_bump_slice;
 use fixed_math::{Axis, NoMemory, Num, Vec3};
-use scene_state::Variable;
+use scene::Variable;
 
 /// The values of a variable at all points, turned over at the corners where that is asked.
 pub fn spread<'a>(

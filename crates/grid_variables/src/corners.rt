@@ -7,8 +7,8 @@ use crate::moves::turned;
 use builtins::image;
 use fixed_math::{Num, Vec3};
 use patches::Dyadic;
-use rib_reader::{Kind, Values};
-use scene_state::Variable;
+use rib_values::{Kind, Values};
+use scene::Variable;
 use sl_ast::SlType;
 use transforms::Affine;
 

@@ -7,7 +7,7 @@ ghost use Rattle.grid_variables.specs.Places.{point_count, parameter_at, derivat
 use dice::{line_at, placed_derivative, placed_parameter, placed_step};
 use fixed_math::{Num, Vec3};
 use patches::{Dyadic, Piece, Surface};
-use scene_state::{Prim, Variable};
+use scene::{Prim, Variable};
 use std::marker::Model;
 use transforms::{Affine, Camera};
 

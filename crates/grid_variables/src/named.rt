@@ -4,7 +4,7 @@ ghost use Rattle.std.specs.Str.{bytes_eq};
 ghost use Rattle.grid_variables.specs.Variables.{variable_named as variable_of, is_pair as is_pair_of, setter as setter_of, bound_variable as bound_of};
 
 use fixed_math::Text;
-use scene_state::Variable;
+use scene::Variable;
 use shader_binding::sets_predefined;
 
 fn is_word(text: &Text, word: &str) -> bool

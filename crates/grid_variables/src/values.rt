@@ -7,8 +7,8 @@ use crate::leaf::Leaf;
 use crate::named::bound_variable;
 use builtins::copied;
 use fixed_math::{NoMemory, Text, Vec3};
-use rib_reader::{Kind, Values};
-use scene_state::Variable;
+use rib_values::{Kind, Values};
+use scene::Variable;
 use sl_ast::Value;
 use std::alloc::Global;
 

@@ -12,7 +12,7 @@ use Rattle.hider.specs.CellValues.{grid_values, micropolygons_of}
 use Rattle.hider.specs.Fragments.{fragments}
 use Rattle.hider.specs.Tiles.{TileValue, Shows, with_covering}
 use Rattle.hider.proofs.Frames.{shows_grid}
-use Rattle.scene_state.specs.Scene.{PrimValue, FrameValue}
+use Rattle.scene.specs.Scene.{PrimValue, FrameValue}
 use Rattle.acceptance.specs.Set.{AcceptedValue}
 use Rattle.render.specs.Pictures.{decide, prim_leaves, prim_micropolygons}
 use Rattle.render.specs.Sampled.{ShowsMore, prims_micropolygons}

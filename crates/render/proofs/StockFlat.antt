@@ -4,8 +4,8 @@ use Rattle.std.specs.Prelude.{slice_get, slice_index_or, codes}
 use Rattle.std.specs.List.{cons_option}
 use Rattle.std.specs.Str.{bytes_eq}
 use Rattle.outside.specs.Library.{Files, held_as}
-use Rattle.scene_state.specs.Scene.{SceneValue}
-use Rattle.scene_state.specs.declared.uses.ShaderUse.{ShaderUse}
+use Rattle.scene.specs.Scene.{SceneValue}
+use Rattle.scene.specs.declared.uses.ShaderUse.{ShaderUse}
 use Rattle.sl_ast.specs.Typed.{Tree}
 use Rattle.fixed_math.specs.Names.{last_place}
 use Rattle.shader_binding.specs.Sets.{bound_with, bound_at}

@@ -8,7 +8,7 @@ use Rattle.bound_split.specs.declared.splits.Decision.{Decision}
 use Rattle.bound_split.specs.declared.splits.Decision.TheVariants.{SplitU, SplitV, Dice}
 use Rattle.bound_split.specs.Decisions.{decision_of}
 use Rattle.bound_split.specs.Leaves.{leaves}
-use Rattle.scene_state.specs.Scene.{PrimValue, FrameValue}
+use Rattle.scene.specs.Scene.{PrimValue, FrameValue}
 use Rattle.displace_shade.specs.Shaded.{GridValue, shaded}
 use Rattle.displace_shade.specs.Shop.{leaf_of}
 use Rattle.hider.specs.declared.cell.Cell.{Cell}

@@ -1,7 +1,7 @@
 -- How a picture is computed: a tile that shows more and more of a frame.
 use Rattle.std.specs.Prelude.{List, ◌++◌}
 use Rattle.std.specs.List.{flat_map, enumerate_from}
-use Rattle.scene_state.specs.Scene.{PrimValue, FrameValue}
+use Rattle.scene.specs.Scene.{PrimValue, FrameValue}
 use Rattle.transforms.specs.declared.view.View.{View}
 use Rattle.hider.specs.Cells.{Micropolygon}
 use Rattle.hider.specs.Fragments.{fragments}

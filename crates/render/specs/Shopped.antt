@@ -1,5 +1,5 @@
 -- The scene that a shop shades.
-use Rattle.scene_state.specs.Scene.{SceneValue}
+use Rattle.scene.specs.Scene.{SceneValue}
 use Rattle.displace_shade.specs.Shop.{set_value}
 use Rattle.displace_shade.specs.declared.shop.Shop.{Shop}
 use Rattle.acceptance.specs.Set.{AcceptedValue}

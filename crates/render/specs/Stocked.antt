@@ -1,7 +1,7 @@
 -- What the stock's `constant` is, and what is drawn under it (RenderMan Interface 3.2, section 11 and appendix A).
 use Rattle.std.specs.Prelude.{◌≡◌, refl, ℕ, List, Some, None, Ok, codes, slice_get}
 use Rattle.outside.specs.Library.{Files, held_as}
-use Rattle.scene_state.specs.declared.uses.ShaderUse.{ShaderUse}
+use Rattle.scene.specs.declared.uses.ShaderUse.{ShaderUse}
 use Rattle.grid_variables.specs.Points.{Leaf}
 use Rattle.displace_shade.specs.Constant.{constant_tree, IsFlat}
 use Rattle.acceptance.specs.Shaders.{file_of, stock_text, tree_of_text}

@@ -17,7 +17,7 @@ use displace_shade::ShaderSet;
 use fixed_math::{List, NoMemory};
 use mask_codegen::{CodeFault, Compiled, compile};
 use outside::Library;
-use scene_state::Scene;
+use scene::Scene;
 use sl_ast::Value;
 use std::alloc::Global;
 

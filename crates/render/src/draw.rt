@@ -25,7 +25,7 @@ use fixed_math::NoMemory;
 use frame_pixels::{Film, pixels};
 use hider::{GridCells, Tile};
 use patches::Piece;
-use scene_state::{Frame, Prim};
+use scene::{Frame, Prim};
 use std::alloc::Global;
 
 /// A picture: the bytes of its header and those of its pixels by rows.

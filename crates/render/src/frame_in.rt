@@ -1,6 +1,6 @@
 ghost use Rattle.std.specs.Prelude.{◌≡◌, Some, slice_get};
 
-use scene_state::{Frame, Scene};
+use scene::{Frame, Scene};
 
 /// A frame of a scene, at that place.
 #[derive(Drop)]

@@ -18,7 +18,7 @@ use crate::frame_in::FrameIn;
 use displace_shade::Shop;
 use fixed_math::NoMemory;
 use outside::{Failed, FrameSink, Notes, put_all};
-use scene_state::{Frame, Scene};
+use scene::{Frame, Scene};
 use std::alloc::Global;
 
 /// Why not all frames were written.

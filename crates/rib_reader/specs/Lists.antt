@@ -5,13 +5,13 @@ use Rattle.rib_lex.specs.declared.decimal.Decimal.{Decimal}
 use Rattle.rib_lex.specs.Decimal.{num}
 use Rattle.rib_reader.specs.declared.args.Arg.{Arg}
 use Rattle.rib_reader.specs.declared.args.Arg.TheVariants.{Number, Str, Numbers, Strings}
-use Rattle.rib_reader.specs.declared.params.Values.{Values}
-use Rattle.rib_reader.specs.declared.params.Values.TheVariants as held
-use Rattle.rib_reader.specs.declared.params.Param.{Param}
-use Rattle.rib_reader.specs.declared.params.Class.{Class}
-use Rattle.rib_reader.specs.declared.params.Class.TheVariants as classes
-use Rattle.rib_reader.specs.declared.params.Kind.{Kind}
-use Rattle.rib_reader.specs.declared.params.Kind.TheVariants as kinds
+use Rattle.rib_values.specs.declared.params.Values.{Values}
+use Rattle.rib_values.specs.declared.params.Values.TheVariants as held
+use Rattle.rib_values.specs.declared.params.Param.{Param}
+use Rattle.rib_values.specs.declared.params.Class.{Class}
+use Rattle.rib_values.specs.declared.params.Class.TheVariants as classes
+use Rattle.rib_values.specs.declared.params.Kind.{Kind}
+use Rattle.rib_values.specs.declared.params.Kind.TheVariants as kinds
 use Rattle.rib_reader.specs.declared.req.Req.{Req}
 use Rattle.rib_reader.specs.declared.table.Tail.{Tail}
 use Rattle.rib_reader.specs.declared.table.Tail.TheVariants as tails
@@ -21,6 +21,7 @@ use Rattle.rib_reader.specs.declared.faults.RibCode.{RibCode}
 use Rattle.rib_reader.specs.declared.faults.RibCode.TheVariants.{S2, S3, S5}
 use Rattle.rib_reader.specs.declared.declared.Declared.{Declared}
 use Rattle.rib_reader.specs.declared.listing.Listing.{Listing}
+use Rattle.rib_values.specs.Kinds.{is_string, width, count, is_of_kind}
 use Rattle.rib_reader.specs.Words.{token_of}
 use Rattle.rib_reader.specs.Rules.{lower, when, lowest, args_code, follows_of}
 use Rattle.rib_reader.specs.Holding.{is_named, last_named}
@@ -37,10 +38,6 @@ strings_of (Strings ts) = Some ts
 strings_of (Numbers []) = Some []
 strings_of _ = None
 
-abbrev pub is_string : Kind → Bool
-is_string kinds.Str = true
-is_string _ = false
-
 -- a value of that kind
 abbrev pub values_of : Kind → Arg → Option Values
 values_of k v = if is_string k then option_map (λ ts. held.Strings ts) (strings_of v) else option_map (λ ds. held.Numbers (map num ds)) (numbers_of v)
@@ -56,22 +53,6 @@ pairs_of [] = []
 pairs_of (Str t ∷ []) = Of t None ∷ []
 pairs_of (Str t ∷ v ∷ vs) = Of t (Some v) ∷ pairs_of vs
 pairs_of _ = NoToken ∷ []
-
--- how many numbers or strings a value of that kind has
-abbrev pub width : Kind → ℕ
-width kinds.Float = 1
-width kinds.Str = 1
-width kinds.Pair = 2
-width _ = 3
-
-abbrev pub count : Values → ℕ
-count (held.Numbers xs) = length xs
-count (held.Strings ts) = length ts
-
--- strings for a string, and numbers for any other kind
-abbrev pub is_of_kind : Kind → Values → Bool
-is_of_kind k (held.Numbers xs) = not (is_string k)
-is_of_kind k (held.Strings ts) = is_string k
 
 abbrev pub is_points : List ℕ → Bool
 is_points name = bytes_eq name (codes "P")

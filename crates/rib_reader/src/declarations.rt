@@ -7,8 +7,8 @@ ghost use Rattle.rib_reader.specs.Names.{entry_of, class_names, kind_names, vari
 use crate::declared::{Declarations, Declared};
 use crate::faults::RibCode;
 use crate::names::{class_named, kind_named, variable_named};
-use crate::params::{Class, Kind};
 use fixed_math::{List, NoMemory, Text};
+use rib_values::{Class, Kind};
 use std::alloc::Global;
 
 fn is_white(byte: u8) -> bool

@@ -1,8 +1,8 @@
 ghost use Rattle.std.specs.Prelude.{◌≡◌};
 ghost use Rattle.rib_reader.specs.Declarations.{type_at};
 
-use crate::params::{Class, Kind};
 use fixed_math::{Names, NoMemory, Text};
+use rib_values::{Class, Kind};
 use std::alloc::Global;
 use std::marker::Model;
 

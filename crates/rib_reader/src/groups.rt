@@ -17,7 +17,6 @@ use crate::list_faults::request_fault;
 use crate::listing::Listing;
 use crate::names::{Named, request_named};
 use crate::pairs::list;
-use crate::params::Param;
 use crate::req::Req;
 use crate::request::Request;
 use crate::rows::row;
@@ -25,6 +24,7 @@ use crate::rules::following;
 use crate::scans::scan;
 use fixed_math::{List, NoMemory, Text};
 use rib_lex::{Decimal, Token, TokenKind};
+use rib_values::Param;
 use std::alloc::Global;
 
 // The one value that is an array of these numbers.

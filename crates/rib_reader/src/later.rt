@@ -2,8 +2,8 @@ ghost use Rattle.std.specs.Prelude.{◌≡◌, IfOk, option_map, map};
 ghost use Rattle.rib_reader.specs.Holding.{last_named, holding, is_at};
 ghost use Rattle.fixed_math.specs.Names.{last_place};
 
-use crate::params::Param;
 use fixed_math::{Names, NoMemory, Text};
+use rib_values::Param;
 use std::alloc::Global;
 
 /// The variable of that name that holds: the last one.

@@ -3,8 +3,8 @@ ghost use Rattle.rib_reader.specs.Names.{entry_of, request_names, class_names, k
 ghost use Rattle.rib_reader.specs.Entries.{plain};
 
 use crate::entry::Entry;
-use crate::params::{Class, Kind};
 use crate::req::Req;
+use rib_values::{Class, Kind};
 
 /// What a request's name stands for.
 #[derive(Clone, Copy)]

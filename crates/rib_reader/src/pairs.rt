@@ -11,9 +11,9 @@ use crate::follows::Follows;
 use crate::list_faults::{count_fault, name_fault};
 use crate::list_values::values_of;
 use crate::listing::Listing;
-use crate::params::{Class, Kind, Param};
 use crate::texts::is_word;
 use fixed_math::{List, NoMemory, Text};
+use rib_values::{Class, Kind, Param};
 use std::alloc::Global;
 
 fn nothing(alloc: Global) -> Listing

@@ -4,11 +4,11 @@ use Rattle.std.specs.Str.{bytes_eq}
 use Rattle.fixed_math.specs.Fixed.{div}
 use Rattle.fixed_math.specs.Whole.{floor_by}
 use Rattle.transforms.specs.declared.view.View.{View}
-use Rattle.rib_reader.specs.declared.params.Param.{Param}
-use Rattle.rib_reader.specs.declared.params.Kind.{Kind}
-use Rattle.rib_reader.specs.declared.params.Kind.TheVariants as kinds
-use Rattle.rib_reader.specs.declared.params.Values.{Values}
-use Rattle.rib_reader.specs.declared.params.Values.TheVariants.{Numbers}
+use Rattle.rib_values.specs.declared.params.Param.{Param}
+use Rattle.rib_values.specs.declared.params.Kind.{Kind}
+use Rattle.rib_values.specs.declared.params.Kind.TheVariants as kinds
+use Rattle.rib_values.specs.declared.params.Values.{Values}
+use Rattle.rib_values.specs.declared.params.Values.TheVariants.{Numbers}
 use Rattle.rib_reader.specs.declared.table.Words.TheVariants.{Modes}
 use Rattle.rib_reader.specs.declared.req.Req.{Req}
 use Rattle.rib_reader.specs.declared.req.Req.TheVariants as reqs
@@ -16,9 +16,9 @@ use Rattle.rib_reader.specs.declared.args.Arg.{Arg}
 use Rattle.rib_reader.specs.Rules.{word_at, raw_at, whole_at, is_one}
 use Rattle.rib_reader.specs.Holding.{last_named}
 use Rattle.rib_reader.specs.Reading.{Read}
-use Rattle.scene_parts.specs.Settings.{OptionValues}
-use Rattle.scene_parts.specs.declared.filter.Filter.{Filter}
-use Rattle.scene_parts.specs.declared.filter.Filter.TheVariants.{Box, Triangle, Gaussian}
+use Rattle.scene.specs.Settings.{OptionValues}
+use Rattle.scene.specs.declared.filter.Filter.{Filter}
+use Rattle.scene.specs.declared.filter.Filter.TheVariants.{Box, Triangle, Gaussian}
 use Rattle.scene_parts.specs.declared.code.StateCode.{StateCode}
 use Rattle.scene_parts.specs.declared.code.StateCode.TheVariants.{M5, M6}
 

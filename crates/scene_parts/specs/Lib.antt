@@ -1,4 +1,3 @@
-pub mod Settings
 pub mod Choices
 pub mod Looks
 pub mod Bases

@@ -8,10 +8,10 @@ ghost use Rattle.transforms.specs.Field.{left, right, bottom, top};
 ghost use Rattle.scene_parts.specs.Choices.{ChoiceValues, AreChoices, IsWindow, first_picture, first_choices, with_format, with_ratio, with_window, with_depths, first_number, degrees_in, field_in, with_samples, filter_named, with_filter, with_exposure, with_quantize, chosen, ratio_of, window_by, view_of};
 
 use crate::code::StateCode;
-use crate::filter::Filter;
-use crate::options::Options;
 use fixed_math::Num;
-use rib_reader::{Kind, Param, Req, Request, Values, last_named};
+use rib_reader::{Req, Request, last_named};
+use rib_values::{Kind, Param, Values};
+use scene::{Filter, Options};
 use std::marker::Model;
 use transforms::View;
 

@@ -5,14 +5,11 @@ mod bases;
 mod choices;
 mod code;
 mod faces;
-mod filter;
 mod look;
-mod options;
 
 pub use bases::Bases;
 pub use choices::Choices;
 pub use code::StateCode;
 pub use faces::{Faces, faces_in, one_face, piece_total};
-pub use filter::Filter;
 pub use look::Look;
-pub use options::Options;
+pub use scene::{Filter, Options};

@@ -17,7 +17,7 @@ use Rattle.transforms.specs.Field.{camera_of}
 use Rattle.transforms.specs.declared.view.View.{View}
 use Rattle.transforms.specs.declared.fault.FormFault.{FormFault}
 use Rattle.fixed_math.specs.declared.vec3.Vec3.{Vec3}
-use Rattle.scene_state.specs.Scene.{SceneValue}
+use Rattle.scene.specs.Scene.{SceneValue}
 use Rattle.scene_parts.specs.Choices.{ChoiceValues, chosen, view_of}
 use Rattle.scene_state.specs.State.{most_blocks, most_frames, most_lights, with_frame, name_or, moved, scaled, turned, of_rows, Stepped, first_state, closed, opened, innermost, frame_ended, attributes_ended, transform_ended, world_with, frame_made, frame_of, world_ended, with_choices, option_set, display_set, with_current, with_before, space_of, use_of, next_shader, with_shader, light_added, light_made, illuminated_by, light_named, with_prim, with_patches, is_past, mesh_from, mesh_counted, mesh_laid, face_points, with_face, with_faces, faces_laid, Located, located, laid, polygon_set, polygons_set}
 use Rattle.scene_parts.specs.Bases.{patch_shape, mesh_shape}
@@ -27,8 +27,8 @@ use Rattle.scene_state.specs.Shaders.{with_request}
 use Rattle.scene_state.specs.Steps.{with_surface, with_displacement, with_atmosphere, step, after, and_then, Placed, state_from, ended, last_line, scene_of}
 use Rattle.scene_parts.specs.declared.code.StateCode.{StateCode}
 use Rattle.scene_parts.specs.declared.code.StateCode.TheVariants.{N1, N2, N4, G5, M1, M2, M3, M4, M7}
-use Rattle.scene_state.specs.declared.uses.ShaderKind.{ShaderKind}
-use Rattle.scene_state.specs.declared.uses.ShaderKind.TheVariants as kinds
+use Rattle.scene.specs.declared.uses.ShaderKind.{ShaderKind}
+use Rattle.scene.specs.declared.uses.ShaderKind.TheVariants as kinds
 use Rattle.scene_state.specs.declared.attributes.Attributes.{Attributes}
 use Rattle.scene_state.specs.declared.state.Block.{Block}
 use Rattle.scene_state.specs.declared.state.Block.TheVariants.{InFrame, InWorld, InAttributes, InTransform}

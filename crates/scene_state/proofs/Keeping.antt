@@ -14,7 +14,7 @@ use Rattle.transforms.specs.declared.view.View.{View}
 use Rattle.transforms.specs.declared.fault.FormFault.{FormFault}
 use Rattle.fixed_math.specs.declared.vec3.Vec3.{Vec3}
 use Rattle.patches.specs.declared.patch.Patch.{Patch}
-use Rattle.scene_state.specs.Scene.{PrimValue, FrameValue, IsUse, IsSomeUse, HasUses}
+use Rattle.scene.specs.Scene.{PrimValue, FrameValue, IsUse, IsSomeUse, HasUses}
 use Rattle.scene_parts.specs.Choices.{ChoiceValues, chosen, view_of}
 use Rattle.scene_parts.specs.Looks.{look_after, is_single}
 use Rattle.scene_state.specs.Shaders.{with_request, placed_in, placed, some_placed, all_placed, light_of}
@@ -32,9 +32,9 @@ use Rattle.mesh_basis.specs.Polygons.{piece_count, pieces_of, flat_normal}
 use Rattle.scene_state.specs.Steps.{with_surface, with_displacement, with_atmosphere, look_set, step, after, and_then, Placed, state_from}
 use Rattle.scene_parts.specs.declared.code.StateCode.{StateCode}
 use Rattle.scene_parts.specs.declared.code.StateCode.TheVariants.{N1, N2, G5, M1, M2, M3, M4, M7}
-use Rattle.scene_state.specs.declared.uses.ShaderKind.{ShaderKind}
-use Rattle.scene_state.specs.declared.uses.ShaderKind.TheVariants as kinds
-use Rattle.scene_state.specs.declared.uses.ShaderUse.{ShaderUse}
+use Rattle.scene.specs.declared.uses.ShaderKind.{ShaderKind}
+use Rattle.scene.specs.declared.uses.ShaderKind.TheVariants as kinds
+use Rattle.scene.specs.declared.uses.ShaderUse.{ShaderUse}
 use Rattle.scene_state.specs.declared.attributes.Attributes.{Attributes}
 use Rattle.scene_state.specs.declared.shaders.Slot.{Slot}
 use Rattle.scene_state.specs.declared.shaders.Slot.TheVariants.{Waiting, Used}

@@ -19,7 +19,7 @@ use Rattle.mesh_basis.specs.Counts.{counts_of}
 use Rattle.mesh_basis.specs.Meshes.{all_from, patch_at, patches_in}
 use Rattle.mesh_basis.specs.Polygons.{point, piece_count, piece_of, pieces_of, flat_normal}
 use Rattle.mesh_basis.proofs.Runs.{all_step}
-use Rattle.scene_state.specs.Scene.{PrimValue}
+use Rattle.scene.specs.Scene.{PrimValue}
 use Rattle.scene_state.specs.Shaders.{placed, some_placed, all_placed, worn_by}
 use Rattle.scene_state.specs.declared.attributes.Attributes.{Attributes}
 use Rattle.scene_state.specs.declared.shaders.Worn.{Worn}

@@ -8,21 +8,22 @@ use Rattle.std.proofs.lemmas.Bool.{false≢true}
 use Rattle.std.proofs.lemmas.List.{append-nil, length-map, length-take-le, length-drop}
 use Rattle.std.proofs.lemmas.List.Elements.{All-filter}
 use Rattle.std.specs.List.{list_all}
-use Rattle.rib_reader.specs.declared.params.Class.{Class}
-use Rattle.rib_reader.specs.declared.params.Class.TheVariants.{Constant, Uniform, Varying, Vertex, FaceVarying}
-use Rattle.rib_reader.specs.declared.params.Kind.{Kind}
-use Rattle.rib_reader.specs.declared.params.Kind.TheVariants as kinds
-use Rattle.rib_reader.specs.declared.params.Values.{Values}
-use Rattle.rib_reader.specs.declared.params.Values.TheVariants.{Numbers, Strings}
-use Rattle.rib_reader.specs.declared.params.Param.{Param}
+use Rattle.rib_values.specs.declared.params.Class.{Class}
+use Rattle.rib_values.specs.declared.params.Class.TheVariants.{Constant, Uniform, Varying, Vertex, FaceVarying}
+use Rattle.rib_values.specs.declared.params.Kind.{Kind}
+use Rattle.rib_values.specs.declared.params.Kind.TheVariants as kinds
+use Rattle.rib_values.specs.declared.params.Values.{Values}
+use Rattle.rib_values.specs.declared.params.Values.TheVariants.{Numbers, Strings}
+use Rattle.rib_values.specs.declared.params.Param.{Param}
 use Rattle.rib_reader.specs.Holding.{holding, is_named}
-use Rattle.rib_reader.specs.Lists.{width, count, is_of_kind, is_points}
+use Rattle.rib_reader.specs.Lists.{is_points}
+use Rattle.rib_values.specs.Kinds.{width, count, is_of_kind}
 use Rattle.mesh_basis.specs.declared.shape.Shape.{Shape}
 use Rattle.mesh_basis.specs.declared.counts.Counts.{Counts}
 use Rattle.mesh_basis.specs.Counts.{linear_count, cubic_count, count_along, both, counts_of}
 use Rattle.mesh_basis.specs.Polygons.{piece_count}
 use Rattle.scene_parts.specs.Faces.{are_places}
-use Rattle.scene_state.specs.Scene.{IsVariable, corners}
+use Rattle.scene.specs.Scene.{IsVariable, corners}
 use Rattle.scene_state.specs.declared.seat.Extent.{Extent}
 use Rattle.scene_state.specs.declared.seat.Seat.{Seat}
 use Rattle.scene_state.specs.Variables.{variables_in, values_in, is_counted, are_counted, places_of, varies, items_at, taken, variable_of, IsIn, IsOfKind, IsThere, IsBelow, IsSeat, corners_along, HasSides, mesh_extent, corner_in, mesh_seat, face_seat}

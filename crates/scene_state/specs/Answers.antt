@@ -5,7 +5,7 @@ use Rattle.rib_reader.specs.Reading.{plain}
 use Rattle.fixed_math.specs.declared.vec3.Vec3.{Vec3}
 use Rattle.transforms.specs.Map.{Map}
 use Rattle.transforms.specs.declared.fault.FormFault.{FormFault}
-use Rattle.scene_state.specs.Scene.{SceneValue}
+use Rattle.scene.specs.Scene.{SceneValue}
 use Rattle.scene_state.specs.State.{Stepped, Located, code_of}
 use Rattle.scene_state.specs.Steps.{Placed, scene_of}
 use Rattle.scene_state.specs.declared.state.State.{State}

@@ -1,6 +1,6 @@
 -- The order in which the primitives of a scene first have its shader requests.
 use Rattle.std.specs.Prelude.{◌≡◌, refl, ℕ, zero, suc, ◌==◌, not, List, [], ◌∷◌, ◌++◌, length, filter, Option, Some, None}
-use Rattle.scene_state.specs.Scene.{PrimValue, FrameValue, SceneValue}
+use Rattle.scene.specs.Scene.{PrimValue, FrameValue, SceneValue}
 
 abbrev pub place_in : Option ℕ → List ℕ
 place_in None = []

@@ -1,4 +1,3 @@
-pub mod Scene
 pub mod FirstUse
 pub mod Variables
 pub mod Shaders

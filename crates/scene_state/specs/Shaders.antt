@@ -6,8 +6,8 @@ use Rattle.std.specs.Ordering.{int_eq}
 use Rattle.transforms.specs.Map.{identity}
 use Rattle.scene_parts.specs.Looks.{first_look}
 use Rattle.scene_parts.specs.Bases.{first_bases}
-use Rattle.scene_state.specs.declared.uses.ShaderKind.TheVariants.{Surface}
-use Rattle.scene_state.specs.declared.uses.ShaderUse.{ShaderUse}
+use Rattle.scene.specs.declared.uses.ShaderKind.TheVariants.{Surface}
+use Rattle.scene.specs.declared.uses.ShaderUse.{ShaderUse}
 use Rattle.scene_state.specs.declared.attributes.Attributes.{Attributes}
 use Rattle.scene_state.specs.declared.shaders.Slot.{Slot}
 use Rattle.scene_state.specs.declared.shaders.Slot.TheVariants.{Waiting, Used}

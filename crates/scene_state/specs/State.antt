@@ -22,7 +22,7 @@ use Rattle.transforms.specs.declared.fault.FormFault.TheVariants as forms
 use Rattle.rib_reader.specs.Rules.{word_at, whole_at}
 use Rattle.rib_reader.specs.Lists.{points_in}
 use Rattle.rib_reader.specs.Reading.{Read}
-use Rattle.scene_state.specs.Scene.{PrimValue, FrameValue, most_prims}
+use Rattle.scene.specs.Scene.{PrimValue, FrameValue, most_prims}
 use Rattle.scene_parts.specs.Choices.{ChoiceValues, first_choices, chosen, view_of}
 use Rattle.scene_parts.specs.Bases.{patch_shape, mesh_shape}
 use Rattle.scene_parts.specs.Faces.{FaceValues, one_face, faces_in}
@@ -32,9 +32,9 @@ use Rattle.scene_state.specs.Shaders.{first_attributes, first_shaders, with_requ
 use Rattle.light_lists.specs.Lights.{with_light, without_light}
 use Rattle.scene_parts.specs.declared.code.StateCode.{StateCode}
 use Rattle.scene_parts.specs.declared.code.StateCode.TheVariants.{N1, N2, N3, N5, G1, G2, G3, G4, G5, M1, M2, M3, M4, M7}
-use Rattle.scene_state.specs.declared.uses.ShaderKind.{ShaderKind}
-use Rattle.scene_state.specs.declared.uses.ShaderKind.TheVariants as shader_kinds
-use Rattle.scene_state.specs.declared.uses.ShaderUse.{ShaderUse}
+use Rattle.scene.specs.declared.uses.ShaderKind.{ShaderKind}
+use Rattle.scene.specs.declared.uses.ShaderKind.TheVariants as shader_kinds
+use Rattle.scene.specs.declared.uses.ShaderUse.{ShaderUse}
 use Rattle.scene_state.specs.declared.shaders.Handle.{Handle}
 use Rattle.scene_state.specs.declared.attributes.Attributes.{Attributes}
 use Rattle.scene_state.specs.declared.state.Block.{Block}

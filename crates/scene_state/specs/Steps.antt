@@ -5,7 +5,7 @@ use Rattle.rib_reader.specs.declared.req.Req.TheVariants as reqs
 use Rattle.rib_reader.specs.Rules.{raw_at, whole_at, numbers_at}
 use Rattle.rib_reader.specs.Reading.{Read}
 use Rattle.transforms.specs.Map.{identity}
-use Rattle.scene_state.specs.Scene.{SceneValue}
+use Rattle.scene.specs.Scene.{SceneValue}
 use Rattle.scene_parts.specs.Looks.{look_after}
 use Rattle.scene_parts.specs.Bases.{bases_after}
 use Rattle.scene_state.specs.declared.attributes.Attributes.{Attributes}
@@ -14,7 +14,7 @@ use Rattle.scene_state.specs.declared.state.Block.TheVariants.{InAttributes, InT
 use Rattle.scene_state.specs.State.{Stepped, first_state, opened, innermost, frame_begun, frame_ended, attributes_ended, transform_ended, world_begun, world_ended, option_set, display_set, moved, scaled, turned, of_rows, with_current, with_before, space_of, shader_set, light_made, illuminated_by, light_named, patch_set, mesh_set, polygon_set, polygons_set}
 use Rattle.scene_parts.specs.declared.code.StateCode.{StateCode}
 use Rattle.scene_parts.specs.declared.code.StateCode.TheVariants.{N4}
-use Rattle.scene_state.specs.declared.uses.ShaderKind.TheVariants as kinds
+use Rattle.scene.specs.declared.uses.ShaderKind.TheVariants as kinds
 
 abbrev pub with_surface : ℕ → Attributes → Attributes
 with_surface k a = record a { surface = k }

@@ -6,10 +6,10 @@ ghost use Rattle.scene_state.specs.declared.state.Block.TheVariants.{InAttribute
 
 use crate::attributes::Attributes;
 use crate::fault::{Stop, code_of};
-use crate::frame::Frame;
 use crate::state::{Block, State, World};
 use fixed_math::{List, NoMemory};
 use light_lists::LightsInForce;
+use scene::Frame;
 use scene_parts::StateCode;
 use std::alloc::Global;
 use transforms::{Affine, Camera};

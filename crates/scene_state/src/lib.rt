@@ -4,7 +4,6 @@
 mod attributes;
 mod blocks;
 mod fault;
-mod frame;
 mod lights;
 mod patching;
 mod placing;
@@ -17,11 +16,9 @@ mod shared_name;
 mod state;
 mod steps;
 mod turning;
-mod uses;
 mod variables;
 
 pub use fault::StateFault;
-pub use frame::{Frame, Primitive as Prim, Scene, Variable};
 pub use reading::scene;
-pub use scene_parts::{Filter, Options, StateCode};
-pub use uses::{ShaderKind, ShaderUse};
+pub use scene::{Filter, Frame, Options, Prim, Scene, ShaderKind, ShaderUse, Variable};
+pub use scene_parts::StateCode;

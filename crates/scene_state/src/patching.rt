@@ -7,11 +7,10 @@ ghost use Rattle.mesh_basis.specs.Meshes.{patch_at, all_from};
 ghost use Rattle.mesh_basis.specs.Polygons.{piece_count, pieces_of};
 ghost use Rattle.scene_state.specs.Variables.{variables_in, mesh_seat, face_seat, HasSides, IsThere};
 ghost use Rattle.scene_state.specs.State.{prim_of, with_prim, with_patches, mesh_from, with_face};
-ghost use Rattle.scene_state.specs.Scene.{IsPlace, most_prims};
+ghost use Rattle.scene.specs.Scene.{IsPlace, most_prims};
 ghost use Rattle.scene_state.specs.Answers.{Steps};
 
 use crate::fault::Stop;
-use crate::frame::{Primitive, Variable};
 use crate::seat::{Face, Seat, face_seat, mesh_seat};
 use crate::shaders::Worn;
 use crate::state::State;
@@ -19,7 +18,9 @@ use crate::variables::patch_variables;
 use fixed_math::{List, NoMemory, Vec3};
 use mesh_basis::{Counts, Shape, flat_normal, patch_at, piece_of};
 use patches::Patch;
-use rib_reader::{Param, Request};
+use rib_reader::Request;
+use rib_values::Param;
+use scene::{Prim, Variable};
 use scene_parts::{Look, StateCode};
 use std::alloc::Global;
 use transforms::Affine;
@@ -34,12 +35,12 @@ fn primitive(
     look: Look,
     worn: Worn,
     vars: List<Variable>,
-) -> Primitive
+) -> Prim
     requires { IsPlace seat.place }
     ensures { result ≡ record (prim_of (plain request.now) object flat seat patch look worn.surface worn.displacement worn.atmosphere worn.lights) { vars = vars } }
 {
     let place = seat.place;
-    Primitive {
+    Prim {
         patch,
         flat,
         cs: look.cs,

@@ -8,7 +8,7 @@ ghost use Rattle.mesh_basis.specs.Polygons.{piece_count};
 ghost use Rattle.scene_parts.specs.Faces.{FaceValues, use_up, are_places};
 ghost use Rattle.scene_state.specs.Variables.{variables_in, are_counted, faces_extent, face_seat, IsOfKind, IsThere};
 ghost use Rattle.scene_state.specs.State.{mesh_laid, face_points, with_face, with_faces, faces_laid, patch_set, mesh_set, polygon_set, polygons_set};
-ghost use Rattle.scene_state.specs.Scene.{most_prims};
+ghost use Rattle.scene.specs.Scene.{most_prims};
 ghost use Rattle.scene_state.specs.Answers.{Steps};
 
 use crate::fault::Stop;
@@ -18,7 +18,8 @@ use crate::state::State;
 use crate::variables::{are_counted, variables_in};
 use fixed_math::{NoMemory, Vec3};
 use mesh_basis::{Shape, are_in_range, counts_of};
-use rib_reader::{Param, Request};
+use rib_reader::Request;
+use rib_values::Param;
 use scene_parts::{Faces, StateCode, faces_in, one_face, piece_total};
 use std::alloc::Global;
 use transforms::Affine;

@@ -1,8 +1,8 @@
 ghost use Rattle.std.specs.Prelude.{◌≡◌, ◌≤◌, ◌<◌, List as Items, [], ◌∷◌, ◌++◌, ◌+◌, length, IfOk, nat_lt};
-ghost use Rattle.scene_state.specs.Scene.{PrimValue, most_prims};
+ghost use Rattle.scene.specs.Scene.{PrimValue, most_prims};
 
-use crate::frame::Primitive;
 use fixed_math::{List, NoMemory};
+use scene::Prim;
 use std::alloc::Global;
 use std::marker::Model;
 use std::mem;
@@ -13,7 +13,7 @@ pub(crate) const MOST_PRIMS: usize = 65536;
 /// The primitives of an open world, no more than a frame has.
 #[derive(Drop)]
 pub(crate) struct Prims {
-    prims: List<Primitive>,
+    prims: List<Prim>,
 }
 
 impl Model for Prims {
@@ -42,7 +42,7 @@ impl Prims {
     }
 
     /// A primitive more.
-    pub(crate) fn push(&mut self, prim: Primitive) -> Result<(), NoMemory>
+    pub(crate) fn push(&mut self, prim: Prim) -> Result<(), NoMemory>
         requires { length self.old < most_prims }
         ensures { IfOk result (λ _. self.new ≡ self.old ++ prim ∷ []) }
     {
@@ -51,7 +51,7 @@ impl Prims {
     }
 
     /// All primitives, of which none is left.
-    pub(crate) fn take(&mut self, alloc: Global) -> List<Primitive>
+    pub(crate) fn take(&mut self, alloc: Global) -> List<Prim>
         ensures all { result ≡ self.old }
         ensures few { length result ≤ most_prims }
         ensures none { self.new ≡ [] }

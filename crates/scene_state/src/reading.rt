@@ -6,10 +6,10 @@ ghost use Rattle.scene_state.specs.FirstUse.{InFirstUse};
 ghost use Rattle.scene_state.specs.Answers.{GivesState, GivesScene};
 
 use crate::fault::StateFault;
-use crate::frame::Scene;
 use crate::state::State;
 use fixed_math::List;
 use rib_reader::Request;
+use scene::Scene;
 use scene_parts::StateCode;
 use std::alloc::Global;
 use std::mem;

@@ -1,7 +1,7 @@
 // Where patches stand in their primitives.
 ghost use Rattle.std.specs.Prelude.{◌≡◌, ◌<◌, ◌≤◌, ◌+◌, ◌*◌, ◌^◌, length};
 ghost use Rattle.mesh_basis.specs.Polygons.{piece_count};
-ghost use Rattle.scene_state.specs.Scene.{IsPlace, most_prims};
+ghost use Rattle.scene.specs.Scene.{IsPlace, most_prims};
 ghost use Rattle.scene_state.specs.Variables.{corners_along, corner_in, corners_of, mesh_extent, mesh_place, mesh_corners, mesh_seat, faces_extent, face_seat, HasSides};
 
 use mesh_basis::{Counts, Shape, piece_corners};

@@ -3,8 +3,8 @@ ghost use Rattle.std.specs.Prelude.{◌≡◌, IfOk, slice_get};
 ghost use Rattle.scene_state.specs.Shaders.{IsWaiting, first_shaders, with_request, placed, some_placed, all_placed, worn_by, light_of};
 
 use crate::attributes::Attributes;
-use crate::uses::{ShaderKind, ShaderUse};
 use fixed_math::{List, NoMemory, Text};
+use scene::{ShaderKind, ShaderUse};
 use std::alloc::Global;
 use std::mem;
 use transforms::Affine;

@@ -3,11 +3,11 @@ ghost use Rattle.std.specs.Prelude.{◌≡◌, IfOk, codes};
 ghost use Rattle.scene_state.specs.State.{first_state};
 
 use crate::attributes::Attributes;
-use crate::frame::Frame;
 use crate::prims::Prims;
 use crate::shaders::{Handle, Shaders};
 use crate::shared_name::SharedName;
 use fixed_math::{List, NoMemory, Text};
+use scene::Frame;
 use scene_parts::Choices;
 use std::alloc::Global;
 use transforms::{Affine, Camera};

@@ -1,9 +1,9 @@
 -- The shaders of a scene: their trees, the tree of each use, and the values that its parameters are bound to.
 use Rattle.std.specs.Prelude.{ℕ, Bool, true, false, List, [], ◌∷◌, Option, Some, None, slice_get, slice_index_or, ◌≡◌}
 use Rattle.transforms.specs.Map.{Map}
-use Rattle.scene_state.specs.declared.uses.ShaderKind.{ShaderKind}
-use Rattle.scene_state.specs.declared.uses.ShaderKind.TheVariants as requested
-use Rattle.scene_state.specs.declared.uses.ShaderUse.{ShaderUse}
+use Rattle.scene.specs.declared.uses.ShaderKind.{ShaderKind}
+use Rattle.scene.specs.declared.uses.ShaderKind.TheVariants as requested
+use Rattle.scene.specs.declared.uses.ShaderUse.{ShaderUse}
 use Rattle.sl_ast.specs.declared.kinds.SlKind.{SlKind}
 use Rattle.sl_ast.specs.declared.kinds.SlKind.TheVariants as written
 use Rattle.sl_ast.specs.declared.typed.Value.{Value}

@@ -1,7 +1,7 @@
 use Rattle.std.proofs.Common.{refl, ap, ◌∙◌, sym, subst, Err, map}
 use Rattle.std.proofs.lemmas.Result.{err_from_is_err_and}
 use Rattle.outside.specs.Causes.{Told}
-use Rattle.acceptance.specs.declared.scene.AcceptedScene.{AcceptedScene}
+use Rattle.acceptance.specs.declared.accepted_scene.AcceptedScene.{AcceptedScene}
 use Rattle.acceptance.specs.Accepting.{accepted}
 use Rattle.acceptance.specs.Reading.{tree_read}
 use Rattle.acceptance.specs.Answers.{Gives}

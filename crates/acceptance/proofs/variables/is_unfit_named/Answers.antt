@@ -1,7 +1,7 @@
 use Rattle.std.proofs.Common.{◌∙◌, Bool, Option, option_map, sym, ap, map}
 use Rattle.std.specs.Borrow.{Bor}
 use Rattle.fixed_math.specs.Names.{last_place}
-use Rattle.scene_state.specs.Scene.{VariableValue}
+use Rattle.scene.specs.Scene.{VariableValue}
 use Rattle.sl_ast.specs.TypedView.{local_of}
 use Rattle.sl_ast.specs.declared.typed.ParamDecl.{ParamDecl}
 use Rattle.acceptance.proofs.Declared.{unfit_with, unfit_at_place, found_in}

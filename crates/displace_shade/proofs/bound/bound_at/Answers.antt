@@ -3,7 +3,7 @@ use Rattle.std.specs.Prelude.{Some, slice_get}
 use Rattle.std.proofs.lemmas.Option.{slice_get_read}
 use Rattle.std.proofs.lemmas.List.{length-map}
 use Rattle.sl_ast.specs.TreeView.{tree_of}
-use Rattle.scene_state.specs.Scene.{IsOf}
+use Rattle.scene.specs.Scene.{IsOf}
 use Rattle.shader_binding.specs.Sets.{AreValuesOf, is_of_kind}
 use Rattle.displace_shade.specs.Shop.{set_value}
 use Rattle.displace_shade.proofs.BoundLaws.{fits_place, fits_long, fits_use, tree_found, found_law}

@@ -1,5 +1,5 @@
 use Rattle.std.proofs.Common.{refl, ◌∙◌}
-use Rattle.scene_state.specs.declared.uses.ShaderKind.TheVariants as requested
+use Rattle.scene.specs.declared.uses.ShaderKind.TheVariants as requested
 use Rattle.displace_shade.specs.Shop.{bound_value}
 use Rattle.displace_shade.proofs.BoundLaws.{of_light}
 use Rattle.displace_shade.proofs.lamps.lamp_at.Goals as goal

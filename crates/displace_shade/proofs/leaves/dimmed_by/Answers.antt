@@ -1,5 +1,5 @@
 use Rattle.std.proofs.Common.{[], sym, subst}
-use Rattle.scene_state.specs.declared.uses.ShaderKind.TheVariants as requested
+use Rattle.scene.specs.declared.uses.ShaderKind.TheVariants as requested
 use Rattle.displace_shade.specs.Diced.{Hold}
 use Rattle.displace_shade.specs.Shaded.{shaded_by}
 use Rattle.displace_shade.specs.Shop.{bound_value}

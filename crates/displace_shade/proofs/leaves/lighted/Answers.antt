@@ -1,6 +1,6 @@
 use Rattle.std.proofs.Common.{map, sym, ap, subst, ◌∙◌}
-use Rattle.scene_state.specs.Scene.{IsUse}
-use Rattle.scene_state.specs.declared.uses.ShaderKind.TheVariants as requested
+use Rattle.scene.specs.Scene.{IsUse}
+use Rattle.scene.specs.declared.uses.ShaderKind.TheVariants as requested
 use Rattle.grid_variables.proofs.Results.{if_ok}
 use Rattle.displace_shade.specs.Diced.{Hold}
 use Rattle.displace_shade.specs.Shaded.{shaded_by}

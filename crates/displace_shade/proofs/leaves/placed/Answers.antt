@@ -1,6 +1,6 @@
 use Rattle.std.proofs.Common.{[], sym, subst}
-use Rattle.scene_state.specs.Scene.{IsSomeUse}
-use Rattle.scene_state.specs.declared.uses.ShaderKind.TheVariants as requested
+use Rattle.scene.specs.Scene.{IsSomeUse}
+use Rattle.scene.specs.declared.uses.ShaderKind.TheVariants as requested
 use Rattle.displace_shade.specs.Diced.{Hold}
 use Rattle.displace_shade.specs.Shaded.{diced_names, shaded_by}
 use Rattle.shader_binding.specs.Sets.{bound_for}

@@ -1,6 +1,6 @@
 use Rattle.std.proofs.Common.{[], sym, refl, subst}
-use Rattle.scene_state.specs.Scene.{IsSomeUse}
-use Rattle.scene_state.specs.declared.uses.ShaderKind.TheVariants as requested
+use Rattle.scene.specs.Scene.{IsSomeUse}
+use Rattle.scene.specs.declared.uses.ShaderKind.TheVariants as requested
 use Rattle.grid_variables.proofs.Dicing.{first_sized}
 use Rattle.displace_shade.specs.Diced.{Hold}
 use Rattle.displace_shade.specs.Shaded.{lights_from, shaded_by, displaced}

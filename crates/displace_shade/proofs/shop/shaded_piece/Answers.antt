@@ -1,6 +1,6 @@
 use Rattle.std.proofs.Common.{ap, subst, ◌∙◌}
 use Rattle.std.proofs.lemmas.Option.{get_or_from_slice_get}
-use Rattle.scene_state.specs.Scene.{HasUses}
+use Rattle.scene.specs.Scene.{HasUses}
 use Rattle.displace_shade.specs.Shaded.{shaded}
 use Rattle.displace_shade.specs.Shop.{set_value}
 use Rattle.grid_variables.proofs.Results.{if_ok}

@@ -1,5 +1,5 @@
 use Rattle.std.proofs.Common.{◌∙◌, ap, ◌/◌, ◌%◌, ℕ, List}
-use Rattle.scene_parts.specs.Settings.{OptionValues}
+use Rattle.scene.specs.Settings.{OptionValues}
 use Rattle.filter_ppm.specs.Levels.{levels}
 use Rattle.frame_pixels.specs.Film.{pixel}
 use Rattle.frame_pixels.specs.Sampled.{FilmFormat, film_with, mean_about}

@@ -1,5 +1,5 @@
 use Rattle.std.proofs.Common.{ap}
-use Rattle.scene_state.specs.Scene.{PrimValue, FrameValue}
+use Rattle.scene.specs.Scene.{PrimValue, FrameValue}
 use Rattle.render.proofs.Drawing.{grid_hidden}
 use Rattle.render.proofs.draw.hide_grid.Goals as goal
 

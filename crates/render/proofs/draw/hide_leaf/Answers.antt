@@ -1,6 +1,6 @@
 use Rattle.std.proofs.Common.{◌≡◌, ◌∙◌, List, sym, ap, subst, map}
 use Rattle.std.specs.Prelude.{slice_get}
-use Rattle.scene_state.specs.Scene.{FrameValue}
+use Rattle.scene.specs.Scene.{FrameValue}
 use Rattle.hider.specs.declared.cell.Cell.{Cell}
 use Rattle.hider.specs.Cells.{Micropolygon, still}
 use Rattle.bound_split.specs.declared.splits.Decision.{Decision}

@@ -2,8 +2,8 @@ use Rattle.std.proofs.Common.{◌≡◌, ◌∙◌, ◌++◌, refl, ap, sym, sub
 use Rattle.std.specs.Prelude.{All}
 use Rattle.fixed_math.specs.Spots.{whole_frame}
 use Rattle.transforms.specs.declared.view.View.{View}
-use Rattle.scene_parts.specs.Settings.{AreOptions, OptionValues}
-use Rattle.scene_state.specs.Scene.{FrameValue}
+use Rattle.scene.specs.Settings.{AreOptions, OptionValues}
+use Rattle.scene.specs.Scene.{FrameValue}
 use Rattle.hider.specs.declared.fragment.Fragment.{Fragment}
 use Rattle.hider.specs.declared.sample.Sample.{Sample}
 use Rattle.hider.specs.Composite.{composite}

@@ -3,7 +3,7 @@ use Rattle.std.proofs.lemmas.List.Elements.{All-get_or}
 use Rattle.std.specs.Prelude.{OnErr}
 use Rattle.outside.specs.Frames.{whole, Adds, AddsPart, AddsFront}
 use Rattle.outside.proofs.Entries.{adds_front-err, adds-next}
-use Rattle.scene_state.specs.Scene.{FrameValue}
+use Rattle.scene.specs.Scene.{FrameValue}
 use Rattle.shader_binding.specs.Sets.{Fits}
 use Rattle.shader_binding.specs.Bindings.{FitsPrim}
 use Rattle.displace_shade.specs.Shop.{set_value}

@@ -1,6 +1,6 @@
 use Rattle.std.proofs.Common.{◌≡◌, All, sym, ap, subst, ◌∙◌}
 use Rattle.std.specs.Prelude.{Some, slice_get}
-use Rattle.scene_state.specs.Scene.{HasUses}
+use Rattle.scene.specs.Scene.{HasUses}
 use Rattle.displace_shade.specs.Shaded.{shaded}
 use Rattle.shader_binding.specs.Bindings.{FitsPrim}
 use Rattle.displace_shade.specs.Diced.{grid_value}

@@ -1,6 +1,6 @@
 use Rattle.std.proofs.Common.{◌∙◌, ap, List, [], ◌∷◌, ◌++◌}
 use Rattle.rib_reader.specs.Reading.{plain}
-use Rattle.scene_state.specs.Scene.{PrimValue, VariableValue}
+use Rattle.scene.specs.Scene.{PrimValue, VariableValue}
 use Rattle.scene_state.specs.State.{prim_of}
 use Rattle.scene_state.proofs.Laying.{prim_is}
 use Rattle.scene_state.proofs.state.State.place.Goals as goal

@@ -4,7 +4,7 @@ use Rattle.std.proofs.lemmas.List.{length-map}
 use Rattle.rib_reader.specs.Reading.{plain}
 use Rattle.mesh_basis.specs.Ranges.{are_in_range}
 use Rattle.mesh_basis.specs.Polygons.{point, piece_count}
-use Rattle.scene_state.specs.Scene.{most_prims}
+use Rattle.scene.specs.Scene.{most_prims}
 use Rattle.scene_state.specs.Variables.{face_seat}
 use Rattle.scene_state.specs.State.{with_face}
 use Rattle.scene_state.proofs.Laying.{face_near}

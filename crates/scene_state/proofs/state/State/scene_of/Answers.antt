@@ -1,7 +1,7 @@
 use Rattle.std.proofs.Common.{◌≡◌, List, subst, map, ap, ap₂, sym, ◌∙◌, rules}
 use Rattle.rib_reader.specs.Reading.{plain}
-use Rattle.scene_state.specs.Scene.{FrameValue, SceneValue, IsScene}
-use Rattle.scene_state.specs.declared.uses.ShaderUse.{ShaderUse}
+use Rattle.scene.specs.Scene.{FrameValue, SceneValue, IsScene}
+use Rattle.scene.specs.declared.uses.ShaderUse.{ShaderUse}
 use Rattle.scene_state.specs.FirstUse.{InFirstUse}
 use Rattle.scene_state.specs.Steps.{state_from}
 use Rattle.scene_state.proofs.Keeping.{state_is_scene}

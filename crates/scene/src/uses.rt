@@ -1,7 +1,7 @@
 ghost use Rattle.std.specs.Prelude.{◌≡◌, IfOk};
 
 use fixed_math::{List, NoMemory, Num, Text};
-use rib_reader::{Param, Values};
+use rib_values::{Param, Values};
 use std::alloc::Global;
 use transforms::Affine;
 
@@ -63,7 +63,7 @@ fn param_copy(alloc: Global, param: &Param) -> Result<Param, NoMemory>
 }
 
 /// A copy of parameters.
-pub(crate) fn params_copy(alloc: Global, params: &[Param]) -> Result<List<Param>, NoMemory>
+pub fn params_copy(alloc: Global, params: &[Param]) -> Result<List<Param>, NoMemory>
     ensures { IfOk result (λ p. p ≡ params.now) }
 {
     let mut copies = Vec::new(alloc);

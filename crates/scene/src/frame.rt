@@ -1,11 +1,11 @@
 ghost use Rattle.std.specs.Prelude.{◌≤◌, length};
-ghost use Rattle.scene_state.specs.Scene.{VariableValue, PrimValue, FrameValue, SceneValue, IsVariable, IsPrim, IsScene, most_prims};
+ghost use Rattle.scene.specs.Scene.{VariableValue, PrimValue, FrameValue, SceneValue, IsVariable, IsPrim, IsScene, most_prims};
 
+use crate::options::Options;
 use crate::uses::ShaderUse;
 use fixed_math::{List, Num, Text, Vec3};
 use patches::Patch;
-use rib_reader::{Kind, Values};
-use scene_parts::Options;
+use rib_values::{Kind, Values};
 use std::marker::Model;
 use transforms::{Affine, Camera};
 

@@ -5,13 +5,13 @@ use Rattle.fixed_math.specs.declared.vec3.Vec3.{Vec3}
 use Rattle.transforms.specs.Map.{Map}
 use Rattle.transforms.specs.declared.view.View.{View}
 use Rattle.patches.specs.declared.patch.Patch.{Patch}
-use Rattle.rib_reader.specs.declared.params.Kind.{Kind}
-use Rattle.rib_reader.specs.declared.params.Values.{Values}
-use Rattle.rib_reader.specs.Lists.{count, width, is_of_kind}
-use Rattle.scene_parts.specs.Settings.{OptionValues}
-use Rattle.scene_state.specs.declared.uses.ShaderKind.{ShaderKind}
-use Rattle.scene_state.specs.declared.uses.ShaderKind.TheVariants.{Surface, Displacement, Light, Volume}
-use Rattle.scene_state.specs.declared.uses.ShaderUse.{ShaderUse}
+use Rattle.rib_values.specs.declared.params.Kind.{Kind}
+use Rattle.rib_values.specs.declared.params.Values.{Values}
+use Rattle.rib_values.specs.Kinds.{count, width, is_of_kind}
+use Rattle.scene.specs.Settings.{OptionValues}
+use Rattle.scene.specs.declared.uses.ShaderKind.{ShaderKind}
+use Rattle.scene.specs.declared.uses.ShaderKind.TheVariants.{Surface, Displacement, Light, Volume}
+use Rattle.scene.specs.declared.uses.ShaderUse.{ShaderUse}
 
 -- a variable of a primitive: one value, or one at each corner of its patch
 pub record VariableValue : Type 0 where

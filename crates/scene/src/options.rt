@@ -1,4 +1,4 @@
-ghost use Rattle.scene_parts.specs.Settings.{OptionValues, AreOptions};
+ghost use Rattle.scene.specs.Settings.{OptionValues, AreOptions};
 
 use crate::filter::Filter;
 use fixed_math::Num;

@@ -1,6 +1,6 @@
 -- The options of a picture.
 use Rattle.std.specs.Prelude.{ℕ, ◌≤◌, ℤ, pos, ◌<ℤ◌}
-use Rattle.scene_parts.specs.declared.filter.Filter.{Filter}
+use Rattle.scene.specs.declared.filter.Filter.{Filter}
 
 -- the samples across and down a pixel; the pixel filter and its widths in 1/256 pixel; exposure; the greatest value
 -- of a channel, and the limits into which it is put

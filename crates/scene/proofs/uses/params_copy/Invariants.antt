@@ -1,5 +1,5 @@
 use Rattle.std.proofs.Common.{◌≡◌, take}
-use Rattle.scene_state.proofs.uses.params_copy.Given as goal
+use Rattle.scene.proofs.uses.params_copy.Given as goal
 
 abbrev pub invariant-loop-param : goal.invariant-loop-param
 invariant-loop-param l = l.copies.items ≡ take l.param-index l.params
