@@ -3,17 +3,13 @@
 
 mod accepting;
 mod bindings;
-mod code;
 mod read;
-mod refusal;
 mod scene;
 mod shaders;
-mod values;
 mod variables;
 
 pub use accepting::accept;
-pub use code::Code;
 pub use read::ReadShader;
-pub use refusal::{FileId, Refusal, in_scene};
+pub use request_binding::{Code, FileId, Refusal, in_scene};
 pub use scene::AcceptedScene;
 pub use shaders::UsedShaders;
