@@ -9,16 +9,17 @@ use Rattle.outside.specs.Library.{Files}
 use Rattle.rib_values.specs.declared.params.Param.{Param}
 use Rattle.scene.specs.declared.uses.ShaderUse.{ShaderUse}
 use Rattle.sl_ast.specs.TreeView.{tree_of}
-use Rattle.acceptance.specs.declared.refusal.Refusal.{Refusal}
+use Rattle.request_binding.specs.declared.refusal.Refusal.{Refusal}
 use Rattle.acceptance.specs.declared.read.ReadShader.{ReadShader}
 use Rattle.acceptance.specs.declared.shaders.UsedShaders.{UsedShaders}
 use Rattle.fixed_math.specs.Names.{last_place}
-use Rattle.acceptance.specs.Causes.{Cause, first_of}
+use Rattle.request_binding.specs.Causes.{Cause, first_of}
 use Rattle.acceptance.specs.Shaders.{shader_tree}
-use Rattle.acceptance.specs.Bindings.{binding_fault, cause_at, use_refused, param_name}
+use Rattle.request_binding.specs.Bindings.{binding_fault, cause_at, param_name}
+use Rattle.acceptance.specs.Bindings.{use_refused}
 use Rattle.rib_reader.specs.Holding.{is_at, is_named, holding}
 use Rattle.acceptance.specs.Reading.{IsReadOf, ArePlaced, named_use, is_among, name_of}
-use Rattle.acceptance.specs.Answers.{Because, Clears}
+use Rattle.request_binding.specs.Answers.{Because, Clears}
 use Rattle.acceptance.proofs.Firsts.{first_next, first_here}
 use Rattle.acceptance.proofs.Names.{itself}
 use Rattle.acceptance.proofs.Places.{use_placed, as_many, shader_named, within, unplaced, among_placed}

@@ -9,6 +9,5 @@ pub mod Bound
 pub mod Fetched
 pub mod SoFar
 pub mod Judged
-pub mod BoundValues
+pub mod BoundUses
 pub mod SetSame
-pub mod ParamCount

@@ -1,10 +1,6 @@
-pub mod Codes
-pub mod Causes
 pub mod Shaders
 pub mod Bindings
 pub mod PrimBindings
-pub mod Bound
 pub mod Set
 pub mod Accepting
-pub mod Answers
 pub mod Reading

@@ -13,10 +13,10 @@ use Rattle.sl_ast.specs.Typed.{Local, Tree}
 use Rattle.shader_binding.specs.Sets.{SetValue}
 use Rattle.shader_binding.specs.Predefined.{sets_predefined}
 use Rattle.shader_binding.specs.Bindings.{FitsPrim}
-use Rattle.acceptance.specs.declared.code.Code.TheVariants.{B2}
-use Rattle.acceptance.specs.declared.refusal.FileId.TheVariants.{Scene}
-use Rattle.acceptance.specs.Causes.{Cause, At, first_of}
-use Rattle.acceptance.specs.Bindings.{is_of_type}
+use Rattle.request_binding.specs.declared.code.Code.TheVariants.{B2}
+use Rattle.request_binding.specs.declared.refusal.FileId.TheVariants.{Scene}
+use Rattle.request_binding.specs.Causes.{Cause, At, first_of}
+use Rattle.request_binding.specs.Bindings.{is_of_type}
 
 -- a variable has the name of a parameter, but another kind, or it varies where the parameter is uniform
 abbrev pub is_unfit : VariableValue → Local → Bool

@@ -4,16 +4,12 @@
 mod accepted_scene;
 mod accepting;
 mod bindings;
-mod code;
 mod read;
-mod refusal;
 mod shaders;
-mod values;
 mod variables;
 
 pub use accepted_scene::AcceptedScene;
 pub use accepting::accept;
-pub use code::Code;
 pub use read::ReadShader;
-pub use refusal::{FileId, Refusal, in_scene};
+pub use request_binding::{Code, FileId, Refusal, in_scene};
 pub use shaders::UsedShaders;

@@ -3,8 +3,8 @@ use Rattle.std.specs.List.{range_with_len}
 use Rattle.std.proofs.lemmas.List.FromFn.{map-range_with_len_more}
 use Rattle.sl_ast.specs.declared.typed.Value.{Value}
 use Rattle.sl_ast.specs.TreeView.{tree_of}
-use Rattle.acceptance.specs.Bound.{bound_value}
-use Rattle.acceptance.proofs.values.bound_values.Goals as goal
+use Rattle.request_binding.specs.Bound.{bound_value}
+use Rattle.request_binding.proofs.values.bound_values.Goals as goal
 
 pub loop-index-preserved : goal.loop-index-preserved
 loop-index-preserved c =

@@ -1,9 +1,9 @@
 // Why a scene isn't accepted.
 ghost use Rattle.std.specs.Prelude.{◌≡◌, ◌≢◌, ◌≤◌, Some};
-ghost use Rattle.acceptance.specs.Answers.{Because, status_of_refusal};
-ghost use Rattle.acceptance.specs.Causes as causes;
-ghost use Rattle.acceptance.specs.declared.refusal.FileId.TheVariants.{Scene, Shader};
-ghost use Rattle.acceptance.specs.declared.refusal.Refusal.TheVariants.{ReadFault, NoMemory as OutOfMemory};
+ghost use Rattle.request_binding.specs.Answers.{Because, status_of_refusal};
+ghost use Rattle.request_binding.specs.Causes as causes;
+ghost use Rattle.request_binding.specs.declared.refusal.FileId.TheVariants.{Scene, Shader};
+ghost use Rattle.request_binding.specs.declared.refusal.Refusal.TheVariants.{ReadFault, NoMemory as OutOfMemory};
 
 use crate::code::Code;
 use fixed_math::{NoMemory, Text};
@@ -83,7 +83,7 @@ pub fn in_scene(code: Code, line: u32) -> Refusal
 }
 
 /// The refusal by a code at a line of a shader's text.
-pub(crate) fn in_shader(alloc: Global, name: &Text, code: Code, line: u32) -> Refusal
+pub fn in_shader(alloc: Global, name: &Text, code: Code, line: u32) -> Refusal
     ensures because { Because result (Some (causes.At (Shader name.now) line code)) }
     ensures held { result ≢ ReadFault }
 {

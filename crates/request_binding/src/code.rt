@@ -1,12 +1,12 @@
 // The codes of refused scenes and shaders.
 ghost use Rattle.std.specs.Prelude.{◌≡◌, ◌≤◌};
-ghost use Rattle.acceptance.specs.Codes.{text_of, status_of_code, of_lex, of_request, of_state, of_syntax, of_type};
+ghost use Rattle.request_binding.specs.Codes.{text_of, status_of_code, of_lex, of_request, of_state, of_syntax, of_type};
 
 use rib_lex::LexCode;
 use rib_reader::RibCode;
-use scene_state::StateCode;
-use sl_parser::SlCode;
-use sl_typing::TypeCode;
+use scene_parts::StateCode;
+use sl_expression_grammar::SlCode;
+use sl_expressions::TypeCode;
 
 /// The code of a refused scene or shader, as notes have it.
 #[derive(Debug, Clone, Copy, PartialEq, Eq)]
@@ -182,7 +182,7 @@ impl Code {
 }
 
 /// The code of a lexical fault.
-pub(crate) fn of_lex(code: LexCode) -> Code
+pub fn of_lex(code: LexCode) -> Code
     ensures { result ≡ of_lex code }
 {
     match code {
@@ -194,7 +194,7 @@ pub(crate) fn of_lex(code: LexCode) -> Code
 }
 
 /// The code of a request's fault.
-pub(crate) fn of_request(code: RibCode) -> Code
+pub fn of_request(code: RibCode) -> Code
     ensures { result ≡ of_request code }
 {
     match code {
@@ -207,7 +207,7 @@ pub(crate) fn of_request(code: RibCode) -> Code
 }
 
 /// The code of a fault of the graphics state.
-pub(crate) fn of_state(code: StateCode) -> Code
+pub fn of_state(code: StateCode) -> Code
     ensures { result ≡ of_state code }
 {
     match code {
@@ -232,7 +232,7 @@ pub(crate) fn of_state(code: StateCode) -> Code
 }
 
 /// The code of a fault of a shader's grammar.
-pub(crate) fn of_syntax(code: SlCode) -> Code
+pub fn of_syntax(code: SlCode) -> Code
     ensures { result ≡ of_syntax code }
 {
     match code {
@@ -243,7 +243,7 @@ pub(crate) fn of_syntax(code: SlCode) -> Code
 }
 
 /// The code of a fault of a shader's types, or of its size.
-pub(crate) fn of_type(code: TypeCode) -> Code
+pub fn of_type(code: TypeCode) -> Code
     ensures { result ≡ of_type code }
 {
     match code {

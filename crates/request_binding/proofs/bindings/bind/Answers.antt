@@ -1,7 +1,7 @@
 use Rattle.std.proofs.Common.{◌∙◌, sym}
 use Rattle.sl_ast.specs.TreeView.{tree_of}
-use Rattle.acceptance.proofs.BoundValues.{bound_fits}
-use Rattle.acceptance.proofs.bindings.bind.Goals as goal
+use Rattle.request_binding.proofs.BoundValues.{bound_fits}
+use Rattle.request_binding.proofs.bindings.bind.Goals as goal
 
 pub returns-in_ok-bound_values-in-None-clause-fits : goal.returns-in_ok-bound_values-in-None-clause-fits
 returns-in_ok-bound_values-in-None-clause-fits c =

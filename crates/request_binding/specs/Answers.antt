@@ -1,10 +1,10 @@
 -- What the code's answers say of what is accepted.
 use Rattle.std.specs.Prelude.{◌≡◌, ℕ, Option, Some, None, Result, Ok, Err}
-use Rattle.acceptance.specs.declared.refusal.Refusal.{Refusal}
-use Rattle.acceptance.specs.declared.refusal.Refusal.TheVariants as refusals
-use Rattle.acceptance.specs.Causes as causes
-use Rattle.acceptance.specs.Causes.{Cause, Reads}
-use Rattle.acceptance.specs.Codes.{status_of_code}
+use Rattle.request_binding.specs.declared.refusal.Refusal.{Refusal}
+use Rattle.request_binding.specs.declared.refusal.Refusal.TheVariants as refusals
+use Rattle.request_binding.specs.Causes as causes
+use Rattle.request_binding.specs.Causes.{Cause, Reads}
+use Rattle.request_binding.specs.Codes.{status_of_code}
 
 -- a refusal has its cause, but where the library failed or memory ran out
 abbrev pub Because : Refusal → Option Cause → Type 0

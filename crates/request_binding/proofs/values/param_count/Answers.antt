@@ -1,6 +1,6 @@
 use Rattle.std.proofs.Common.{arith}
-use Rattle.acceptance.proofs.ParamCount.{few_params}
-use Rattle.acceptance.proofs.values.param_count.Goals as goal
+use Rattle.request_binding.proofs.ParamCount.{few_params}
+use Rattle.request_binding.proofs.values.param_count.Goals as goal
 
 pub overflow_cast-result : goal.overflow_cast-result
 overflow_cast-result c =

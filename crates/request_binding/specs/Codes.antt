@@ -10,8 +10,8 @@ use Rattle.sl_expression_grammar.specs.declared.fault.SlCode.{SlCode}
 use Rattle.sl_expression_grammar.specs.declared.fault.SlCode.TheVariants as grammar
 use Rattle.sl_expressions.specs.declared.faults.TypeCode.{TypeCode}
 use Rattle.sl_expressions.specs.declared.faults.TypeCode.TheVariants as types
-use Rattle.acceptance.specs.declared.code.Code.{Code}
-use Rattle.acceptance.specs.declared.code.Code.TheVariants.{L1, L2, L3, L4, S1, S2, S3, S4, S5, N1, N2, N3, N4, N5, P1, P2, P3, T1, T2, T3, T4, T5, T6, T7, T8, T9, T10, T11, B1, B2, B3, G1, G2, G3, G4, G5, M1, M2, M3, M4, M5, M6, M7, M8, M9, M10}
+use Rattle.request_binding.specs.declared.code.Code.{Code}
+use Rattle.request_binding.specs.declared.code.Code.TheVariants.{L1, L2, L3, L4, S1, S2, S3, S4, S5, N1, N2, N3, N4, N5, P1, P2, P3, T1, T2, T3, T4, T5, T6, T7, T8, T9, T10, T11, B1, B2, B3, G1, G2, G3, G4, G5, M1, M2, M3, M4, M5, M6, M7, M8, M9, M10}
 
 abbrev pub text_of : Code → List ℕ
 text_of L1 = codes "L1"

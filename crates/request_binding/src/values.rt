@@ -3,8 +3,8 @@ ghost use Rattle.std.specs.Prelude.{◌≡◌, ◌<◌, IfOk, length, map, optio
 ghost use Rattle.rib_reader.specs.Holding.{last_named};
 ghost use Rattle.sl_ast.specs.Settled.{IsSettled};
 ghost use Rattle.sl_ast.specs.TreeView.{tree_of};
-ghost use Rattle.acceptance.specs.Bindings.{param_name};
-ghost use Rattle.acceptance.specs.Bound as spec;
+ghost use Rattle.request_binding.specs.Bindings.{param_name};
+ghost use Rattle.request_binding.specs.Bound as spec;
 
 use builtins::image;
 use fixed_math::{List, Names, NoMemory, Num, Text, Vec3};

@@ -1,7 +1,7 @@
 -- Why a command is refused.
 use Rattle.std.specs.Prelude.{ℕ, List, [], ◌∷◌, Option, Some, None, Result, Ok, Err}
-use Rattle.acceptance.specs.declared.code.Code.{Code}
-use Rattle.acceptance.specs.declared.refusal.FileId.{FileId}
+use Rattle.request_binding.specs.declared.code.Code.{Code}
+use Rattle.request_binding.specs.declared.refusal.FileId.{FileId}
 
 -- a file that isn't there, or a code at a line of the scene or of a shader
 pub data Cause : Type 0 where

@@ -1,6 +1,6 @@
 use Rattle.std.proofs.Common.{ap, ◌∙◌, sym}
-use Rattle.acceptance.proofs.BoundValues.{got, given_at}
-use Rattle.acceptance.proofs.values.given.Goals as goal
+use Rattle.request_binding.proofs.BoundValues.{got, given_at}
+use Rattle.request_binding.proofs.values.given.Goals as goal
 
 pub returns-in-Some : goal.returns-in-Some
 returns-in-Some c =
