@@ -12,9 +12,10 @@ ghost use Rattle.core_codegen.specs.Room.{expr_room, exprs_room, args_room, stmt
 ghost use Rattle.core_codegen.specs.Sizes.{ScopedExpr, ScopedExprs, ScopedArgs, ScopedStmt, ScopedAll};
 ghost use Rattle.core_codegen.specs.Slots.{slots_of, scope_of};
 
+use crate::ends::{assigned, begun, both, branched, lit, returned};
 use crate::locals::all_declared;
-use crate::nodes::{again, apply, branch, differ, into, leave, lights, literal, read, sum, turns};
-use crate::registers::{are_uniform, is_uniform, register};
+use crate::nodes::{again, apply, differ, leave, literal, read, sum, turns};
+use crate::registers::{is_uniform, register};
 use crate::slot::Scope;
 use builtins::shape_of;
 use fixed_math::NoMemory;
@@ -38,13 +39,6 @@ pub fn emit(alloc: Global, body: &[CoreStmt], scope: &[Slot]) -> Result<Vec<Node
     let temps = first_behind(body, &scope, FIRST_FREE);
     block(body, alloc, &mut code, &mut scope, FIRST_FREE, temps)?;
     Ok(code)
-}
-
-// Whether both hold: a call, so that what follows has one case and not two.
-fn both(a: bool, b: bool) -> bool
-    ensures { result ≡ a && b }
-{
-    a && b
 }
 
 // The first register behind all variables of a frame that begins at `base`: those in scope and those that its statements
@@ -85,31 +79,27 @@ fn expression(
         }
         CoreExpr::Apply(op, args) => {
             let operands = expressions(args.as_slice(), alloc, code, scope, base, next)?;
-            let to = apply(code, *op, operands, next)?;
-            Ok(to)
+            apply(code, *op, operands, next)
         }
         CoreExpr::Differ(difference, operand) => {
             let of = expression(operand, alloc, code, scope, base, next)?;
-            let to = differ(code, *difference, of, next)?;
-            Ok(to)
+            differ(code, *difference, of, next)
         }
         CoreExpr::Sum(over, args) => {
             let operands = expressions(args.as_slice(), alloc, code, scope, base, next)?;
-            let to = sum(code, *over, operands, next)?;
-            Ok(to)
+            sum(code, *over, operands, next)
         }
-        CoreExpr::Call(args, body, kind, returned) => {
+        CoreExpr::Call(args, body, kind, value) => {
             let mut inner = Scope::new(alloc);
             let passed = arguments(args.as_slice(), alloc, code, scope, base, next, &mut inner)?;
             let body = body.as_slice();
             let temps = first_behind(body, &inner, next);
             let ran = statements(body, alloc, code, &mut inner, next, temps)?;
             let end = inner.end(next);
-            let from = expression(returned, alloc, code, &inner, next, end)?;
+            let from = expression(value, alloc, code, &inner, next, end)?;
             let uniform = both(passed, both(ran, is_uniform(from)));
             let to = register(uniform, shape_of(*kind), next);
-            into(code, to, *kind, from)?;
-            Ok(to)
+            returned(code, to, *kind, from)
         }
     }
 }
@@ -163,10 +153,8 @@ fn arguments(
     let mut target = next;
     for argument in args {
         let from = expression(&argument.value, alloc, code, scope, base, target)?;
-        let to = register(argument.uniform, shape_of(argument.kind), target);
-        into(code, to, argument.kind, from)?;
-        inner.declare(argument.uniform, argument.kind)?;
-        uniform = both(uniform, both(argument.uniform, is_uniform(from)));
+        let u = begun(code, inner, argument.uniform, argument.kind, from, target)?;
+        uniform = both(uniform, u);
         target += 1;
     }
     Ok(uniform)
@@ -243,41 +231,28 @@ fn statement(
     match s {
         CoreStmt::Declare(uniform, kind, e) => {
             let from = expression(e, alloc, code, scope, base, next)?;
-            let to = register(*uniform, shape_of(*kind), next);
-            into(code, to, *kind, from)?;
-            scope.declare(*uniform, *kind)?;
-            Ok(both(*uniform, is_uniform(from)))
+            begun(code, scope, *uniform, *kind, from, next)
         }
         CoreStmt::Assign(variable, kind, e) => {
             let from = expression(e, alloc, code, scope, base, temps)?;
             let to = scope.register_of(*variable, base);
-            into(code, to, *kind, from)?;
-            Ok(both(is_uniform(to), is_uniform(from)))
+            assigned(code, to, *kind, from)
         }
-        CoreStmt::Block(body) => {
-            let uniform = block(body.as_slice(), alloc, code, scope, base, temps)?;
-            Ok(uniform)
-        }
+        CoreStmt::Block(body) => block(body.as_slice(), alloc, code, scope, base, temps),
         CoreStmt::Test(test, then, otherwise) => {
             let asked = expression(test, alloc, code, scope, base, next)?;
             let mut one = Vec::new(alloc);
             let a = block(then.as_slice(), alloc, &mut one, scope, base, temps)?;
             let mut other = Vec::new(alloc);
             let b = block(otherwise.as_slice(), alloc, &mut other, scope, base, temps)?;
-            branch(code, asked, one, other)?;
-            Ok(both(is_uniform(asked), both(a, b)))
+            branched(code, asked, one, other, both(a, b))
         }
-        CoreStmt::Repeat(repeated) => {
-            let uniform = repeat(repeated, alloc, code, scope, base, temps)?;
-            Ok(uniform)
-        }
+        CoreStmt::Repeat(repeated) => repeat(repeated, alloc, code, scope, base, temps),
         CoreStmt::Lights(word, args, body) => {
             let operands = expressions(args.as_slice(), alloc, code, scope, base, next)?;
-            let a = are_uniform(&operands);
-            let mut lit = Vec::new(alloc);
-            let b = block(body.as_slice(), alloc, &mut lit, scope, base, temps)?;
-            lights(code, *word, operands, lit)?;
-            Ok(both(a, b))
+            let mut inside = Vec::new(alloc);
+            let b = block(body.as_slice(), alloc, &mut inside, scope, base, temps)?;
+            lit(code, *word, operands, inside, b)
         }
         CoreStmt::Break => {
             leave(code)?;

@@ -3,6 +3,7 @@
 
 mod beginning;
 mod emission;
+mod ends;
 mod locals;
 mod nodes;
 mod registers;

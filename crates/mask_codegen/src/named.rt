@@ -31,23 +31,28 @@ fn name_source(source: &Source, seen: &mut Vec<Register>) -> Result<(), NoMemory
     }
 }
 
+fn name_put(to: Register, source: &Source, seen: &mut Vec<Register>) -> Result<(), NoMemory>
+    ensures { OnOk result (seen.new.items ≡ seen.old.items ++ to ∷ source_registers source.now) }
+{
+    name(seen, to)?;
+    name_source(source, seen)
+}
+
+fn name_sum(to: Register, args: &[Register], seen: &mut Vec<Register>) -> Result<(), NoMemory>
+    ensures { OnOk result (seen.new.items ≡ seen.old.items ++ to ∷ args.now) }
+{
+    name(seen, to)?;
+    name_each(seen, args)
+}
+
 #[cycle(named)]
 fn name_node(node: &Node, seen: &mut Vec<Register>) -> Result<(), NoMemory>
     ensures { OnOk result (seen.new.items ≡ seen.old.items ++ registers_of (with_node node.now c.end)) }
 {
     match node {
-        Node::Put { to, source } => {
-            name(seen, *to)?;
-            name_source(source, seen)
-        }
-        Node::Differ { to, of, .. } => {
-            name(seen, *to)?;
-            name(seen, *of)
-        }
-        Node::Sum { to, args, .. } => {
-            name(seen, *to)?;
-            name_each(seen, args.as_slice())
-        }
+        Node::Put { to, source } => name_put(*to, source, seen),
+        Node::Differ { to, of, .. } => name_each(seen, &[*to, *of]),
+        Node::Sum { to, args, .. } => name_sum(*to, args.as_slice(), seen),
         Node::If {
             test,
             then,
@@ -55,8 +60,7 @@ fn name_node(node: &Node, seen: &mut Vec<Register>) -> Result<(), NoMemory>
         } => {
             name(seen, *test)?;
             name_all(then.as_slice(), seen)?;
-            name_all(otherwise.as_slice(), seen)?;
-            Ok(())
+            name_all(otherwise.as_slice(), seen)
         }
         Node::Loop {
             ask,
@@ -68,13 +72,11 @@ fn name_node(node: &Node, seen: &mut Vec<Register>) -> Result<(), NoMemory>
             name_all(ask.as_slice(), seen)?;
             name(seen, *test)?;
             name_all(step.as_slice(), seen)?;
-            name_all(body.as_slice(), seen)?;
-            Ok(())
+            name_all(body.as_slice(), seen)
         }
         Node::Lights { args, body, .. } => {
             name_each(seen, args.as_slice())?;
-            name_all(body.as_slice(), seen)?;
-            Ok(())
+            name_all(body.as_slice(), seen)
         }
         Node::Break | Node::Continue => Ok(()),
     }

@@ -26,6 +26,14 @@ fn plus(a: u64, b: u64) -> Result<u64, NoMemory>
     }
 }
 
+// A sum of three. No memory holds a tree whose rows pass 64 bits.
+fn plus_both(a: u64, b: u64, c: u64) -> Result<u64, NoMemory>
+    ensures { IfOk result (λ n. n ≡ a + (b + c)) }
+{
+    let behind = plus(b, c)?;
+    plus(a, behind)
+}
+
 fn rows_of_classes(us: &[bool]) -> Result<u64, NoMemory>
     ensures { IfOk result (λ n. n ≡ spec.rows_of_classes us.now) }
 {
@@ -48,6 +56,28 @@ fn predefined_rows(kind: SlKind) -> u64
     }
 }
 
+// The rows of a `for`, of those of its parts.
+fn looped_rows(begun: u64, asked: u64, stepped: u64, turned: u64) -> Result<u64, NoMemory>
+    ensures { IfOk result (λ n. n ≡ begun + (asked + (stepped + turned))) }
+{
+    let turns = plus_both(asked, stepped, turned)?;
+    plus(begun, turns)
+}
+
+// The rows of a call, of those of its parts.
+fn called_rows(
+    own: u64,
+    passed: u64,
+    variables: u64,
+    ran: u64,
+    returned: u64,
+) -> Result<u64, NoMemory>
+    ensures { IfOk result (λ n. n ≡ own + (passed + (variables + (ran + returned)))) }
+{
+    let inside = plus_both(variables, ran, returned)?;
+    plus_both(own, passed, inside)
+}
+
 #[cycle(counted)]
 #[tactic(auto, using(sl_ast::proofs::TypedShown::apply_shown, sl_ast::proofs::TypedShown::call_shown))]
 fn rows_expr(e: &TreeExpr, alloc: Global, us: &[bool]) -> Result<u64, NoMemory>
@@ -58,8 +88,7 @@ fn rows_expr(e: &TreeExpr, alloc: Global, us: &[bool]) -> Result<u64, NoMemory>
         TreeExpr::Number { .. } | TreeExpr::Word { .. } | TreeExpr::Variable { .. } => Ok(own),
         TreeExpr::Apply { args, .. } => {
             let operands = rows_args(args.as_slice(), alloc, us)?;
-            let rows = plus(own, operands)?;
-            Ok(rows)
+            plus(own, operands)
         }
         TreeExpr::Call {
             args,
@@ -74,11 +103,7 @@ fn rows_expr(e: &TreeExpr, alloc: Global, us: &[bool]) -> Result<u64, NoMemory>
             let ran = rows_stmts(body.as_slice(), alloc, &mut inside)?;
             enter_all(body.as_slice(), &mut inside)?;
             let returned = rows_expr(value, alloc, &inside)?;
-            let inner = plus(ran, returned)?;
-            let called = plus(variables, inner)?;
-            let rows = plus(passed, called)?;
-            let rows = plus(own, rows)?;
-            Ok(rows)
+            called_rows(own, passed, variables, ran, returned)
         }
     }
 }
@@ -103,29 +128,18 @@ fn rows_stmt(s: &TreeStmt, alloc: Global, us: &mut Vec<bool>) -> Result<u64, NoM
 {
     match s {
         TreeStmt::Empty { .. } | TreeStmt::Break { .. } | TreeStmt::Continue { .. } => Ok(0),
-        TreeStmt::Block { body, .. } => {
-            let rows = rows_stmts(body.as_slice(), alloc, us)?;
-            Ok(rows)
-        }
-        TreeStmt::Group { body } => {
-            let rows = rows_stmts(body.as_slice(), alloc, us)?;
-            Ok(rows)
-        }
+        TreeStmt::Block { body, .. } => rows_stmts(body.as_slice(), alloc, us),
+        TreeStmt::Group { body } => rows_stmts(body.as_slice(), alloc, us),
         TreeStmt::Declare { uniform, value, .. } => {
             let rows = rows_expr(value, alloc, us)?;
-            let rows = plus(row_unless(*uniform), rows)?;
-            Ok(rows)
+            plus(row_unless(*uniform), rows)
         }
         TreeStmt::Start { uniform, .. } => Ok(row_unless(*uniform)),
-        TreeStmt::Set { value, .. } => {
-            let rows = rows_expr(value, alloc, us)?;
-            Ok(rows)
-        }
+        TreeStmt::Set { value, .. } => rows_expr(value, alloc, us),
         TreeStmt::If { test, then, .. } => {
             let asked = rows_expr(test, alloc, us)?;
             let a = rows_stmt(then, alloc, us)?;
-            let rows = plus(asked, a)?;
-            Ok(rows)
+            plus(asked, a)
         }
         TreeStmt::IfElse {
             test,
@@ -136,15 +150,12 @@ fn rows_stmt(s: &TreeStmt, alloc: Global, us: &mut Vec<bool>) -> Result<u64, NoM
             let asked = rows_expr(test, alloc, us)?;
             let a = rows_stmt(then, alloc, us)?;
             let b = rows_stmt(otherwise, alloc, us)?;
-            let branches = plus(a, b)?;
-            let rows = plus(asked, branches)?;
-            Ok(rows)
+            plus_both(asked, a, b)
         }
         TreeStmt::While { test, body, .. } => {
             let asked = rows_expr(test, alloc, us)?;
             let turned = rows_stmt(body, alloc, us)?;
-            let rows = plus(asked, turned)?;
-            Ok(rows)
+            plus(asked, turned)
         }
         TreeStmt::For {
             first,
@@ -157,16 +168,12 @@ fn rows_stmt(s: &TreeStmt, alloc: Global, us: &mut Vec<bool>) -> Result<u64, NoM
             let asked = rows_expr(test, alloc, us)?;
             let stepped = rows_stmts(step.as_slice(), alloc, us)?;
             let turned = rows_stmt(body, alloc, us)?;
-            let turn = plus(stepped, turned)?;
-            let turns = plus(asked, turn)?;
-            let rows = plus(begun, turns)?;
-            Ok(rows)
+            looped_rows(begun, asked, stepped, turned)
         }
         TreeStmt::Lights { args, body, .. } => {
             let operands = rows_args(args.as_slice(), alloc, us)?;
             let lit = rows_stmt(body, alloc, us)?;
-            let rows = plus(operands, lit)?;
-            Ok(rows)
+            plus(operands, lit)
         }
     }
 }
@@ -210,8 +217,6 @@ pub fn rows(alloc: Global, tree: &Tree) -> Result<u64, NoMemory>
     let params = rows_of_classes(&us)?;
     let defaults = rows_defaults(alloc, tree.defaults.as_slice())?;
     let body = rows_stmts(tree.body.as_slice(), alloc, &mut us)?;
-    let written = plus(defaults, body)?;
-    let declared = plus(params, written)?;
-    let rows = plus(predefined_rows(tree.kind), declared)?;
-    Ok(rows)
+    let declared = plus_both(params, defaults, body)?;
+    plus(predefined_rows(tree.kind), declared)
 }
