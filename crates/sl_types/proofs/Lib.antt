@@ -7,6 +7,7 @@ pub mod Counts
 pub mod Whole
 pub mod Placed
 pub mod Assembled
+pub mod Defaulted
 pub mod WellScope
 pub mod WellExprs
 pub mod WellCalls

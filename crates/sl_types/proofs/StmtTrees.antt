@@ -2,12 +2,18 @@
 use Rattle.std.proofs.Common.{◌≡◌, ℕ, Bool, ◌+◌, List, arith}
 use Rattle.sl_ast.specs.Typed as A
 use Rattle.sl_ast.specs.declared.kinds.LightStmt.{LightStmt}
+use Rattle.sl_ast.specs.declared.kinds.NodeType.{NodeType}
 use Rattle.sl_ast.specs.declared.kinds.SetOperator.{SetOperator}
 use Rattle.sl_ast.specs.declared.kinds.SlType.{SlType}
+use Rattle.sl_ast.specs.declared.operations.Operation.{Operation}
 use Rattle.sl_ast.specs.declared.typed.Place.{Place}
 use Rattle.sl_ast.specs.declared.typed.Variable.{Variable}
 use Rattle.sl_expressions.specs.Typed as T
 use Rattle.sl_types.specs.Inline.{Built, at, count, count_args, count_stmt, inline, inline_args, inline_stmt, inline_stmts}
+
+pub apply_tree : (fs : List Built) (n m line : ℕ) (operation : Operation) (kind : NodeType) (es : T.Exprs) (v : A.Exprs) (place : Place) → place ≡ at line n → m ≡ n + 1
+    → v ≡ inline_args fs m es → A.apply operation v kind place ≡ inline fs n (T.apply operation es kind line)
+apply_tree fs n m line operation kind es v place p q r = cc (p, q, r)
 
 pub block_tree : (fs : List Built) (n m line : ℕ) (ss : T.Stmts) (v : A.Stmts) (place : Place) → place ≡ at line n → m ≡ n + 1 → v ≡ inline_stmts fs m ss
     → A.block v place ≡ inline_stmt fs n (T.block ss line)

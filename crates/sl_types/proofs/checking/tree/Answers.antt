@@ -46,3 +46,15 @@ invariant_of-result c =
       shallow = subst (λ t. A.depth_tree t ≤ 256) (sym w) (shallow_tree s p c.requires.within);
       typed = ap well_typed w ∙ c.requires.typed;
     }
+
+pub returns : goal.returns
+returns c =
+    let s = shader_of c.args.shader.now in
+    let p = program_of c.args.program.now in
+    let known = c.as_slice-known.ensures.value in
+    let e = ap₂ (λ k ps. count_params (functions true k) (map param_of ps)) known c.as_slice-2.ensures.value in
+    let params = c.in_ok-params.ensures ∙ ap (λ ps. map declared_of (map param_of ps)) c.as_slice.ensures.value in
+    let defaults = c.in_ok-defaults.ensures.tree ∙ ap₂ (λ k ps. defaults_at (functions true k) c.place-at.new.next (map param_of ps)) known c.as_slice-2.ensures.value in
+    let body = c.in_ok-body.ensures.tree ∙ ap₂ (λ k ss. inline_stmts (functions false k) c.defaults.new.next (T.stmts (map tstmt_of ss))) known c.as_slice-3.ensures.value in
+    let next = c.in_ok-defaults.ensures.next ∙ ap (λ n. c.place-at.new.next + n) e in
+    assembled s p _ _ _ c.place-at.result c.place-at.new.next c.defaults.new.next c.place-at.ensures.place c.place-at.ensures.next params defaults next body

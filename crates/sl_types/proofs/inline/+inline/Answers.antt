@@ -1,5 +1,5 @@
 use Rattle.std.proofs.Common.{◌≡◌, ◌+◌, ℕ, List, [], IfOk, OnOk, length, map, get_or, arith, ap, ap₂, sym, subst, ◌∙◌}
-use Rattle.std.proofs.lemmas.List.{length-map}
+use Rattle.std.proofs.lemmas.List.{at_drop_more, length-map}
 use Rattle.sl_ast.specs.Typed as A
 use Rattle.sl_ast.specs.TypedView.{tree_expr, tree_stmt}
 use Rattle.sl_types.specs.Folds.{fold, fold_args, fold_stmt, fold_stmts}
@@ -12,8 +12,9 @@ use Rattle.sl_types.specs.Weights.{weighing}
 use Rattle.sl_types.proofs.Chains.{chain_shown, count_links, tree_links, links_counted, links_weighed, links_inlined, links_split, links_end, light_link, pair_tree, call_tree, on_ok}
 use Rattle.sl_types.proofs.Numbered.{extent_at}
 use Rattle.sl_types.proofs.Placed.{light_arg, light_stmt, args_before, stmts_before, args_alone, stmts_alone, args_split, stmts_split, args_end, stmts_end, args_step, stmts_step, for_tree}
-use Rattle.sl_types.proofs.StmtTrees.{block_tree, declare_tree, set_tree, test_tree, else_tree, repeat_tree, lights_tree, behind_one, behind_two, behind_three, behind_four}
+use Rattle.sl_types.proofs.StmtTrees.{apply_tree, block_tree, declare_tree, set_tree, test_tree, else_tree, repeat_tree, lights_tree, behind_one, behind_two, behind_three, behind_four}
 use Rattle.sl_types.proofs.TypedNodes.{apply_shown, call_shown, block_shown, group_shown, for_shown}
+use Rattle.sl_expressions.specs.declared.typed.TypedExpr.{TypedExpr}
 use Rattle.sl_expressions.specs.declared.typed.TypedStmt.{TypedStmt}
 use Rattle.sl_types.proofs.inline.+inline.Goals as goal
 
@@ -22,6 +23,9 @@ weighed s = fold_stmt weighing [] (tstmt_of s)
 
 abbrev counted : List Built → TypedStmt → ℕ
 counted fs s = count_stmt fs (tstmt_of s)
+
+abbrev counted_expr : List Built → TypedExpr → ℕ
+counted_expr fs e = count fs (typed_of e)
 
 pub expr-call-requires : goal.expr-call-requires
 expr-call-requires t c =
@@ -501,3 +505,130 @@ stmt-stmts-requires-in-For-2 t c =
     let f = ap (λ xs. count_stmts fs (T.stmts (map tstmt_of xs))) c.as_slice-in-For-2.ensures in
     let v = ap (λ xs. fold_stmts weighing [] (T.stmts (map tstmt_of xs))) c.as_slice-in-For-2.ensures in
     (omega (arith, c.decreases, ap (fold_stmt weighing []) shown, v), omega (arith, c.requires, ap (count_stmt fs) shown, d, f, c.place-at-in-For.ensures.next, c.in_ok-first-in-For.ensures.next, c.in_ok-test-in-For.ensures.next))
+
+pub stmts-returns-clause-next : goal.stmts-returns-clause-next
+stmts-returns-clause-next t c =
+    let fs = functions c.args.by_default c.args.known.now in
+    omega (arith, c.loop-s.invariant.next, ap (count_stmts fs) (stmts_end c.args.body.now c.loop-s.s-index c.loop-s-test.false))
+
+pub exprs-returns-clause-next : goal.exprs-returns-clause-next
+exprs-returns-clause-next t c =
+    let fs = functions c.args.by_default c.args.known.now in
+    omega (arith, c.loop-e.invariant.next, ap (count_args fs) (args_end c.args.es.now c.loop-e.e-index c.loop-e-test.false))
+
+pub expr-returns-in_ok-args-in-Apply-clause-tree : goal.expr-returns-in_ok-args-in-Apply-clause-tree
+expr-returns-in_ok-args-in-Apply-clause-tree t c =
+    let fs = functions c.args.by_default c.args.known.now in
+    let n = c.args.next.now in
+    c.apply_node.ensures ∙ apply_tree fs n _ c.in-Apply.line c.in-Apply.operation c.in-Apply.kind _ _ _ c.place-at.ensures.place c.place-at.ensures.next c.in_ok-args-in-Apply.ensures.tree
+    ∙ ap (λ xs. inline fs n (T.apply c.in-Apply.operation (T.exprs (map typed_of xs)) c.in-Apply.kind c.in-Apply.line)) c.as_slice.ensures ∙ ap (inline fs n) (sym (apply_shown c.args.e.now c.in-Apply.operation c.in-Apply.args c.in-Apply.kind c.in-Apply.line c.in-Apply.is))
+
+pub expr-returns-in_ok-args-in-Apply-clause-next : goal.expr-returns-in_ok-args-in-Apply-clause-next
+expr-returns-in_ok-args-in-Apply-clause-next t c =
+    let fs = functions c.args.by_default c.args.known.now in
+    let n = c.args.next.now in
+    behind_one n _ _ _ c.place-at.ensures.next c.in_ok-args-in-Apply.ensures.next
+    ∙ ap (λ xs. n + count fs (T.apply c.in-Apply.operation (T.exprs (map typed_of xs)) c.in-Apply.kind c.in-Apply.line)) c.as_slice.ensures ∙ ap (λ x. n + count fs x) (sym (apply_shown c.args.e.now c.in-Apply.operation c.in-Apply.args c.in-Apply.kind c.in-Apply.line c.in-Apply.is))
+
+pub expr-returns-in-Number-clause-tree : goal.expr-returns-in-Number-clause-tree
+expr-returns-in-Number-clause-tree t c =
+    let fs = functions c.args.by_default c.args.known.now in
+    let n = c.args.next.now in
+    ap (λ p. A.number c.in-Number.value p) c.place.ensures.place ∙ sym (ap (λ e. inline fs n (typed_of e)) c.in-Number.is)
+
+pub expr-returns-in-Number-clause-next : goal.expr-returns-in-Number-clause-next
+expr-returns-in-Number-clause-next t c =
+    let fs = functions c.args.by_default c.args.known.now in
+    let n = c.args.next.now in
+    c.place.ensures.next ∙ sym (ap (λ e. n + count fs (typed_of e)) c.in-Number.is)
+
+pub expr-returns-in-Variable-clause-tree : goal.expr-returns-in-Variable-clause-tree
+expr-returns-in-Variable-clause-tree t c =
+    let fs = functions c.args.by_default c.args.known.now in
+    let n = c.args.next.now in
+    ap (λ p. A.variable c.in-Variable.variable c.in-Variable.kind p) c.place-in-Variable.ensures.place ∙ sym (ap (λ e. inline fs n (typed_of e)) c.in-Variable.is)
+
+pub expr-returns-in-Variable-clause-next : goal.expr-returns-in-Variable-clause-next
+expr-returns-in-Variable-clause-next t c =
+    let fs = functions c.args.by_default c.args.known.now in
+    let n = c.args.next.now in
+    c.place-in-Variable.ensures.next ∙ sym (ap (λ e. n + count fs (typed_of e)) c.in-Variable.is)
+
+pub expr-place-requires : goal.expr-place-requires
+expr-place-requires t c =
+    let fs = functions c.args.by_default c.args.known.now in
+    omega (arith, c.requires, ap (counted_expr fs) c.in-Number.is)
+
+pub expr-place-requires-in-Word : goal.expr-place-requires-in-Word
+expr-place-requires-in-Word t c =
+    let fs = functions c.args.by_default c.args.known.now in
+    omega (arith, c.requires, ap (counted_expr fs) c.in-Word.is)
+
+pub expr-place-requires-in-Variable : goal.expr-place-requires-in-Variable
+expr-place-requires-in-Variable t c =
+    let fs = functions c.args.by_default c.args.known.now in
+    omega (arith, c.requires, ap (counted_expr fs) c.in-Variable.is)
+
+pub stmt-place-requires : goal.stmt-place-requires
+stmt-place-requires t c =
+    let fs = functions c.args.by_default c.args.known.now in
+    omega (arith, c.requires, ap (counted fs) c.in-Empty.is)
+
+pub stmt-place-requires-in-Break : goal.stmt-place-requires-in-Break
+stmt-place-requires-in-Break t c =
+    let fs = functions c.args.by_default c.args.known.now in
+    omega (arith, c.requires, ap (counted fs) c.in-Break.is)
+
+pub stmt-place-requires-in-Continue : goal.stmt-place-requires-in-Continue
+stmt-place-requires-in-Continue t c =
+    let fs = functions c.args.by_default c.args.known.now in
+    omega (arith, c.requires, ap (counted fs) c.in-Continue.is)
+
+pub stmt-place-requires-in-Start : goal.stmt-place-requires-in-Start
+stmt-place-requires-in-Start t c =
+    let fs = functions c.args.by_default c.args.known.now in
+    omega (arith, c.requires, ap (counted fs) c.in-Start.is)
+
+pub stmt-place-at-requires-in-Declare : goal.stmt-place-at-requires-in-Declare
+stmt-place-at-requires-in-Declare t c =
+    let fs = functions c.args.by_default c.args.known.now in
+    omega (arith, c.requires, ap (counted fs) c.in-Declare.is)
+
+pub stmt-place-at-requires-in-Set : goal.stmt-place-at-requires-in-Set
+stmt-place-at-requires-in-Set t c =
+    let fs = functions c.args.by_default c.args.known.now in
+    omega (arith, c.requires, ap (counted fs) c.in-Set.is)
+
+pub stmt-place-at-requires-in-If : goal.stmt-place-at-requires-in-If
+stmt-place-at-requires-in-If t c =
+    let fs = functions c.args.by_default c.args.known.now in
+    omega (arith, c.requires, ap (counted fs) c.in-If.is)
+
+pub stmt-place-at-requires-in-IfElse : goal.stmt-place-at-requires-in-IfElse
+stmt-place-at-requires-in-IfElse t c =
+    let fs = functions c.args.by_default c.args.known.now in
+    omega (arith, c.requires, ap (counted fs) c.in-IfElse.is)
+
+pub stmt-place-at-requires-in-While : goal.stmt-place-at-requires-in-While
+stmt-place-at-requires-in-While t c =
+    let fs = functions c.args.by_default c.args.known.now in
+    omega (arith, c.requires, ap (counted fs) c.in-While.is)
+
+pub stmt-place-at-requires-in-Lights : goal.stmt-place-at-requires-in-Lights
+stmt-place-at-requires-in-Lights t c =
+    let fs = functions c.args.by_default c.args.known.now in
+    omega (arith, c.requires, ap (counted fs) c.in-Lights.is)
+
+pub stmt-place-at-requires : goal.stmt-place-at-requires
+stmt-place-at-requires t c =
+    let fs = functions c.args.by_default c.args.known.now in
+    omega (arith, c.requires, ap (counted fs) c.in-Block.is)
+
+pub stmt-place-at-requires-in-For : goal.stmt-place-at-requires-in-For
+stmt-place-at-requires-in-For t c =
+    let fs = functions c.args.by_default c.args.known.now in
+    omega (arith, c.requires, ap (counted fs) c.in-For.is)
+
+pub chain-overflow_sub-number : goal.chain-overflow_sub-number
+chain-overflow_sub-number t c =
+    omega (arith, c.loop-link.invariant.number, at_drop_more (λ xs. length xs) c.args.links.now c.loop-link.link-index c.link-item.result c.loop-link-test.true)
