@@ -14,7 +14,7 @@ use Rattle.builtins.specs.Values.{shape_of}
 use Rattle.grid_code.specs.declared.slot.Slot.{Slot}
 use Rattle.sl_meaning.specs.Core as core
 use Rattle.sl_meaning.specs.Lowered.{slots}
-use Rattle.grid_machine.specs.Run.{same_class}
+use Rattle.place_rows.specs.Layout.{same_class}
 use Rattle.shader_binding.specs.Sets.{AreValuesOf}
 use Rattle.grid_variables.specs.Points.{Leaf, own_u, own_v}
 use Rattle.grid_variables.specs.Variables.{numbers_of, corners_of, between, last_passing, variable_named, bound_variable, text_of, value_by, value_or, values_at}

@@ -36,7 +36,8 @@ use Rattle.shader_binding.specs.Sets.{bound_with}
 use Rattle.grid_variables.specs.Points.{Leaf}
 use Rattle.grid_variables.specs.Variables.{values_at}
 use Rattle.shader_binding.specs.Bindings.{FitVariables}
-use Rattle.grid_machine.specs.Run.{row_length, begun, lines_given, Leaves}
+use Rattle.place_rows.specs.Layout.{row_length}
+use Rattle.grid_machine.specs.Run.{begun, lines_given, Leaves}
 use Rattle.grid_rows.specs.Rows.{AreRows, AreRowable, values_of}
 use Rattle.displace_shade.specs.Rows.{slot_of}
 use Rattle.grid_rows.specs.Parameters.{ParameterValues}

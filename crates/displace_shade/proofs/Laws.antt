@@ -33,7 +33,8 @@ use Rattle.core_codegen.specs.Correct.{Answers}
 use Rattle.grid_variables.specs.Points.{Leaf, columns, rows, lines}
 use Rattle.shader_binding.specs.Sets.{Bound}
 use Rattle.displace_shade.specs.Shaded.{spaces_of, around}
-use Rattle.grid_machine.specs.Run.{row_length, height, rows_of, same_class, params_of, step_names, uniform_inputs, varying_inputs, begun, lines_given, Leaves}
+use Rattle.place_rows.specs.Layout.{row_length, height, same_class}
+use Rattle.grid_machine.specs.Run.{rows_of, params_of, step_names, uniform_inputs, varying_inputs, begun, lines_given, Leaves}
 use Rattle.grid_rows.specs.Rows.{heights, AreRows, values_of, triple_in}
 use Rattle.displace_shade.specs.Rows.{HoldNames, written_order, uniform_values, varying_values, slot_of}
 use Rattle.grid_variables.specs.Places.{point_count, over, IsSized, ArePlaces}

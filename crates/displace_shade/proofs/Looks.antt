@@ -13,7 +13,8 @@ use Rattle.grid_code.specs.Names.{reg}
 use Rattle.grid_code.specs.Masked.{State, same_shape, read, write}
 use Rattle.grid_code.specs.Shapes.{register_class, register_shape}
 use Rattle.core_codegen.proofs.Relation.{any_true}
-use Rattle.grid_machine.specs.Run.{height, assigned, loaded}
+use Rattle.place_rows.specs.Layout.{height}
+use Rattle.grid_machine.specs.Run.{assigned, loaded}
 use Rattle.grid_machine.specs.Run as run
 use Rattle.grid_rows.specs.Rows.{value_in, HoldList}
 

@@ -21,7 +21,8 @@ use Rattle.sl_meaning.specs.Environment.{Around}
 use Rattle.sl_meaning.specs.Lowered.{body_of, slots}
 use Rattle.sl_meaning.specs.Runs.{Names, most_turns, beginning, ran}
 use Rattle.core_codegen.specs.Correct.{IsGround, Holds, Begins, Means}
-use Rattle.grid_machine.specs.Run.{row_length, height, written_names, HoldRows, begun, Leaves}
+use Rattle.place_rows.specs.Layout.{row_length, height}
+use Rattle.grid_machine.specs.Run.{written_names, HoldRows, begun, Leaves}
 use Rattle.grid_machine.specs.Run as run
 use Rattle.displace_shade.specs.Rows.{HoldNames, written_order, uniform_values, varying_values}
 use Rattle.grid_rows.specs.Rows.{AreRows, values_of}

@@ -23,7 +23,7 @@ use Rattle.shader_binding.specs.Sets.{SetValue}
 use Rattle.grid_variables.specs.Points.{Leaf, columns, rows, sight, lines}
 use Rattle.grid_variables.specs.Kept.{moved, opacity}
 use Rattle.displace_shade.specs.Shaded.{placed, GridValue, shaded_names, shaded}
-use Rattle.grid_machine.specs.Run.{row_length}
+use Rattle.place_rows.specs.Layout.{row_length}
 use Rattle.displace_shade.specs.Rows.{HoldNames, written_order}
 use Rattle.grid_variables.specs.Places.{point_count, over, IsSized}
 use Rattle.grid_rows.specs.Rows.{triple_in}

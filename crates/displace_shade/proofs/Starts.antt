@@ -29,7 +29,8 @@ use Rattle.sl_meaning.specs.Runs as runs
 use Rattle.core_codegen.specs.Compile.{slot_at}
 use Rattle.core_codegen.proofs.Relation.{place_small}
 use Rattle.shader_binding.specs.Sets.{AreValuesOf}
-use Rattle.grid_machine.specs.Run.{row_length, same_class, params_of, given_names, step_names, uniform_inputs, varying_inputs, assigned, loaded, started, fresh, begun}
+use Rattle.place_rows.specs.Layout.{row_length, same_class}
+use Rattle.grid_machine.specs.Run.{params_of, given_names, step_names, uniform_inputs, varying_inputs, assigned, loaded, started, fresh, begun}
 use Rattle.grid_machine.specs.Run as run
 use Rattle.grid_rows.specs.Rows.{HoldList, values_of}
 use Rattle.displace_shade.specs.Rows.{given_order, uniform_values, varying_values, slot_of}

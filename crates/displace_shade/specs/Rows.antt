@@ -10,7 +10,7 @@ use Rattle.builtins.specs.Values.{shape_of}
 use Rattle.grid_code.specs.declared.slot.Slot.{Slot}
 use Rattle.sl_meaning.specs.Core as core
 use Rattle.sl_meaning.specs.Runs.{Names}
-use Rattle.grid_machine.specs.Run.{height}
+use Rattle.place_rows.specs.Layout.{height}
 use Rattle.grid_rows.specs.Rows.{value_in, values_of}
 
 -- the varying variables that a kind is given: those that it reads alone, and then those that it writes

@@ -18,7 +18,8 @@ use Rattle.grid_machine.specs.declared.frame.Frame.{Frame}
 use Rattle.grid_machine.specs.declared.inputs.Inputs.{Inputs}
 use Rattle.grid_machine.specs.declared.machine.Machine.{Machine}
 use Rattle.grid_machine.specs.Ended.{ended_under}
-use Rattle.grid_machine.specs.Run.{row_length, value_in, written_names, begun, HoldRows, Leaves}
+use Rattle.place_rows.specs.Layout.{row_length}
+use Rattle.grid_machine.specs.Run.{value_in, written_names, begun, HoldRows, Leaves}
 use Rattle.grid_machine.specs.State.{state_of, lit_ground, Near, NearIn, Kept}
 
 module _ (ls : List Asked) (f0 : Frame) (m k : Machine) (kind : SlKind) (params : List Slot) (vs : List Value) (rows : List ℤ) (x : Block) (w0 : Ground) (c : ℕ)

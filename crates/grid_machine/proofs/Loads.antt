@@ -11,7 +11,8 @@ use Rattle.grid_code.specs.declared.register_set.RegisterSet.{RegisterSet}
 use Rattle.grid_code.specs.Shapes.{register_shape}
 use Rattle.grid_code.specs.Masked.{State, write}
 use Rattle.grid_code.proofs.Both.{left, right}
-use Rattle.grid_machine.specs.Run.{height, rows_of, value_in, assigned, loaded}
+use Rattle.place_rows.specs.Layout.{height}
+use Rattle.grid_machine.specs.Run.{rows_of, value_in, assigned, loaded}
 use Rattle.grid_machine.specs.State.{Near}
 use Rattle.grid_machine.proofs.Near.{near_on, write_near}
 

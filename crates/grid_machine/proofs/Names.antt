@@ -11,7 +11,8 @@ use Rattle.grid_code.specs.declared.slot.Slot.{Slot}
 use Rattle.grid_code.specs.Names.{reg, name_at, lit_at, first_free}
 use Rattle.grid_code.specs.Uses.{names_at, kind_registers, registers_from, given_registers}
 use Rattle.grid_code.proofs.Both.{both, left, right}
-use Rattle.grid_machine.specs.Run.{is_input, same_class, params_of, given_names, written_names, step_names, uniform_inputs, varying_inputs}
+use Rattle.place_rows.specs.Layout.{same_class}
+use Rattle.grid_machine.specs.Run.{is_input, params_of, given_names, written_names, step_names, uniform_inputs, varying_inputs}
 use Rattle.grid_machine.proofs.Loads.{item_passes}
 
 module _ (p : Register → Bool) where

@@ -6,7 +6,7 @@ use Rattle.grid_code.specs.declared.register_set.RegisterSet.{RegisterSet}
 use Rattle.grid_code.specs.Uses.{has}
 use Rattle.grid_code.specs.Masked.{State, read, write}
 use Rattle.grid_machine.specs.declared.machine.Machine.{Machine}
-use Rattle.grid_machine.specs.Run.{row_length}
+use Rattle.place_rows.specs.Layout.{row_length}
 use Rattle.grid_machine.specs.State.{Near, Kept, NearIn}
 use Rattle.grid_machine.proofs.Near.{near_on, read_near, write_near}
 use Rattle.grid_machine.proofs.Kept.{NearBy}

@@ -1,6 +1,6 @@
 -- What a run of code is given, the state that it begins with, and what it leaves. Rows of numbers have the least multiple of eight elements
 -- that holds the points of the grid; a triple takes three, and any other value one.
-use Rattle.std.specs.Prelude.{ℕ, ◌+◌, ◌*◌, ◌/◌, ◌<◌, ◌≡◌, ℤ, pos, Bool, true, false, not, ◌&&◌, cond, List, [], ◌∷◌, ◌++◌, map, length, get_or, refl}
+use Rattle.std.specs.Prelude.{ℕ, ◌+◌, ◌*◌, ◌<◌, ◌≡◌, ℤ, pos, Bool, true, false, not, ◌&&◌, cond, List, [], ◌∷◌, ◌++◌, map, length, get_or, refl}
 use Rattle.std.specs.List.{filter}
 use Rattle.fixed_math.specs.Axes.{origin}
 use Rattle.sl_ast.specs.declared.kinds.Predefined.TheVariants as names
@@ -20,13 +20,7 @@ use Rattle.grid_code.specs.declared.slot.Slot.{Slot}
 use Rattle.grid_code.specs.Names.{reg, name_at, first_free}
 use Rattle.grid_code.specs.Shapes.{register_shape}
 use Rattle.grid_code.specs.Masked.{State, read, write}
-
-abbrev pub row_length : ℕ → ℕ
-row_length c = (c + 7) / 8 * 8
-
-abbrev pub height : Shape → ℕ
-height shapes.Triple = 3
-height _ = 1
+use Rattle.place_rows.specs.Layout.{row_length, height, same_class}
 
 abbrev pub rows_of : List Register → ℕ
 rows_of [] = 0
@@ -37,10 +31,6 @@ abbrev pub value_in : Shape → List ℤ → ℕ → ℕ → Value
 value_in shapes.Number rows w at = Number (get_or rows at (pos 0))
 value_in shapes.Triple rows w at = Triple (record { x = get_or rows at (pos 0); y = get_or rows (at + w) (pos 0); z = get_or rows (at + 2 * w) (pos 0) })
 value_in shapes.Word rows w at = Word []
-
-abbrev pub same_class : Bool → Bool → Bool
-same_class true b = b
-same_class false b = not b
 
 -- the registers of the parameters of a class in order, the first of all parameters in register n
 abbrev pub params_of : Bool → ℕ → List Slot → List Register
@@ -123,7 +113,7 @@ HoldRows w rows i (r ∷ rs) at s = (value_in (register_shape r) rows w (at + i)
 abbrev pub Leaves : SlKind → ℕ → List ℤ → State → Type 0
 Leaves kind c out s = (i : ℕ) → i < c → HoldRows (row_length c) out i (written_names kind) 0 s
 
--- worked: a surface is given P, N, Ng, I, u, v, s, t, Cs, Os, dPdu and dPdv; a displacement P and N behind the others; 81 points have rows of 88
+-- worked: a surface is given P, N, Ng, I, u, v, s, t, Cs, Os, dPdu and dPdv; a displacement P and N behind the others
 abbrev of_surface : length (given_names Surface) ≡ 12
 of_surface = refl
 
@@ -132,6 +122,3 @@ of_displacement = refl
 
 abbrev of_volume : rows_of (given_names Volume) ≡ 12
 of_volume = refl
-
-abbrev of_nine_by_nine : row_length 81 ≡ 88
-of_nine_by_nine = refl

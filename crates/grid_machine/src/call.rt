@@ -12,7 +12,8 @@ ghost use Rattle.grid_machine.specs.Asked.{IsLight, asked_all};
 ghost use Rattle.grid_machine.specs.Ended.{ended, ended_under};
 ghost use Rattle.grid_machine.specs.Fits.{OfCode};
 ghost use Rattle.grid_machine.specs.Lamps.{asked_by};
-ghost use Rattle.grid_machine.specs.Run.{row_length, rows_of, uniform_inputs, varying_inputs, written_names, lines_given, fresh, begun, Leaves};
+ghost use Rattle.place_rows.specs.Layout.{row_length};
+ghost use Rattle.grid_machine.specs.Run.{rows_of, uniform_inputs, varying_inputs, written_names, lines_given, fresh, begun, Leaves};
 ghost use Rattle.grid_machine.specs.State.{state_of, lines_of, NearIn, Whole};
 
 use crate::inputs::{Inputs, Lights};

@@ -11,7 +11,8 @@ ghost use Rattle.grid_code.specs.Names.{name_at};
 ghost use Rattle.grid_code.specs.Shapes.{register_shape};
 ghost use Rattle.grid_code.specs.Uses.{has, names_at};
 ghost use Rattle.grid_code.specs.View.{block_of};
-ghost use Rattle.grid_machine.specs.Run.{row_length, rows_of, uniform_inputs, varying_inputs, started, fresh, begun};
+ghost use Rattle.place_rows.specs.Layout.{row_length};
+ghost use Rattle.grid_machine.specs.Run.{rows_of, uniform_inputs, varying_inputs, started, fresh, begun};
 ghost use Rattle.place_values.specs.Cells.{is_known};
 ghost use Rattle.grid_machine.specs.State.{state_of, lit_ground, texts_of, NearIn, HasRegister, ReadyIn, Whole, Kept};
 

@@ -3,6 +3,7 @@ ghost use Rattle.std.specs.Prelude.{◌≡◌, ◌+◌, ◌<◌, ◌++◌, IfOk,
 ghost use Rattle.builtins.specs.Values.{shape_of};
 ghost use Rattle.grid_code.specs.Names.{reg, first_free};
 ghost use Rattle.grid_code.specs.Uses.{registers_from};
+ghost use Rattle.place_rows.specs.Layout.{same_class};
 ghost use Rattle.grid_machine.specs.Run as spec;
 
 use builtins::{Shape, shape_of};
@@ -79,7 +80,7 @@ fn register(uniform: bool, shape: Shape, number: u32) -> Register
 }
 
 fn is_same(a: bool, b: bool) -> bool
-    ensures { result ≡ spec.same_class a b }
+    ensures { result ≡ same_class a b }
 {
     a == b
 }

@@ -12,7 +12,8 @@ ghost use Rattle.grid_code.specs.Shapes.{register_shape};
 ghost use Rattle.place_rows.specs.Banks.{size, held};
 ghost use Rattle.place_values.specs.Cells.{value_of, is_known};
 ghost use Rattle.grid_code.specs.Uses.{has};
-ghost use Rattle.grid_machine.specs.Run.{height, rows_of, value_in, assigned, loaded};
+ghost use Rattle.place_rows.specs.Layout.{height};
+ghost use Rattle.grid_machine.specs.Run.{rows_of, value_in, assigned, loaded};
 ghost use Rattle.grid_machine.specs.State.{state_of, texts_of, NearIn, HasRegister, Whole, Kept};
 
 use crate::machine::Machine;

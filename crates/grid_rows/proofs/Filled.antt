@@ -12,7 +12,7 @@ use Rattle.sl_ast.specs.declared.typed.Value.TheVariants.{Number, Triple, Word}
 use Rattle.builtins.specs.declared.shape.Shape.{Shape}
 use Rattle.builtins.specs.declared.shape.Shape.TheVariants as shapes
 use Rattle.builtins.specs.Shapes.{shape}
-use Rattle.grid_machine.specs.Run.{row_length, height}
+use Rattle.place_rows.specs.Layout.{row_length, height}
 use Rattle.grid_rows.specs.Rows.{value_in, HoldList, heights, AreRows, row_of, triple_rows, value_rows}
 
 -- ---- steps of loops

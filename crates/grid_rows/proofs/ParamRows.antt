@@ -15,7 +15,7 @@ use Rattle.builtins.specs.Shapes.{shape}
 use Rattle.grid_code.specs.declared.slot.Slot.{Slot}
 use Rattle.grid_variables.specs.Points.{Leaf}
 use Rattle.grid_variables.specs.Variables.{spread, bound_variable, text_of, value_by, value_or, values_at}
-use Rattle.grid_machine.specs.Run.{row_length, same_class}
+use Rattle.place_rows.specs.Layout.{row_length, same_class}
 use Rattle.grid_rows.specs.Rows.{HoldList, heights, AreRows, AreRowable, row_of, triple_rows, value_rows, values_of}
 use Rattle.grid_variables.specs.Places.{point_count, over}
 use Rattle.grid_rows.specs.Given.{rows_by, rows_or, param_rows}

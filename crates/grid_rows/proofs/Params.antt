@@ -5,7 +5,7 @@ use Rattle.std.proofs.lemmas.Bool.{cond-true, cond-false}
 use Rattle.sl_ast.specs.declared.typed.Value.{Value}
 use Rattle.sl_ast.specs.declared.typed.Value.TheVariants.{Number}
 use Rattle.grid_code.specs.declared.slot.Slot.{Slot}
-use Rattle.grid_machine.specs.Run.{same_class}
+use Rattle.place_rows.specs.Layout.{same_class}
 use Rattle.sl_ast.specs.declared.kinds.SlType.TheVariants.{Float}
 use Rattle.sl_ast.specs.Typed.{Local}
 use Rattle.grid_variables.specs.Points.{Leaf}

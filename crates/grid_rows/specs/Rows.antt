@@ -10,7 +10,7 @@ use Rattle.builtins.specs.declared.shape.Shape.{Shape}
 use Rattle.builtins.specs.declared.shape.Shape.TheVariants as shapes
 use Rattle.builtins.specs.Shapes.{shape}
 use Rattle.grid_code.specs.declared.slot.Slot.{Slot}
-use Rattle.grid_machine.specs.Run.{row_length, height, same_class}
+use Rattle.place_rows.specs.Layout.{row_length, height, same_class}
 
 -- the value of that shape at place i of rows of length w, from row k on; no text stands in rows
 abbrev pub value_in : Shape → List ℤ → ℕ → ℕ → ℕ → Value

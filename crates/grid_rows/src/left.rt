@@ -1,6 +1,6 @@
 // What runs of shaders leave.
 ghost use Rattle.std.specs.Prelude.{◌≡◌, ◌≤◌, ◌<◌, ◌+◌, ◌*◌, pos, length, get_or, IfOk};
-ghost use Rattle.grid_machine.specs.Run.{row_length};
+ghost use Rattle.place_rows.specs.Layout.{row_length};
 ghost use Rattle.grid_rows.specs.Rows.{AreRaws, triple_in};
 ghost use Rattle.grid_variables.specs.Places.{point_count, over};
 

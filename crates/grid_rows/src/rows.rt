@@ -1,7 +1,7 @@
 // Rows of numbers, as code takes them.
 ghost use Rattle.std.specs.Prelude.{◌≡◌, ◌≤◌, ◌-◌, ◌++◌, pos, length, map, replicate, IfOk};
 ghost use Rattle.fixed_math.specs.Axes.{part_of};
-ghost use Rattle.grid_machine.specs.Run.{row_length};
+ghost use Rattle.place_rows.specs.Layout.{row_length};
 ghost use Rattle.grid_rows.specs.Rows.{row_of, triple_rows, value_rows, AreRaws};
 
 use bumpalo::Bump;

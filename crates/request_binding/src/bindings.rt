@@ -14,7 +14,7 @@ use crate::refusal::{Refusal, in_scene};
 use crate::values::bound_values;
 use fixed_math::{List, Names, NoMemory, Text};
 use rib_reader::{Kind, Param, holding};
-use scene_state::{ShaderKind, ShaderUse};
+use scene::{ShaderKind, ShaderUse};
 use sl_ast::{SlKind, SlType, Tree, Value};
 use std::alloc::Global;
 

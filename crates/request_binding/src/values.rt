@@ -8,8 +8,8 @@ ghost use Rattle.request_binding.specs.Bound as spec;
 
 use builtins::image;
 use fixed_math::{List, Names, NoMemory, Num, Text, Vec3};
-use rib_reader::{Param, Values};
-use scene_state::ShaderUse;
+use rib_values::{Param, Values};
+use scene::ShaderUse;
 use sl_ast::{SlType, Tree, Value};
 use sl_evaluation::default_value;
 use std::alloc::Global;

@@ -2,7 +2,8 @@ use Rattle.std.proofs.Common.{length, map, refl, ap, ◌∙◌, [], ◌∷◌, �
 use Rattle.sl_ast.specs.Names.{is_light}
 use Rattle.sl_ast.specs.TreeView.{tree_of}
 use Rattle.sl_ast.specs.declared.typed.Value.TheVariants.{Number}
-use Rattle.grid_machine.specs.Run.{row_length, rows_of, written_names, lines_given}
+use Rattle.place_rows.specs.Layout.{row_length}
+use Rattle.grid_machine.specs.Run.{rows_of, written_names, lines_given}
 use Rattle.dice.proofs.Directions.{cells_from}
 use Rattle.core_codegen.specs.Correct.{Answers}
 use Rattle.displace_shade.specs.Lamps.{lamp_light, lamp_asked}

@@ -1,7 +1,8 @@
 use Rattle.std.proofs.Common.{length, refl, sym, ap, ◌∙◌, subst}
 use Rattle.sl_ast.specs.Names.{is_light}
 use Rattle.sl_ast.specs.TreeView.{tree_of}
-use Rattle.grid_machine.specs.Run.{row_length, rows_of, written_names}
+use Rattle.place_rows.specs.Layout.{row_length}
+use Rattle.grid_machine.specs.Run.{rows_of, written_names}
 use Rattle.sl_ast.specs.declared.kinds.SlKind.TheVariants.{Volume}
 use Rattle.grid_rows.specs.Rows.{AreRows, triple_in}
 use Rattle.displace_shade.specs.Rows.{varying_values}

@@ -2,7 +2,8 @@ use Rattle.std.proofs.Common.{length, refl, ap, ◌∙◌, [], ◌∷◌, ◌++�
 use Rattle.sl_ast.specs.Names.{is_light}
 use Rattle.sl_ast.specs.TreeView.{tree_of}
 use Rattle.sl_ast.specs.declared.typed.Value.TheVariants.{Number}
-use Rattle.grid_machine.specs.Run.{row_length, rows_of, written_names}
+use Rattle.place_rows.specs.Layout.{row_length}
+use Rattle.grid_machine.specs.Run.{rows_of, written_names}
 use Rattle.grid_variables.specs.Points.{lines}
 use Rattle.grid_variables.specs.Variables.{values_at}
 use Rattle.grid_rows.specs.Given.{param_rows, displacement_rows}

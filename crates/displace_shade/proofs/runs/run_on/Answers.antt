@@ -2,7 +2,8 @@ use Rattle.std.proofs.Common.{◌≡◌, ◌*◌, false, length, map, refl, sym,
 use Rattle.sl_ast.specs.Names.{is_light}
 use Rattle.builtins.specs.Shapes.{shape}
 use Rattle.grid_code.specs.Shapes.{register_shape}
-use Rattle.grid_machine.specs.Run.{row_length, rows_of, uniform_inputs, varying_inputs, written_names}
+use Rattle.place_rows.specs.Layout.{row_length}
+use Rattle.grid_machine.specs.Run.{rows_of, uniform_inputs, varying_inputs, written_names}
 use Rattle.grid_variables.specs.Points.{columns, rows}
 use Rattle.grid_variables.specs.Places.{point_count}
 use Rattle.displace_shade.specs.Shaded.{spaces_of}

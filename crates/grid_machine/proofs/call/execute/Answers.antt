@@ -3,7 +3,8 @@ use Rattle.grid_code.specs.Shapes.{register_shape}
 use Rattle.grid_code.specs.Uses.{has, names_at}
 use Rattle.grid_code.specs.View.{block_of}
 use Rattle.grid_machine.specs.Lamps.{asked_by}
-use Rattle.grid_machine.specs.Run.{row_length, rows_of, uniform_inputs, varying_inputs, written_names, lines_given}
+use Rattle.place_rows.specs.Layout.{row_length}
+use Rattle.grid_machine.specs.Run.{rows_of, uniform_inputs, varying_inputs, written_names, lines_given}
 use Rattle.grid_machine.proofs.Names.{names_pass, uniforms_pass, varyings_pass, written_pass}
 use Rattle.grid_machine.proofs.Begins.{all_by_frame, known_by_frame, ready_by_frame, ground_by}
 use Rattle.grid_machine.proofs.Ends.{near_end}

@@ -1,7 +1,8 @@
 use Rattle.std.proofs.Common.{◌*◌, map, sym, ap, ◌∙◌}
 use Rattle.grid_machine.specs.Asked.{asked_all}
 use Rattle.grid_machine.specs.Lamps.{asked_by}
-use Rattle.grid_machine.specs.Run.{row_length, rows_of, written_names, lines_given}
+use Rattle.place_rows.specs.Layout.{row_length}
+use Rattle.grid_machine.specs.Run.{rows_of, written_names, lines_given}
 use Rattle.grid_machine.proofs.Ends.{leaves_by}
 use Rattle.grid_machine.proofs.call.unload.Goals as goal
 

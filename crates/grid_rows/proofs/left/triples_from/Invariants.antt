@@ -1,5 +1,5 @@
 use Rattle.std.proofs.Common.{◌≡◌}
-use Rattle.grid_machine.specs.Run.{row_length}
+use Rattle.place_rows.specs.Layout.{row_length}
 use Rattle.grid_variables.specs.Places.{over}
 use Rattle.grid_rows.specs.Rows.{triple_in}
 use Rattle.grid_rows.proofs.left.triples_from.Given as goal

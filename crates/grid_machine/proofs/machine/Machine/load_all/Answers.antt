@@ -5,7 +5,8 @@ use Rattle.grid_code.specs.declared.code.Register.{Register}
 use Rattle.grid_code.specs.declared.code.Register.TheVariants.{Uniform}
 use Rattle.grid_code.specs.Shapes.{register_shape}
 use Rattle.grid_code.specs.Uses.{has}
-use Rattle.grid_machine.specs.Run.{height, rows_of, value_in}
+use Rattle.place_rows.specs.Layout.{height}
+use Rattle.grid_machine.specs.Run.{rows_of, value_in}
 use Rattle.grid_machine.specs.State.{state_of}
 use Rattle.grid_machine.proofs.Kept.{kept_on, has_kept, written_kept}
 use Rattle.grid_machine.proofs.Loads.{Loading, item_passes, room_after, loading_next, loaded_all}
