@@ -1,6 +1,6 @@
 -- The laws of runs, for a shader that is bound; and the shader of a use in its set.
 use Rattle.std.proofs.Common.{◌≡◌, ℕ, zero, suc, ◌*◌, ◌<◌, Bool, true, false, ℤ, List, [], ◌∷◌, length, map, get_or, refl, sym, ap, ◌∙◌, subst, arith}
-use Rattle.std.specs.Prelude.{not, ◌&&◌, Some, slice_get, option_map, unwrap_or}
+use Rattle.std.specs.Prelude.{not, ◌&&◌, Some, slice_get, option_map, unwrap_or, Result, Ok, Err, OnOk}
 use Rattle.std.specs.List.{list_all}
 use Rattle.std.proofs.lemmas.Bool.{and_parts, false≢true}
 use Rattle.std.proofs.lemmas.List.{length-map, get_or-map}
@@ -153,6 +153,11 @@ leaves_as k k' us m m' w w' vr vr' out out' sp sp' lamps spare ek em ew ev eo es
     let d = subst (λ z. Left k' us m' w' z out sp lamps) ev c in
     let e = subst (λ z. Left k' us m' w' vr' z sp lamps) eo d in
     subst (λ z. Left k' us m' w' vr' out' z lamps) es e
+
+-- what follows from what a call without a value leaves
+pub on_ok : {A E : Type 0} {P Q : Type 0} (r : Result A E) → (P → Q) → OnOk r P → OnOk r Q
+on_ok (Ok x) f h = f h
+on_ok (Err e) f h = h
 
 -- ---- the shader of a use
 -- a tree is there

@@ -1,4 +1,5 @@
 -- What the variables at the points are behind each shader, by the rows that its code leaves.
+use Rattle.std.specs.Prelude.{Result, Ok, Err, IfOk}
 use Rattle.std.proofs.Common.{◌≡◌, ℕ, ◌<◌, true, false, ℤ, List, length, map, get_or, refl, sym, ap, ◌∙◌, subst, arith}
 use Rattle.std.proofs.lemmas.Bool.{cond-false, false≢true}
 use Rattle.std.proofs.lemmas.List.{get_or-map, length-map}
@@ -153,3 +154,10 @@ grid_is l s uses d g h lp lc lo ec er ep eci eoi =
 
     same : (a b : ℕ) (p q r : List Vec3) (a' b' : ℕ) (p' q' r' : List Vec3) → a ≡ a' → b ≡ b' → p ≡ p' → q ≡ q' → r ≡ r' → value a b p q r ≡ value a' b' p' q' r'
     same a b p q r a' b' p' q' r' e f g h k = ap (λ x. value x b p q r) e ∙ ap (λ x. value a' x p q r) f ∙ ap (λ x. value a' b' x q r) g ∙ ap (λ x. value a' b' p' x r) h ∙ ap (λ x. value a' b' p' q' x) k
+
+-- the same of a result, where the variables are those behind all three by what is behind fewer of them
+pub grid_result : {Y E : Type 0} (l : Leaf) (s : SetValue) (uses : List ShaderUse) (d : Variables) (r : Result GridRef E) → (Y → Hold l d (shaded_names l s uses)) → length d.points.now ≡ point_count l → length d.colours.now ≡ point_count l → length d.opacities.now ≡ point_count l →
+    IfOk r (λ g. g.columns ≡ columns l) → IfOk r (λ g. g.rows ≡ rows l) → IfOk r (λ g. g.p.now ≡ d.points.now) → IfOk r (λ g. g.ci.now ≡ d.colours.now) → IfOk r (λ g. g.oi.now ≡ map opacity d.opacities.now) →
+    IfOk r (λ g. Y → grid_value g ≡ shaded l s uses)
+grid_result l s uses d (Ok g) h lp lc lo ec er ep eci eoi = λ y. grid_is l s uses d g (h y) lp lc lo ec er ep eci eoi
+grid_result l s uses d (Err e) h lp lc lo ec er ep eci eoi = ec

@@ -192,6 +192,62 @@ fn lighted<'a>(
     )
 }
 
+/// The shaded grid, by the variables behind the surface.
+fn grid_behind_surface<'a>(
+    shaders: &Shaders,
+    arena: &'a Bump,
+    leaf: &Leaf,
+    lit: &Variables<'a>,
+) -> Result<GridRef<'a>, NoMemory>
+    requires fits { Fits (set_value shaders.now.set.now) shaders.now.uses.now }
+    requires uses { HasUses shaders.now.uses.now leaf.now.prim }
+    requires variables { FitsPrim (set_value shaders.now.set.now) shaders.now.uses.now leaf.now.prim }
+    requires sized { IsSized leaf.now lit.now }
+    requires coloured { IsColoured leaf.now lit.now }
+    ensures { IfOk result (λ grid. Hold leaf.now lit.now (shaded_by leaf.now (bound_at_use (set_value shaders.now.set.now) shaders.now.uses.now leaf.now.prim.surface) (lights_from leaf.now (set_value shaders.now.set.now) shaders.now.uses.now leaf.now.prim.lights) (displaced_names leaf.now (bound_for (set_value shaders.now.set.now) shaders.now.uses.now leaf.now.prim.displacement))) → grid_value grid ≡ shaded leaf.now (set_value shaders.now.set.now) shaders.now.uses.now) }
+{
+    let last = dimmed(shaders, arena, leaf, lit, leaf.atmosphere())?;
+    grid_of(arena, leaf, &last)
+}
+
+/// The shaded grid, by the variables behind the displacement.
+fn grid_behind_displacement<'a>(
+    shaders: &Shaders,
+    arena: &'a Bump,
+    leaf: &Leaf,
+    places: &Places,
+    near: &Variables<'a>,
+) -> Result<GridRef<'a>, NoMemory>
+    requires fits { Fits (set_value shaders.now.set.now) shaders.now.uses.now }
+    requires uses { HasUses shaders.now.uses.now leaf.now.prim }
+    requires variables { FitsPrim (set_value shaders.now.set.now) shaders.now.uses.now leaf.now.prim }
+    requires places { ArePlaces leaf.now places.now }
+    requires sized { IsSized leaf.now near.now }
+    ensures { IfOk result (λ grid. Hold leaf.now near.now (displaced_names leaf.now (bound_for (set_value shaders.now.set.now) shaders.now.uses.now leaf.now.prim.displacement)) → grid_value grid ≡ shaded leaf.now (set_value shaders.now.set.now) shaders.now.uses.now) }
+{
+    let lit = lighted(shaders, arena, leaf, places, near)?;
+    grid_behind_surface(shaders, arena, leaf, &lit)
+}
+
+/// The shaded grid, by the variables before any shader runs.
+fn grid_from<'a>(
+    shaders: &Shaders,
+    arena: &'a Bump,
+    leaf: &Leaf,
+    places: &Places,
+    first: &Variables<'a>,
+) -> Result<GridRef<'a>, NoMemory>
+    requires fits { Fits (set_value shaders.now.set.now) shaders.now.uses.now }
+    requires uses { HasUses shaders.now.uses.now leaf.now.prim }
+    requires variables { FitsPrim (set_value shaders.now.set.now) shaders.now.uses.now leaf.now.prim }
+    requires places { ArePlaces leaf.now places.now }
+    requires sized { IsSized leaf.now first.now }
+    ensures { IfOk result (λ grid. Hold leaf.now first.now (diced_names leaf.now) → grid_value grid ≡ shaded leaf.now (set_value shaders.now.set.now) shaders.now.uses.now) }
+{
+    let near = placed(shaders, arena, leaf, places, first)?;
+    grid_behind_displacement(shaders, arena, leaf, places, &near)
+}
+
 /// The shaded grid of a leaf.
 pub(crate) fn shaded_leaf<'a>(
     shaders: &Shaders,
@@ -204,9 +260,5 @@ pub(crate) fn shaded_leaf<'a>(
     ensures { IfOk result (λ grid. grid_value grid ≡ shaded leaf.now (set_value shaders.now.set.now) shaders.now.uses.now) }
 {
     let first = begun(arena, leaf)?;
-    let near = placed(shaders, arena, leaf, &first.places, &first.variables)?;
-    let lit = lighted(shaders, arena, leaf, &first.places, &near)?;
-    let last = dimmed(shaders, arena, leaf, &lit, leaf.atmosphere())?;
-    let grid = grid_of(arena, leaf, &last)?;
-    Ok(grid)
+    grid_from(shaders, arena, leaf, &first.places, &first.variables)
 }

@@ -1,5 +1,5 @@
 // Runs of the three shaders of a primitive.
-ghost use Rattle.std.specs.Prelude.{◌≡◌, ◌*◌, [], ℕ, false, All, length, map, IfOk};
+ghost use Rattle.std.specs.Prelude.{◌≡◌, ◌*◌, [], ℕ, false, All, length, map, IfOk, OnOk};
 ghost use Rattle.sl_ast.specs.Names.{is_light};
 ghost use Rattle.sl_ast.specs.TreeView.{tree_of};
 ghost use Rattle.sl_ast.specs.declared.kinds.SlKind.TheVariants as kinds;
@@ -63,6 +63,44 @@ fn parameters_of<'s>(bound: &BoundShader<'s>) -> Parameters<'s>
     }
 }
 
+/// Runs a shader under lights into six rows, with its maps to camera space and rows of raws.
+fn run_into<'s, 'a>(
+    arena: &Bump,
+    leaf: &Leaf,
+    bound: &BoundShader<'s>,
+    lamps: &[Lamp<'s, 'a>],
+    spaces: &'a Spaces,
+    uniforms: &[Value],
+    raws: &[i64],
+    out: &mut [i64],
+) -> Result<(), NoMemory>
+    requires kind { is_light bound.now.compiled.now.code.kind ≡ false }
+    requires lamps { All (IsLamp leaf.now) lamps.now }
+    requires spaces { spaces.now ≡ maps_of leaf.now (bound_value bound.now) }
+    requires uniforms { map shape_of_value uniforms.now ≡ map register_shape (uniform_inputs bound.now.compiled.now.code.kind bound.now.compiled.now.code.params) }
+    requires small { AreRaws raws.now }
+    requires rows { length raws.now ≡ rows_of (varying_inputs bound.now.compiled.now.code.kind bound.now.compiled.now.code.params) * row_length (point_count leaf.now) }
+    requires out { length out.old ≡ rows_of (written_names bound.now.compiled.now.code.kind) * row_length (point_count leaf.now) }
+    ensures small { AreRaws out.new }
+    ensures values { OnOk result (IsLeft leaf.now bound.now lamps.now uniforms.now raws.now out.new) }
+{
+    let inputs = Inputs {
+        columns: leaf.columns(),
+        rows: leaf.rows(),
+        uniforms,
+        varyings: raws,
+        spaces,
+    };
+    let compiled = bound.compiled;
+    let code = compiled.code();
+    let spare = Lamp {
+        shader: *bound,
+        spaces,
+    };
+    let lights = Lamps { lamps, spare };
+    run(code, arena, &inputs, &lights, out)
+}
+
 /// The six rows that a run of a shader under lights leaves.
 fn run_on<'a, 's>(
     arena: &'a Bump,
@@ -86,21 +124,7 @@ fn run_on<'a, 's>(
     let width = length_of_row(leaf.point_count());
     let zeros = vec![in arena; 0; 6 * width]?;
     let out = into_bump_slice_mut(zeros);
-    let inputs = Inputs {
-        columns: leaf.columns(),
-        rows: leaf.rows(),
-        uniforms,
-        varyings: raws,
-        spaces,
-    };
-    let compiled = bound.compiled;
-    let code = compiled.code();
-    let spare = Lamp {
-        shader: *bound,
-        spaces,
-    };
-    let lights = Lamps { lamps, spare };
-    run(code, arena, &inputs, &lights, out)?;
+    run_into(arena, leaf, bound, lamps, spaces, uniforms, raws, out)?;
     Ok(out)
 }
 

@@ -1,51 +1,32 @@
-use Rattle.std.proofs.Common.{◌≡◌, ◌*◌, false, length, map, refl, sym, ap, ◌∙◌, subst}
-use Rattle.sl_ast.specs.Names.{is_light}
-use Rattle.builtins.specs.Shapes.{shape}
-use Rattle.grid_code.specs.Shapes.{register_shape}
+use Rattle.std.proofs.Common.{◌≡◌, ◌*◌, length, refl, sym, ap, ◌∙◌, subst}
 use Rattle.place_rows.specs.Layout.{row_length}
-use Rattle.grid_machine.specs.Run.{rows_of, uniform_inputs, varying_inputs, written_names}
-use Rattle.grid_variables.specs.Points.{columns, rows}
 use Rattle.grid_variables.specs.Places.{point_count}
-use Rattle.displace_shade.specs.Shaded.{spaces_of}
+use Rattle.displace_shade.specs.Lamps.{IsLeft}
 use Rattle.displace_shade.specs.Shop.{bound_value}
-use Rattle.displace_shade.proofs.BoundLaws.{read_long, leaves_as}
-use Rattle.displace_shade.proofs.LampLaws.{lamp_runs}
 use Rattle.displace_shade.proofs.runs.run_on.Goals as goal
 
-pub run-requires-clause-kind : goal.run-requires-clause-kind
-run-requires-clause-kind c = subst (λ k. is_light k.kind ≡ false) (sym c.code-code.ensures.code) c.requires.kind
+pub run_into-requires-clause-spaces : goal.run_into-requires-clause-spaces
+run_into-requires-clause-spaces c = c.in_ok-spaces.ensures ∙ c.spaces_of.ensures (bound_value c.args.bound.now) refl
 
-pub run-requires-clause-lights : goal.run-requires-clause-lights
-run-requires-clause-lights c = λ n l. lamp_runs c.args.leaf.now _ (c.requires.lamps n _ l)
+pub run_into-requires-clause-small : goal.run_into-requires-clause-small
+run_into-requires-clause-small c = c.in_ok-raws.ensures.small
 
-pub run-requires-clause-uniforms : goal.run-requires-clause-uniforms
-run-requires-clause-uniforms c = subst (λ k. map shape c.args.uniforms.now ≡ map register_shape (uniform_inputs k.kind k.params)) (sym c.code-code.ensures.code) c.requires.uniforms
+pub run_into-requires-clause-rows : goal.run_into-requires-clause-rows
+run_into-requires-clause-rows c = ap (λ xs. length xs) c.in_ok-raws.ensures.value ∙ c.requires.rows
 
-pub run-requires-clause-raws : goal.run-requires-clause-raws
-run-requires-clause-raws c = c.in_ok-raws.ensures.small
-
-pub run-requires-clause-varyings : goal.run-requires-clause-varyings
-run-requires-clause-varyings c =
-    read_long (λ k. rows_of (varying_inputs k.kind k.params)) c.code-code.result.now c.args.bound.now.compiled.now.code c.columns.result (columns c.args.leaf.now) c.rows.result (rows c.args.leaf.now) (length c.in_ok-raws.raws.now)
-    c.code-code.ensures.code c.columns.ensures.value c.rows.ensures.value (ap (λ xs. length xs) c.in_ok-raws.ensures.value ∙ c.requires.rows)
-
-pub run-requires-clause-out : goal.run-requires-clause-out
-run-requires-clause-out c =
+pub run_into-requires-clause-out : goal.run_into-requires-clause-out
+run_into-requires-clause-out c =
     let items : length c.in_ok-zeros.zeros.items ≡ c.in_ok-zeros.zeros.len = sym c.in_ok-zeros.zeros.ok.0 in
-    read_long (λ k. rows_of (written_names k.kind)) c.code-code.result.now c.args.bound.now.compiled.now.code c.columns.result (columns c.args.leaf.now) c.rows.result (rows c.args.leaf.now) (length c.into_bump_slice_mut-out.result.now)
-    c.code-code.ensures.code c.columns.ensures.value c.rows.ensures.value
-    (ap (λ xs. length xs) c.into_bump_slice_mut-out.ensures ∙ items ∙ c.in_ok-zeros.ensures.len ∙ ap (λ w. 6 * w) (c.length_of_row-width.ensures.value ∙ ap row_length c.point_count.ensures.value) ∙ ap (λ n. n * row_length (point_count c.args.leaf.now)) (sym c.requires.written))
+    ap (λ xs. length xs) c.into_bump_slice_mut-out.ensures ∙ items ∙ c.in_ok-zeros.ensures.len ∙ ap (λ w. 6 * w) (c.length_of_row-width.ensures.value ∙ ap row_length c.point_count.ensures.value) ∙ ap (λ n. n * row_length (point_count c.args.leaf.now)) (sym c.requires.written)
 
 pub returns-clause-long : goal.returns-clause-long
 returns-clause-long c =
     let items : length c.in_ok-zeros.zeros.items ≡ c.in_ok-zeros.zeros.len = sym c.in_ok-zeros.zeros.ok.0 in
-    c.run.auto.out ∙ ap (λ xs. length xs) c.into_bump_slice_mut-out.ensures ∙ items ∙ c.in_ok-zeros.ensures.len
+    c.run_into.auto.out ∙ ap (λ xs. length xs) c.into_bump_slice_mut-out.ensures ∙ items ∙ c.in_ok-zeros.ensures.len
     ∙ ap (λ w. 6 * w) (c.length_of_row-width.ensures.value ∙ ap row_length c.point_count.ensures.value)
 
 pub returns-clause-small : goal.returns-clause-small
-returns-clause-small c = c.run.ensures.raws
+returns-clause-small c = c.run_into.ensures.small
 
 pub returns-clause-values : goal.returns-clause-values
-returns-clause-values c =
-    leaves_as c.code-code.result.now c.args.bound.now.compiled.now.code c.args.uniforms.now _ (columns c.args.leaf.now) _ (rows c.args.leaf.now) _ c.args.rows.now _ _ _ (spaces_of c.args.leaf.now (bound_value c.args.bound.now)) c.args.lamps.now _
-    c.code-code.ensures.code c.columns.ensures.value c.rows.ensures.value c.in_ok-raws.ensures.value refl (c.in_ok-spaces.ensures ∙ c.spaces_of.ensures (bound_value c.args.bound.now) refl) c.in_ok-run.ensures.values
+returns-clause-values c = subst (λ rows. IsLeft c.args.leaf.now c.args.bound.now c.args.lamps.now c.args.uniforms.now rows c.run_into.new.out) c.in_ok-raws.ensures.value c.in_ok-run_into.ensures.values
