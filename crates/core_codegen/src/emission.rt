@@ -12,9 +12,9 @@ ghost use Rattle.core_codegen.specs.Room.{expr_room, exprs_room, args_room, stmt
 ghost use Rattle.core_codegen.specs.Sizes.{ScopedExpr, ScopedExprs, ScopedArgs, ScopedStmt, ScopedAll};
 ghost use Rattle.core_codegen.specs.Slots.{slots_of, scope_of};
 
-use crate::ends::{assigned, begun, both, branched, lit, returned};
+use crate::ends::{assigned, begun, both, branched, lit, looped, returned};
 use crate::locals::all_declared;
-use crate::nodes::{again, apply, differ, leave, literal, read, sum, turns};
+use crate::nodes::{again, apply, differ, leave, literal, read, sum};
 use crate::registers::{is_uniform, register};
 use crate::slot::Scope;
 use builtins::shape_of;
@@ -303,6 +303,6 @@ fn repeat(
         base,
         temps,
     )?;
-    turns(code, repeated.uniform, ask, asked, step, body)?;
-    Ok(both(is_uniform(asked), both(a, b)))
+    let uniform = both(a, b);
+    looped(code, repeated.uniform, ask, asked, step, body, uniform)
 }

@@ -10,7 +10,7 @@ ghost use Rattle.sl_meaning.specs.Core.{slot as slot_as};
 ghost use Rattle.core_codegen.specs.Compile as spec;
 ghost use Rattle.core_codegen.specs.Slots.{scope_of};
 
-use crate::nodes::{branch, into, lights};
+use crate::nodes::{branch, into, lights, turns};
 use crate::registers::{are_uniform, is_uniform, register};
 use crate::slot::Scope;
 use builtins::shape_of;
@@ -85,6 +85,23 @@ pub(crate) fn branched(
 {
     branch(code, test, one, other)?;
     Ok(both(is_uniform(test), uniform))
+}
+
+// A loop, whose step and body are uniform or not.
+pub(crate) fn looped(
+    code: &mut Vec<Node>,
+    uniform: bool,
+    ask: Vec<Node>,
+    test: Register,
+    step: Vec<Node>,
+    body: Vec<Node>,
+    inside: bool,
+) -> Result<bool, NoMemory>
+    ensures class { IfOk result (λ u. u ≡ register_class test && inside) }
+    ensures code { OnOk result (block_of code.new.items ≡ block_of code.old.items then c.loops uniform (block_of ask.items) test (block_of step.items) (block_of body.items) c.end) }
+{
+    turns(code, uniform, ask, test, step, body)?;
+    Ok(both(is_uniform(test), inside))
 }
 
 // A statement over lights, whose body is uniform or not.

@@ -15,7 +15,7 @@ use Rattle.core_codegen.specs.Sizes.{ScopedExpr, ScopedExprs, ScopedArgs, Scoped
 use Rattle.core_codegen.specs.Room.{expr_room, exprs_room, args_room, stmt_room, all_room, temps, all_temps}
 use Rattle.core_codegen.specs.Slots.{scope_of}
 use Rattle.core_codegen.proofs.Emitting.{operands_step, operands_end, passed_uniform, passing_step, passing_end, running_step, running_end, scope_ends, all_slack, length_formals, length_after_all}
-use Rattle.core_codegen.proofs.Emitted.{apply_at, apply_code, differ_code, sum_code, call_at, call_code, declare_code, assign_code, test_code, lights_code, class_of, classes_of, both_of, assigned_class}
+use Rattle.core_codegen.proofs.Emitted.{apply_at, apply_code, differ_code, sum_code, call_at, call_code, declare_code, assign_code, test_code, repeat_code, lights_code, class_of, classes_of, both_of, assigned_class}
 use Rattle.core_codegen.proofs.emission.+emission.Goals as goal
 
 pub expressions-loop-e-preserved : goal.expressions-loop-e-preserved
@@ -463,3 +463,32 @@ statement-returns-in_ok-b-in-Lights-clause-code t c =
     h
     ∙ ap (λ x. o then stmt_code x ss base c.args.temps) (sym (lights_shown c.args.s.now c.in-Lights.word c.in-Lights.args c.in-Lights.body c.in-Lights.is)))
     c.lit.ensures.code
+
+pub repeat-returns-clause-class : goal.repeat-returns-clause-class
+repeat-returns-clause-class t c =
+    let ss = scope_of c.args.scope.now in
+    let ss1 = scope_of c.block.new.scope in
+    let l = c.args.repeated.now in
+    IfOk-weaker c.looped.result (λ u. u ≡ register_class c.in_ok-asked.asked && c.both-uniform.result) (λ u. u ≡ stmt_uniform (loop_of l) ss)
+    (λ u h. both_of _ _ _ _ _ h
+    (class_of (expr_of l.test) ss c.end-next.result c.in_ok-asked.asked _ c.in_ok-asked.ensures.at refl)
+    (both_of _ _ _ _ _ c.both-uniform.ensures
+    (c.in_ok-a.ensures.class ∙ ap (λ x. stmts_uniform (stmts_of x) ss) c.as_slice.ensures)
+    (c.in_ok-b.ensures.class ∙ ap (λ x. stmts_uniform (stmts_of x) ss1) c.as_slice-2.ensures ∙ ap (stmts_uniform (stmts_of l.body)) c.in_ok-a.ensures.scope)))
+    c.looped.ensures.class
+
+pub repeat-returns-clause-code : goal.repeat-returns-clause-code
+repeat-returns-clause-code t c =
+    let ss = scope_of c.args.scope.now in
+    let ss1 = scope_of c.block.new.scope in
+    let base = c.args.base in
+    let l = c.args.repeated.now in
+    on_ok_weaker c.looped.result
+    (λ h. repeat_code ss base c.end-next.result c.args.temps c.end-next.ensures l.uniform (expr_of l.test) (stmts_of l.step) (stmts_of l.body) c.in_ok-asked.asked ss1 (block_of c.args.code.now.items) _
+    (block_of c.new-ask.result.items) _ (block_of c.new-step.result.items) _ (block_of c.new-body.result.items) _
+    (ap block_of c.new-ask.ensures.items) c.in_ok-asked.ensures.code c.in_ok-asked.ensures.at
+    (ap block_of c.new-step.ensures.items) (c.in_ok-a.ensures.code ∙ ap (λ x. block_of c.new-step.result.items then all_code (stmts_of x) ss base c.args.temps) c.as_slice.ensures)
+    c.in_ok-a.ensures.scope
+    (ap block_of c.new-body.ensures.items) (c.in_ok-b.ensures.code ∙ ap (λ x. block_of c.new-body.result.items then all_code (stmts_of x) ss1 base c.args.temps) c.as_slice-2.ensures)
+    h)
+    c.looped.ensures.code
