@@ -8,6 +8,10 @@ use Rattle.sl_expressions.specs.Found.{Found, ◌>>=◌}
 use Rattle.sl_expressions.specs.Typed as T
 use Rattle.sl_expressions.specs.Scope.{Local, Around}
 use Rattle.sl_expressions.specs.Exprs.{typed_expr, typed_args}
+use Rattle.sl_expressions.specs.TypedView.{typed_of}
+use Rattle.sl_expressions.specs.Views.{Gives, GivesAll}
+use Rattle.sl_expressions.specs.declared.faults.TypeFault.{TypeFault}
+use Rattle.sl_expressions.specs.declared.faults.TypeFault.TheVariants.{At, NoMemory}
 
 -- arguments behind others
 abbrev pub args_behind : List T.Expr → Found (List T.Expr) → Found (List T.Expr)
@@ -32,3 +36,9 @@ pub args_end : (g : Around) (ls : List Local) (before : List T.Expr) (xs : List 
     → args_behind before (typed_args g ls (U.exprs (map expr_of (drop i xs)))) ≡ Ok before
 args_end g ls before xs i high =
     ap (λ ys. args_behind before (typed_args g ls (U.exprs (map expr_of ys)))) (drop_all i xs high) ∙ ap (λ x. Ok x) (append-nil before)
+
+-- a fault at one of the arguments is that of all
+pub arg_fault : (fault : TypeFault) (one : Found T.Expr) (all : Found (List T.Expr)) (rest : T.Expr → Found (List T.Expr))
+    → all ≡ one >>= rest → Gives typed_of (Err fault) one → GivesAll typed_of (Err fault) all
+arg_fault (At code line) one all rest is h = is ∙ ap (λ r. r >>= rest) h
+arg_fault NoMemory one all rest is h = tt

@@ -14,7 +14,6 @@ use Rattle.sl_ast.specs.WellTyped as W
 use Rattle.sl_ast.specs.declared.kinds.NodeType.{NodeType}
 use Rattle.sl_ast.specs.declared.operations.Operation.{Operation}
 use Rattle.std.specs.Borrow.{Bor}
-use Rattle.sl_expressions.specs.declared.typed.TypedExpr.{TypedExpr}
 use Rattle.sl_expressions.specs.declared.typed.TypedLink.{TypedLink}
 use Rattle.sl_expressions.specs.Found.{Found, ◌>>=◌}
 use Rattle.sl_expressions.specs.Exprs.{applied}

@@ -10,6 +10,11 @@ use Rattle.sl_expressions.specs.Found.{Found, ◌>>=◌}
 use Rattle.sl_expressions.specs.declared.faults.TypeCode.TheVariants.{T10}
 use Rattle.sl_expressions.specs.Typed as T
 use Rattle.sl_expressions.specs.Scope.{Local, Around}
+use Rattle.sl_expressions.specs.declared.faults.TypeFault.{TypeFault}
+use Rattle.sl_expressions.specs.declared.faults.TypeFault.TheVariants.{At, NoMemory}
+use Rattle.sl_expressions.specs.declared.places.Local.{Local as Held}
+use Rattle.sl_expressions.specs.declared.typed.TypedStmt.{TypedStmt}
+use Rattle.sl_typing.specs.Views.{GivesRows}
 use Rattle.sl_typing.specs.Stmts.{Rows, behind, followed, typed_name, typed_names, typed_stmt, typed_rows}
 
 -- statements behind none, and those of several statements
@@ -58,3 +63,9 @@ pub rows_end : (g : Around) (from : ℕ) (ts : List T.Stmt) (ls : List Local) (x
     → behind ts (typed_rows g from ls (U.stmts (map stmt_of (drop i xs)))) ≡ Ok (ts, ls)
 rows_end g from ts ls xs i high =
     ap (λ ys. behind ts (typed_rows g from ls (U.stmts (map stmt_of ys)))) (drop_all i xs high) ∙ ap (λ x. Ok (x, ls)) (append-nil ts)
+
+-- a fault at one of the statements is that of all
+pub row_fault : (fault : TypeFault) (ts us : List TypedStmt) (ls ms : List Held) (one all : Rows) (rest : List T.Stmt × List Local → Rows)
+    → all ≡ one >>= rest → GivesRows {A = Unit {0}} (Err fault) ts ls one → GivesRows {A = Unit {0}} (Err fault) us ms all
+row_fault (At code line) ts us ls ms one all rest is h = is ∙ ap (λ r. r >>= rest) h
+row_fault NoMemory ts us ls ms one all rest is h = tt

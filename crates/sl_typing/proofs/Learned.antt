@@ -1,6 +1,7 @@
 -- What is learned one after another: functions and parameters.
-use Rattle.std.proofs.Common.{◌≡◌, ℕ, ◌+◌, ◌<◌, Bool, true, false, cond, List, [], ◌∷◌, ◌++◌, append_assoc, map, drop, length, get_or, is_some, Ok, Err, refl, sym, ap, ◌∙◌}
+use Rattle.std.proofs.Common.{◌≡◌, ℕ, ◌+◌, ◌<◌, Bool, true, false, cond, List, [], ◌∷◌, ◌++◌, append_assoc, map, drop, length, get_or, is_some, Ok, Err, refl, sym, ap, ap₂, ◌∙◌}
 use Rattle.std.proofs.lemmas.List.{at_drop_more}
+use Rattle.sl_ast.specs.Syntax as U
 use Rattle.sl_ast.specs.SyntaxView.{declared_of, function_of, group_of}
 use Rattle.sl_ast.specs.declared.kinds.SlKind.{SlKind}
 use Rattle.sl_ast.specs.declared.kinds.SlType.{SlType}
@@ -8,10 +9,21 @@ use Rattle.sl_ast.specs.declared.syntax.Declared.{Declared}
 use Rattle.sl_ast.specs.declared.syntax.Function.{Function}
 use Rattle.sl_ast.specs.declared.syntax.Group.{Group}
 use Rattle.sl_expressions.specs.Found.{Found, ◌>>=◌}
+use Rattle.sl_expressions.specs.Typed as T
 use Rattle.sl_expressions.specs.Scope.{Around, Callee, Local, callee_named}
 use Rattle.sl_expressions.specs.declared.faults.TypeCode.TheVariants.{T10}
-use Rattle.sl_typing.specs.Functions.{Param, callee_in, formals_named, formals_of, known_from, learned, typed_param, typed_params}
+use Rattle.sl_typing.specs.Functions.{Param, body_of, within, callee_in, formals_named, formals_of, known_from, learned, typed_param, typed_params}
 use Rattle.sl_typing.specs.Stmts.{is_uniform}
+
+abbrev callee_with : List ℕ → SlType → List Local → Found T.Body → Found T.Body → Callee
+callee_with name returns formals body by_default = record { name = name; formals = formals; returns = returns; body = body; by_default = by_default }
+
+-- a function from what is kept of it
+pub callee_kept : (kind : SlKind) (known : List Callee) (f : U.Function) (formals : List Local) (body by_default : Found T.Body)
+    → formals ≡ formals_of f.formals → body ≡ body_of (within kind false known f) f → by_default ≡ body_of (within kind true known f) f
+    → callee_with f.name f.returns formals body by_default ≡ callee_in kind known f
+callee_kept kind known f formals body by_default p q r =
+    ap (λ ls. callee_with f.name f.returns ls body by_default) p ∙ ap₂ (λ x y. callee_with f.name f.returns (formals_of f.formals) x y) q r
 
 one_more : (b : Bool) (line : ℕ) (ks : List Callee) (next : List Callee → Found (List Callee))
     → cond b (Err (T10, line)) (next ks) ≡ cond b (Err (T10, line)) (Ok ks) >>= next

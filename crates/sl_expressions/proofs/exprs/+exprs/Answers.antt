@@ -1,13 +1,14 @@
-use Rattle.std.proofs.Common.{◌≡◌, ◌+◌, [], ◌∷◌, true, false, Ok, rules, drop, map, arith, ap, sym, subst, ◌∙◌}
+use Rattle.std.proofs.Common.{◌≡◌, ◌+◌, [], ◌∷◌, ◌++◌, true, false, Ok, rules, drop, map, arith, ap, sym, subst, ◌∙◌}
+use Rattle.std.proofs.lemmas.List.{map-append}
 use Rattle.sl_ast.specs.Syntax as U
 use Rattle.sl_ast.specs.SyntaxView.{expr_of, link_of}
 use Rattle.sl_expressions.specs.Exprs.{applied, named, prefixed, tripled, converted, typed_expr, typed_args, typed_links, call_of}
 use Rattle.sl_expressions.specs.Found.{◌>>=◌}
 use Rattle.sl_expressions.specs.Measures.{size, size_args, size_links}
-use Rattle.sl_expressions.specs.Rules.{operation_of}
 use Rattle.sl_expressions.specs.Typed as T
 use Rattle.sl_expressions.specs.TypedView.{typed_of, tlink_of}
 use Rattle.sl_expressions.specs.Views.{Gives, around_of, chain_of, local_of}
+use Rattle.sl_expressions.proofs.Behind.{arg_fault, args_behind, args_end, args_step}
 use Rattle.sl_expressions.proofs.Chains.{in_steps, link_fault}
 use Rattle.sl_expressions.proofs.Choices.{choice_is, three_is}
 use Rattle.sl_expressions.proofs.Nodes.{call_is, chain_is, chain_split, chain_end, listed_all, small_arg, small_link}
@@ -166,3 +167,32 @@ typed_links-returns t c =
     let v = T.chained (typed_of c.args.first.now) (map tlink_of c.loop-link.typed.items) in
     let before = typed_links g ls v (U.links (map link_of (drop c.loop-link.link-index c.args.links.now))) in
     sym {a = before} c.loop-link.invariant.same ∙ ap (typed_links g ls v) (chain_end c.args.links.now c.loop-link.link-index (omega arith))
+
+pub exprs-returns-in_err-value : goal.exprs-returns-in_err-value
+exprs-returns-in_err-value t c =
+    let g = around_of c.args.g.now in
+    let ls = map local_of c.args.scope.now in
+    let before = map typed_of c.loop-e.before.items in
+    let rest = typed_args g ls (U.exprs (map expr_of (drop (c.loop-e.e-index + 1) c.args.es.now))) in
+    let step = args_step g ls before c.args.es.now c.loop-e.e-index c.e-item.result c.loop-e-test.true c.e-item.is in
+    let whole = arg_fault _ (typed_expr g false ls (expr_of c.e-item.result)) _ (λ e. args_behind (before ++ e ∷ []) rest) (sym c.loop-e.invariant ∙ step) c.in_err-value.ensures in
+    search rules
+
+pub exprs-loop-e-preserved : goal.exprs-loop-e-preserved
+exprs-loop-e-preserved t c =
+    let g = around_of c.args.g.now in
+    let ls = map local_of c.args.scope.now in
+    let before = map typed_of c.loop-e.before.items in
+    let rest = typed_args g ls (U.exprs (map expr_of (drop (c.loop-e.e-index + 1) c.args.es.now))) in
+    let step = args_step g ls before c.args.es.now c.loop-e.e-index c.e-item.result c.loop-e-test.true c.e-item.is in
+    let grown = ap (map typed_of) c.in_ok-push.ensures.items ∙ map-append typed_of c.loop-e.before.items (c.in_ok-value.value ∷ []) in
+    let joined = ap (λ r. r >>= λ e. args_behind (before ++ e ∷ []) rest) c.in_ok-value.ensures in
+    ap (λ es. args_behind es rest) grown ∙ sym joined ∙ sym step ∙ c.loop-e.invariant
+
+pub exprs-returns : goal.exprs-returns
+exprs-returns t c =
+    let g = around_of c.args.g.now in
+    let ls = map local_of c.args.scope.now in
+    let before = map typed_of c.loop-e.before.items in
+    let left = args_behind before (typed_args g ls (U.exprs (map expr_of (drop c.loop-e.e-index c.args.es.now)))) in
+    sym {a = left} c.loop-e.invariant ∙ args_end g ls before c.args.es.now c.loop-e.e-index c.loop-e-test.false
