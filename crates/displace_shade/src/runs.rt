@@ -15,13 +15,13 @@ ghost use Rattle.displace_shade.specs.Diced.{Hold};
 ghost use Rattle.displace_shade.specs.Shop.{bound_value, parameters_of as parameters_list, Runs};
 ghost use Rattle.grid_variables.specs.Variables.{values_at};
 ghost use Rattle.shader_binding.specs.Bindings.{FitVariables};
-ghost use Rattle.displace_shade.specs.Lamps.{IsLamp, lamp_light, IsLeft};
+ghost use Rattle.displace_shade.specs.Lamps.{IsLamp, lamp_light, IsLeft, AreLeft};
 
 use crate::bound::BoundShader;
 use crate::lamps::{Lamp, Lamps, kept};
 use bumpalo::Bump;
 use bumpalo::collections::into_bump_slice_mut;
-use fixed_math::{NoMemory, Num};
+use fixed_math::{NoMemory, Num, Vec3};
 use grid_machine::{Inputs, run};
 use grid_rows::{
     Parameters, displacement_rows, length_of_row, raws_of, surface_rows, surface_values,
@@ -149,6 +149,35 @@ fn run_behind<'a, 's>(
     run_on(arena, leaf, bound, lamps, &uniforms, rows)
 }
 
+/// The triples that a run leaves in its first three rows and in the three behind them.
+#[derive(Clone, Copy)]
+struct Left<'a> {
+    first: &'a [Vec3],
+    second: &'a [Vec3],
+}
+
+/// The triples that a run of a shader under lights leaves.
+fn left_behind<'a, 's>(
+    arena: &'a Bump,
+    leaf: &Leaf,
+    bound: &BoundShader<'s>,
+    lamps: &[Lamp<'s, 'a>],
+    uniforms: Vec<Value>,
+    rows: &[Num],
+) -> Result<Left<'a>, NoMemory>
+    requires kind { is_light bound.now.compiled.now.code.kind ≡ false }
+    requires written { rows_of (written_names bound.now.compiled.now.code.kind) ≡ 6 }
+    requires lamps { All (IsLamp leaf.now) lamps.now }
+    requires uniforms { map shape_of_value uniforms.items ≡ map register_shape (uniform_inputs bound.now.compiled.now.code.kind bound.now.compiled.now.code.params) }
+    requires rows { length rows.now ≡ rows_of (varying_inputs bound.now.compiled.now.code.kind bound.now.compiled.now.code.params) * row_length (point_count leaf.now) }
+    ensures { IfOk result (λ left. AreLeft leaf.now bound.now lamps.now uniforms.items rows.now left.first.now left.second.now) }
+{
+    let out = run_behind(arena, leaf, bound, lamps, uniforms, rows)?;
+    let first = triples_left(arena, leaf, out, 0)?;
+    let second = triples_left(arena, leaf, out, 3)?;
+    Ok(Left { first, second })
+}
+
 /// The variables behind a run of a displacement, which no light reaches.
 pub(crate) fn displace<'a>(
     alloc: Global,
@@ -169,12 +198,10 @@ pub(crate) fn displace<'a>(
     let parameters = parameters_of(bound);
     let rows = displacement_rows(arena, leaf, &parameters, places, variables)?;
     let uniforms = surface_values(alloc, leaf, &parameters)?;
-    let out = run_behind(arena, leaf, bound, &[], uniforms, rows)?;
-    let points = triples_left(arena, leaf, out, 0)?;
-    let normals = triples_left(arena, leaf, out, 3)?;
+    let left = left_behind(arena, leaf, bound, &[], uniforms, rows)?;
     Ok(Variables {
-        points,
-        normals,
+        points: left.first,
+        normals: left.second,
         sights: variables.sights,
         colours: variables.colours,
         opacities: variables.opacities,
@@ -204,15 +231,13 @@ pub(crate) fn colour<'a, 's>(
     let parameters = parameters_of(bound);
     let rows = surface_rows(arena, leaf, &parameters, places, variables)?;
     let uniforms = surface_values(alloc, leaf, &parameters)?;
-    let out = run_behind(arena, leaf, bound, lamps, uniforms, rows)?;
-    let colours = triples_left(arena, leaf, out, 0)?;
-    let opacities = triples_left(arena, leaf, out, 3)?;
+    let left = left_behind(arena, leaf, bound, lamps, uniforms, rows)?;
     Ok(Variables {
         points: variables.points,
         normals: variables.normals,
         sights: variables.sights,
-        colours,
-        opacities,
+        colours: left.first,
+        opacities: left.second,
     })
 }
 
@@ -236,14 +261,12 @@ pub(crate) fn dim<'a>(
     let parameters = parameters_of(bound);
     let rows = volume_rows(arena, leaf, &parameters, variables)?;
     let uniforms = uniform_values(alloc, leaf, &parameters)?;
-    let out = run_behind(arena, leaf, bound, &[], uniforms, rows)?;
-    let colours = triples_left(arena, leaf, out, 0)?;
-    let opacities = triples_left(arena, leaf, out, 3)?;
+    let left = left_behind(arena, leaf, bound, &[], uniforms, rows)?;
     Ok(Variables {
         points: variables.points,
         normals: variables.normals,
         sights: variables.sights,
-        colours,
-        opacities,
+        colours: left.first,
+        opacities: left.second,
     })
 }

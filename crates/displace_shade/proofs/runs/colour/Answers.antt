@@ -18,36 +18,30 @@ use Rattle.displace_shade.proofs.BoundLaws.{bound_values, bound_rows, rows_given
 use Rattle.displace_shade.proofs.LampLaws.{lamps_answer}
 use Rattle.displace_shade.proofs.runs.colour.Goals as goal
 
-pub run_behind-requires-clause-kind : goal.run_behind-requires-clause-kind
-run_behind-requires-clause-kind c = ap is_light (c.requires.runs.code.kind ∙ c.requires.kind)
+pub left_behind-requires-clause-kind : goal.left_behind-requires-clause-kind
+left_behind-requires-clause-kind c = ap is_light (c.requires.runs.code.kind ∙ c.requires.kind)
 
-pub run_behind-requires-clause-written : goal.run_behind-requires-clause-written
-run_behind-requires-clause-written c = ap (λ k. rows_of (written_names k)) (c.requires.runs.code.kind ∙ c.requires.kind)
+pub left_behind-requires-clause-written : goal.left_behind-requires-clause-written
+left_behind-requires-clause-written c = ap (λ k. rows_of (written_names k)) (c.requires.runs.code.kind ∙ c.requires.kind)
 
-pub run_behind-requires-clause-uniforms : goal.run_behind-requires-clause-uniforms
-run_behind-requires-clause-uniforms c =
+pub left_behind-requires-clause-uniforms : goal.left_behind-requires-clause-uniforms
+left_behind-requires-clause-uniforms c =
     let b = c.args.bound.now in
     let r = c.requires.runs in
     look_shapes c.args.leaf.now (tree_of b.compiled.now.tree) b.compiled.now.code b.values.now b.space.now r.code (values_at c.args.leaf.now (tree_of b.compiled.now.tree).params b.values.now) (bound_values b r c.args.leaf.now c.requires.variables) (param_rows c.args.leaf.now (tree_of b.compiled.now.tree).params b.compiled.now.code.params b.values.now) (bound_rows b r c.args.leaf.now c.requires.variables) c.requires.kind c.in_ok-uniforms.uniforms.items (c.in_ok-uniforms.ensures ∙ ap (λ vs. vs ++ Number (lines c.args.leaf.now).du ∷ Number (lines c.args.leaf.now).dv ∷ []) (uniforms_given c.args.leaf.now b _ c.parameters_of-parameters.ensures))
 
-pub run_behind-requires-clause-rows : goal.run_behind-requires-clause-rows
-run_behind-requires-clause-rows c =
+pub left_behind-requires-clause-rows : goal.left_behind-requires-clause-rows
+left_behind-requires-clause-rows c =
     let b = c.args.bound.now in
     let r = c.requires.runs in
     look_long c.args.leaf.now (tree_of b.compiled.now.tree) b.compiled.now.code b.values.now b.space.now r.code (values_at c.args.leaf.now (tree_of b.compiled.now.tree).params b.values.now) (bound_values b r c.args.leaf.now c.requires.variables) (param_rows c.args.leaf.now (tree_of b.compiled.now.tree).params b.compiled.now.code.params b.values.now) (bound_rows b r c.args.leaf.now c.requires.variables) c.requires.kind c.args.places.now c.args.variables.now c.in_ok-rows.rows.now c.requires.places c.requires.sized (c.in_ok-rows.ensures ∙ ap (λ params. surface_rows params c.args.places.now c.args.variables.now) (rows_given c.args.leaf.now b _ c.parameters_of-parameters.ensures))
-
-pub triples_left-requires-clause-small : goal.triples_left-requires-clause-small
-triples_left-requires-clause-small c = c.in_ok-out.ensures.small
-
-pub triples_left-requires-2-clause-small : goal.triples_left-requires-2-clause-small
-triples_left-requires-2-clause-small c = c.in_ok-out.ensures.small
 
 pub returns-clause-coloured : goal.returns-clause-coloured
 returns-clause-coloured c =
     let n = point_count c.args.leaf.now in
     record {
-      colours = ap (λ xs. length xs) c.in_ok-colours.ensures ∙ over_long (triple_in c.in_ok-out.out.now (row_length n) 0) n;
-      opacities = ap (λ xs. length xs) c.in_ok-opacities.ensures ∙ over_long (triple_in c.in_ok-out.out.now (row_length n) 3) n;
+      colours = ap (λ xs. length xs) c.in_ok-left.ensures.in_first ∙ over_long (triple_in c.in_ok-left.ensures.out (row_length n) 0) n;
+      opacities = ap (λ xs. length xs) c.in_ok-left.ensures.in_second ∙ over_long (triple_in c.in_ok-left.ensures.out (row_length n) 3) n;
     }
 
 pub returns-clause-hold : goal.returns-clause-hold
@@ -59,6 +53,6 @@ returns-clause-hold c =
     let asked = map (lamp_asked ls n) c.args.lamps.now in
     let lights = map (lamp_light c.args.leaf.now) c.args.lamps.now in
     let answers : Answers n asked lights = lamps_answer c.args.leaf.now ls (cells_from c.args.leaf.now.p) (cells_from c.args.leaf.now.q) c.args.lamps.now c.requires.lamps in
-    λ f h. surface_law c.args.leaf.now (tree_of b.compiled.now.tree) b.compiled.now.code b.values.now b.space.now r.code (values_at c.args.leaf.now (tree_of b.compiled.now.tree).params b.values.now) (bound_values b r c.args.leaf.now c.requires.variables) (param_rows c.args.leaf.now (tree_of b.compiled.now.tree).params b.compiled.now.code.params b.values.now) (bound_rows b r c.args.leaf.now c.requires.variables) c.requires.kind c.args.places.now c.args.variables.now _ asked lights c.in_ok-uniforms.uniforms.items c.in_ok-rows.rows.now c.in_ok-out.out.now
-    answers c.requires.places c.requires.sized (c.in_ok-uniforms.ensures ∙ ap (λ vs. vs ++ Number (lines c.args.leaf.now).du ∷ Number (lines c.args.leaf.now).dv ∷ []) (uniforms_given c.args.leaf.now b _ c.parameters_of-parameters.ensures)) (c.in_ok-rows.ensures ∙ ap (λ params. surface_rows params c.args.places.now c.args.variables.now) (rows_given c.args.leaf.now b _ c.parameters_of-parameters.ensures)) c.in_ok-out.ensures.values
-    c.in_ok-colours.ensures c.in_ok-opacities.ensures refl refl refl f h
+    λ f h. surface_law c.args.leaf.now (tree_of b.compiled.now.tree) b.compiled.now.code b.values.now b.space.now r.code (values_at c.args.leaf.now (tree_of b.compiled.now.tree).params b.values.now) (bound_values b r c.args.leaf.now c.requires.variables) (param_rows c.args.leaf.now (tree_of b.compiled.now.tree).params b.compiled.now.code.params b.values.now) (bound_rows b r c.args.leaf.now c.requires.variables) c.requires.kind c.args.places.now c.args.variables.now _ asked lights c.in_ok-uniforms.uniforms.items c.in_ok-rows.rows.now c.in_ok-left.ensures.out
+    answers c.requires.places c.requires.sized (c.in_ok-uniforms.ensures ∙ ap (λ vs. vs ++ Number (lines c.args.leaf.now).du ∷ Number (lines c.args.leaf.now).dv ∷ []) (uniforms_given c.args.leaf.now b _ c.parameters_of-parameters.ensures)) (c.in_ok-rows.ensures ∙ ap (λ params. surface_rows params c.args.places.now c.args.variables.now) (rows_given c.args.leaf.now b _ c.parameters_of-parameters.ensures)) c.in_ok-left.ensures.left
+    c.in_ok-left.ensures.in_first c.in_ok-left.ensures.in_second refl refl refl f h
