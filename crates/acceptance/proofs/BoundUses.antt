@@ -68,7 +68,7 @@ fit_done trees uses places i vss many past is =
     (subst (λ l. FitUses trees l (take i places) vss) (take_all i uses past) is)
 
 -- the values of a use over the shader at its place
-at_place : (read : List ReadShader) (u : ShaderUse) (n : ℕ) (s : ReadShader) (vs : List Value) → n < length read → s ≡ get_or read n s → vs ≡ bound_values (tree_read s) u
+pub at_place : (read : List ReadShader) (u : ShaderUse) (n : ℕ) (s : ReadShader) (vs : List Value) → n < length read → s ≡ get_or read n s → vs ≡ bound_values (tree_read s) u
     → vs ≡ values_at read u n
 at_place read u n s vs low is here = here ∙ sym (ap (λ o. values_with o u) (slice_get-get_or read n s low ∙ ap (λ r. Some r) (sym is)))
 

@@ -233,6 +233,15 @@ fn numbered(place: usize) -> Result<u32, NoMemory>
     }
 }
 
+// Puts a shader's place behind those of the uses before.
+fn note_place(of_use: &mut Vec<u32>, place: usize) -> Result<(), NoMemory>
+    ensures { OnOk result (of_use.new.items ≡ of_use.old.items ++ place ∷ []) }
+{
+    let number = numbered(place)?;
+    of_use.push(number)?;
+    Ok(())
+}
+
 /// Reads the shaders of a scene by first use, each once, up to the first that is refused.
 pub(crate) fn read_shaders<L: Library>(
     alloc: Global,
@@ -252,8 +261,7 @@ pub(crate) fn read_shaders<L: Library>(
     let mut of_use = Vec::new(alloc);
     for shader in uses {
         let place = read_once(alloc, library, &mut names, &mut shaders, &shader.name)?;
-        let number = numbered(place)?;
-        of_use.push(number)?;
+        note_place(&mut of_use, place)?;
     }
     Ok(UsedShaders {
         read: List(shaders),

@@ -1,4 +1,4 @@
-use Rattle.std.proofs.Common.{ap, ◌∙◌, ◌+◌, ◌++◌, ◌∷◌, [], ℕ, sym, subst, map, Err, arith}
+use Rattle.std.proofs.Common.{ap, ◌∙◌, ◌+◌, sym, subst, map, Err, arith}
 use Rattle.std.proofs.lemmas.Result.{err_from_is_err_and}
 use Rattle.std.proofs.lemmas.List.{take_all}
 use Rattle.outside.specs.Causes.{Told}
@@ -24,8 +24,8 @@ loop-shader-preserved g c =
     record {
       table = c.in_ok-place.ensures.table;
       placed = uses_placed c.args.uses.now c.loop-shader.shader-index c.shader-item.result (map name_of c.loop-shader.shaders.items) (map name_of c.read_once.new.shaders.items)
-          c.loop-shader.of_use.items c.push.new.self.items c.in_ok-place.place c.loop-shader-test.true c.shader-item.is
-          c.in_ok-place.ensures.name c.in_ok-place.ensures.place (c.in_ok-push.ensures.items ∙ ap (λ (n : ℕ). c.loop-shader.of_use.items ++ n ∷ []) c.in_ok-number.ensures) c.loop-shader.invariant.placed;
+          c.loop-shader.of_use.items c.note_place.new.of_use.items c.in_ok-place.place c.loop-shader-test.true c.shader-item.is
+          c.in_ok-place.ensures.name c.in_ok-place.ensures.place c.in_ok-note_place.ensures c.loop-shader.invariant.placed;
       read = so_far-next c.args.uses.now c.loop-shader.shader-index c.shader-item.result c.loop-shader.shaders.items c.read_once.new.shaders.items
           (g.L.Library.held c.args.library.now) (g.L.Library.held c.loop-shader.library) (g.L.Library.held c.read_once.new.library)
           (g.L.Library.asked c.args.library.now) (g.L.Library.asked c.loop-shader.library) (g.L.Library.asked c.read_once.new.library)
@@ -52,20 +52,8 @@ returns-in_err-place-clause-reads g c =
     (g.L.Library.faults c.args.library.now) (g.L.Library.faults c.loop-shader.library) c.in_err-place.field-0.0
     c.loop-shader.invariant.read c.loop-shader-test.true c.shader-item.is c.in_err-place.ensures.unread c.in_err-place.ensures.reads)
 
-pub returns-in_err-number-clause-asked : goal.returns-in_err-number-clause-asked
-returns-in_err-number-clause-asked g c =
-    so_far-behind c.args.uses.now (c.loop-shader.shader-index + 1) c.read_once.new.shaders.items
-    (g.L.Library.held c.args.library.now) (g.L.Library.held c.read_once.new.library) (g.L.Library.asked c.args.library.now) (g.L.Library.asked c.read_once.new.library)
-    (g.L.Library.faults c.args.library.now) (g.L.Library.faults c.read_once.new.library)
-    (so_far-next c.args.uses.now c.loop-shader.shader-index c.shader-item.result c.loop-shader.shaders.items c.read_once.new.shaders.items
-    (g.L.Library.held c.args.library.now) (g.L.Library.held c.loop-shader.library) (g.L.Library.held c.read_once.new.library)
-    (g.L.Library.asked c.args.library.now) (g.L.Library.asked c.loop-shader.library) (g.L.Library.asked c.read_once.new.library)
-    (g.L.Library.faults c.args.library.now) (g.L.Library.faults c.loop-shader.library) (g.L.Library.faults c.read_once.new.library)
-    c.read_once.result c.in_ok-place.place c.loop-shader.invariant.read c.loop-shader-test.true c.shader-item.is c.in_ok-place.was c.read_once.ensures.held
-    c.in_ok-place.ensures.name c.in_ok-place.ensures.asked_all c.read_once.ensures.reads c.read_once.ensures.later)
-
-pub returns-in_err-push-clause-asked : goal.returns-in_err-push-clause-asked
-returns-in_err-push-clause-asked g c =
+pub returns-in_err-note_place-clause-asked : goal.returns-in_err-note_place-clause-asked
+returns-in_err-note_place-clause-asked g c =
     so_far-behind c.args.uses.now (c.loop-shader.shader-index + 1) c.read_once.new.shaders.items
     (g.L.Library.held c.args.library.now) (g.L.Library.held c.read_once.new.library) (g.L.Library.asked c.args.library.now) (g.L.Library.asked c.read_once.new.library)
     (g.L.Library.faults c.args.library.now) (g.L.Library.faults c.read_once.new.library)
