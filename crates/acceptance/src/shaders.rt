@@ -161,12 +161,10 @@ fn read_shader<L: Library>(
     ensures later { L.faults library.old ≤ L.faults library.new }
     ensures read { IsErrOf result ReadFault → Rose (L.faults library.old) (L.faults library.new) }
 {
+    let named = name.copied(alloc)?;
     let text = fetch_text(alloc, library, name)?;
     let tree = of_bytes(alloc, name, &text)?;
-    Ok(ReadShader {
-        name: name.copied(alloc)?,
-        tree,
-    })
+    Ok(ReadShader { name: named, tree })
 }
 
 // Reads the shader of a name behind those that are read, whose names are in the table too.
@@ -187,9 +185,9 @@ fn read_next<'a, L: Library>(
     ensures later { L.faults library.old ≤ L.faults library.new }
     ensures read { IsErrOf result ReadFault → Rose (L.faults library.old) (L.faults library.new) }
 {
+    names.push(name)?;
     let read = read_shader(alloc, library, name)?;
     shaders.push(read)?;
-    names.push(name)?;
     Ok(())
 }
 

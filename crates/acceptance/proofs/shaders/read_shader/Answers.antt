@@ -12,7 +12,7 @@ use Rattle.acceptance.proofs.shaders.read_shader.Goals as goal
 
 pub returns-in_err-text-clause-reads : goal.returns-in_err-text-clause-reads
 returns-in_err-text-clause-reads g c =
-    let p = err_from_is_err_and c.from_residual.result c.from_residual.ensures.1 in
+    let p = err_from_is_err_and c.from_residual-in_err-text.result c.from_residual-in_err-text.ensures.1 in
     let held = g.L.Library.held c.args.library.now in
     subst (λ r. Told held (λ files. ReadsShader files c.args.name.now r)) (sym (p.1 ∙ ap (λ s. Err s) p.2))
     (text_refused held c.args.name.now c.in_err-text.field-0.0 c.in_err-text.ensures.gives)
@@ -29,6 +29,6 @@ returns-in_err-tree-clause-reads g c =
 pub returns-clause-reads : goal.returns-clause-reads
 returns-clause-reads g c =
     let held = g.L.Library.held c.args.library.now in
-    let s : ReadShader = record { name = c.in_ok-copied.field-0; tree = c.in_ok-tree.tree; compilable = c.result-2-1.given.0; distinct = c.result-2-1.given.1.0 } in
-    text_read held c.args.name.now c.in_ok-text.text.items s c.in_ok-text.ensures.gives c.in_ok-copied.ensures
+    let s : ReadShader = record { name = c.in_ok-named.named; tree = c.in_ok-tree.tree; compilable = c.result-1.given.0; distinct = c.result-1.given.1.0 } in
+    text_read held c.args.name.now c.in_ok-text.text.items s c.in_ok-text.ensures.gives c.in_ok-named.ensures
     (subst (λ b. tree_of_bytes c.args.name.now b ≡ Ok (tree_of c.in_ok-tree.tree)) c.deref.ensures.value c.in_ok-tree.ensures.gives)
