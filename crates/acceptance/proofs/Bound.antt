@@ -1,28 +1,21 @@
 -- How the requests of a scene are bound, one after the other.
-use Rattle.std.proofs.Common.{◌≡◌, ⊎_elim, ◌⊎◌, inl, inr, ℕ, zero, suc, ◌+◌, ◌<◌, Bool, true, false, not, List, [], ◌∷◌, ◌||◌, length, get_or, map, Option, Some, None, Result, Ok, refl, sym, ap, ◌∙◌, subst, drop, drop-cons, cond, add-one, arith, All}
-use Rattle.std.specs.Prelude.{slice_get, ◌==◌}
-use Rattle.std.specs.List.{list_any}
-use Rattle.std.specs.Option.{option_map, option_or}
-use Rattle.std.specs.Str.{bytes_eq}
+use Rattle.std.proofs.Common.{◌≡◌, ℕ, ◌+◌, ◌<◌, List, length, get_or, map, Option, Some, None, Result, Ok, sym, ap, ◌∙◌, subst, drop, arith, All}
+use Rattle.std.specs.Prelude.{slice_get}
 use Rattle.std.proofs.lemmas.Option.{slice_get-get_or}
 use Rattle.outside.specs.Library.{Files}
-use Rattle.rib_values.specs.declared.params.Param.{Param}
 use Rattle.scene.specs.declared.uses.ShaderUse.{ShaderUse}
 use Rattle.sl_ast.specs.TreeView.{tree_of}
 use Rattle.request_binding.specs.declared.refusal.Refusal.{Refusal}
 use Rattle.acceptance.specs.declared.read.ReadShader.{ReadShader}
 use Rattle.acceptance.specs.declared.shaders.UsedShaders.{UsedShaders}
-use Rattle.fixed_math.specs.Names.{last_place}
 use Rattle.request_binding.specs.Causes.{Cause, first_of}
 use Rattle.acceptance.specs.Shaders.{shader_tree}
-use Rattle.request_binding.specs.Bindings.{binding_fault, cause_at, param_name}
+use Rattle.request_binding.specs.Bindings.{binding_fault, cause_at}
 use Rattle.acceptance.specs.Bindings.{use_refused}
-use Rattle.rib_reader.specs.Holding.{is_at, is_named, holding}
-use Rattle.acceptance.specs.Reading.{IsReadOf, ArePlaced, named_use, is_among, name_of}
+use Rattle.acceptance.specs.Reading.{IsReadOf, ArePlaced, named_use, name_of}
 use Rattle.request_binding.specs.Answers.{Because, Clears}
 use Rattle.acceptance.proofs.Firsts.{first_next, first_here}
-use Rattle.acceptance.proofs.Names.{itself}
-use Rattle.acceptance.proofs.Places.{use_placed, as_many, shader_named, within, unplaced, among_placed}
+use Rattle.acceptance.proofs.Places.{use_placed, as_many, shader_named, within}
 
 -- what is left to be looked at
 abbrev pub bound_from : Files → List ShaderUse → Option Cause

@@ -1,6 +1,7 @@
 -- The filters' weights aren't below 0, and lie within the numbers.
 use Rattle.std.proofs.Common.{◌≡◌, ℕ, ◌*◌, ◌^◌, ◌≤◌, arith, refl, Bool, true, false, ◌+◌, ◌<◌, to_z, of_z}
-use Rattle.std.specs.Prelude.{ℤ, pos, negsuc, neg_ℤ, ◌≤ℤ◌, ◌<ℤ◌, ◌-ℤ◌, ◌*ℤ◌, unsigned_abs, int_le, int_lt, ◌&&◌}
+use Rattle.std.proofs.lemmas.Bool.{and_parts}
+use Rattle.std.specs.Prelude.{ℤ, pos, negsuc, neg_ℤ, ◌≤ℤ◌, ◌<ℤ◌, ◌-ℤ◌, ◌*ℤ◌, unsigned_abs, int_le, int_lt}
 use Rattle.std.specs.Int.{int_rem_euclid}
 use lib.Signed.{mag}
 use Rattle.std.specs.Int.{w64}
@@ -12,10 +13,6 @@ use Rattle.fixed_math.proofs.Floor.{floor_by_between}
 use Rattle.fixed_math.proofs.Sat.{sat_mono, mul_mono, sat_of_raw}
 use Rattle.filter_ppm.specs.Weight.{counts, slope, across, weight, reach}
 use Rattle.scene.specs.Settings.{OptionValues}
-
-and_true : (p q : Bool) → (p && q) ≡ true → (p ≡ true) × (q ≡ true)
-and_true true q e = (refl, e)
-and_true false q e = absurd (cc)
 
 by_bool : {P : Type 0} (b : Bool) → (b ≡ true → P) → (b ≡ false → P) → P
 by_bool true f g = f refl
@@ -35,7 +32,7 @@ pub record IsWithin (w : ℕ) (d : ℤ) : Type 0 where
 
 pub counts_within : (w : ℕ) (d : ℤ) → counts w d ≡ true → IsWithin w d
 counts_within w d e =
-    let f = and_true (int_le (neg_ℤ (pos w)) (pos 2 *ℤ d)) (int_lt (pos 2 *ℤ d) (pos w)) e in
+    let f = and_parts (int_le (neg_ℤ (pos w)) (pos 2 *ℤ d)) (int_lt (pos 2 *ℤ d) (pos w)) e in
     let l = f.0 in
     let r = f.1 in
     record { left = omega (arith, ints); right = omega (arith, ints) }

@@ -1,12 +1,12 @@
 -- What the edges of a triangle say of a place.
-use Rattle.std.proofs.Common.{◌≡◌, zero, suc, ◌+◌, ◌*◌, ap, arith, refl, sym, ◌∙◌, Bool, true, false}
+use Rattle.std.proofs.Common.{◌≡◌, zero, suc, ◌+◌, ◌*◌, ap, arith, refl, sym, ◌∙◌, Bool, true}
 use Rattle.std.specs.Prelude.{ℤ, pos, negsuc, neg_ℤ, ◌≤ℤ◌, ◌<ℤ◌, ◌+ℤ◌, ◌-ℤ◌, ◌*ℤ◌}
 use Rattle.std.proofs.lemmas.Int.{ints, by_lt_z}
-use borrow.Author.Differences.{up, down, product_is}
+use borrow.Author.Differences.{up, down}
 use lib.IntN.{*ℤ_comm}
 use Rattle.fixed_math.proofs.Ring.{*ℤ_assoc}
 use Rattle.fixed_math.specs.Spots.{Spot}
-use Rattle.fixed_math.specs.Edges.{edge, owns, by_side, is_inside}
+use Rattle.fixed_math.specs.Edges.{edge, by_side}
 
 -- ---- products of differences
 mul_sub : (p a b : ℤ) → p *ℤ (a -ℤ b) ≡ p *ℤ a -ℤ p *ℤ b

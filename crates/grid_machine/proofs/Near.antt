@@ -1,8 +1,8 @@
 -- States that are the same on a grid.
-use Rattle.std.proofs.Common.{◌≡◌, ℕ, zero, suc, ◌+◌, ◌-◌, ◌*◌, ◌/◌, ◌%◌, ◌<◌, ◌≤◌, Bool, true, false, cond, List, [], ◌∷◌, refl, sym, ap, ◌∙◌, arith, ⊎_elim, true≢false}
-use Rattle.std.specs.Prelude.{◌&&◌, ◌||◌, nat_lt}
+use Rattle.std.proofs.Common.{◌≡◌, ℕ, zero, suc, ◌+◌, ◌-◌, ◌*◌, ◌/◌, ◌%◌, ◌<◌, ◌≤◌, Bool, true, cond, List, [], ◌∷◌, refl, sym, ap, ◌∙◌, arith, ⊎_elim}
+use Rattle.std.specs.Prelude.{◌||◌, nat_lt}
 use Rattle.std.specs.List.{list_all}
-use Rattle.std.proofs.lemmas.Bool.{cond-true, cond-false, cases_Bool, ltb-true}
+use Rattle.std.proofs.lemmas.Bool.{cond-true, cond-false, cases_Bool, ltb-true, and_parts}
 use Rattle.sl_ast.specs.declared.typed.Value.{Value}
 use Rattle.sl_ast.specs.declared.operations.Difference.{Difference}
 use Rattle.sl_ast.specs.declared.operations.Difference.TheVariants.{Du, Dv, CalculateNormal}
@@ -40,14 +40,10 @@ pub read_near : (c : ℕ) (v u : RegisterSet) (g h : State) (r : Register) (i : 
 read_near c v u g h (Uniform s k) i n x l = n.shared s k x
 read_near c v u g h (Varying s k) i n x l = n.rows s k i x l
 
-both_hold : (a b : Bool) → (a && b) ≡ true → (a ≡ true) × (b ≡ true)
-both_hold true b h = (refl, h)
-both_hold false b h = absurd (true≢false (sym h))
-
 pub reads_near : (c : ℕ) (v u : RegisterSet) (g h : State) (rs : List Register) (i : ℕ) → Near c v u g h → list_all (has v u) rs ≡ true → i < c → reads g rs i ≡ reads h rs i
 reads_near c v u g h [] i n x l = refl
 reads_near c v u g h (r ∷ rs) i n x l =
-    let y = both_hold (has v u r) (list_all (has v u) rs) x in
+    let y = and_parts (has v u r) (list_all (has v u) rs) x in
     ap (λ w. w ∷ reads g rs i) (read_near c v u g h r i n y.0 l) ∙ ap (λ ws. read h r i ∷ ws) (reads_near c v u g h rs i n y.1 l)
 
 pub result_near : (c : ℕ) (v u : RegisterSet) (w : Ground) (g h : State) (o : Source) (i : ℕ) → Near c v u g h → source_within (has v u) o ≡ true → i < c → result_of o w g i ≡ result_of o w h i

@@ -2,7 +2,7 @@
 use Rattle.std.proofs.Common.{◌≡◌, ap, arith, refl, sym, Bool, true, false, List, [], ◌∷◌}
 use Rattle.std.specs.Prelude.{ℤ, pos, negsuc, ◌+ℤ◌, ◌-ℤ◌, ◌*ℤ◌}
 use Rattle.std.proofs.lemmas.Int.{ints}
-use Rattle.std.proofs.lemmas.Bool.{eqb-true}
+use Rattle.std.proofs.lemmas.Bool.{eqb-true, and_parts}
 use Rattle.fixed_math.specs.Fixed.{sat, add, mul}
 use Rattle.fixed_math.specs.declared.vec3.Axis.{Axis}
 use Rattle.fixed_math.specs.declared.vec3.Axis.TheVariants.{X, Y, Z}
@@ -10,7 +10,6 @@ use Rattle.fixed_math.specs.Axes.{part_of}
 use Rattle.fixed_math.proofs.Sat.{sat_low, sat_high, sat_of_raw}
 use Rattle.hider.specs.declared.fragment.Fragment.{Fragment}
 use Rattle.hider.specs.Composite.{is_one, is_opaque, cut, composite_from, composite}
-use Rattle.hider.proofs.Threes.{and_true}
 
 pub by_bool : {P : Type 0} (b : Bool) → (b ≡ true → P) → (b ≡ false → P) → P
 by_bool true f g = f refl
@@ -38,9 +37,9 @@ is_one_true (negsuc n) e = cc
 
 opaque_part : (f : Fragment) (a : Axis) → is_opaque f ≡ true → part_of a f.opacity ≡ pos 65536
 unfolding is_opaque
-opaque_part f X e = is_one_true f.opacity.x (and_true _ _ e).0
-opaque_part f Y e = is_one_true f.opacity.y (and_true _ _ (and_true _ _ e).1).0
-opaque_part f Z e = is_one_true f.opacity.z (and_true _ _ (and_true _ _ e).1).1
+opaque_part f X e = is_one_true f.opacity.x (and_parts _ _ e).0
+opaque_part f Y e = is_one_true f.opacity.y (and_parts _ _ (and_parts _ _ e).1).0
+opaque_part f Z e = is_one_true f.opacity.z (and_parts _ _ (and_parts _ _ e).1).1
 
 pub composite_from-cut : (a : Axis) (c p : ℤ) (fs : List Fragment) → composite_from a c p (cut fs) ≡ composite_from a c p fs
 composite_from-cut a c p [] = refl

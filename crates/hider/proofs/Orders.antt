@@ -1,13 +1,12 @@
 -- The order of fragments by depth.
 use Rattle.std.proofs.Common.{◌≡◌, ap, arith, refl, sym, ◌∙◌, true, false, List, [], ◌∷◌, ◌++◌, append_assoc}
-use Rattle.std.specs.Prelude.{ℤ, ◌≤ℤ◌, ◌<ℤ◌, int_le, Option, Some, None}
-use Rattle.std.specs.List.{fold, cons_option}
+use Rattle.std.specs.Prelude.{ℤ, ◌≤ℤ◌, ◌<ℤ◌, int_le}
+use Rattle.std.specs.List.{fold}
 use Rattle.std.specs.Ordering.{int_eq}
 use Rattle.std.proofs.lemmas.Int.{ints, by_lt_z}
 use Rattle.std.proofs.lemmas.Bool.Decides.{Decides-int_eq}
 use Rattle.std.proofs.lemmas.List.{append-nil}
-use Rattle.std.proofs.lemmas.List.Elements.{filter-append, filter_map-append}
-use Rattle.std.proofs.lemmas.List.Sums.{fold-append}
+use Rattle.std.proofs.lemmas.List.Elements.{filter-append}
 use Rattle.hider.specs.declared.fragment.Fragment.{Fragment}
 use Rattle.hider.specs.Fragments.{put_in, by_depth, IsSortedFrom, IsSorted, of_depth, IsOrderOf, IsOnlyOrderOf}
 use Rattle.hider.proofs.Cuts.{by_bool}

@@ -1,5 +1,6 @@
 -- What a tile shows.
 use Rattle.std.proofs.Common.{◌≡◌, ℕ, ◌<◌, ap, arith, refl, sym, ◌∙◌, true, false, List, [], ◌∷◌, length, slice_index_or}
+use Rattle.std.proofs.lemmas.Bool.{and_parts}
 use Rattle.std.specs.Prelude.{ℤ, ◌≤ℤ◌, ◌<ℤ◌, int_lt}
 use Rattle.std.proofs.lemmas.Int.{ints}
 use Rattle.hider.specs.declared.fragment.Fragment.{Fragment}
@@ -12,7 +13,6 @@ use Rattle.hider.specs.Kept.{keep_all, hides, blocks}
 use Rattle.hider.specs.Tiles.{TileValue, IsTile, Shows, BlocksAll, HavePut, sample_of, sample_count}
 use Rattle.hider.proofs.Cuts.{by_bool, composite-cut}
 use Rattle.hider.proofs.Keeps.{keep_all-cut}
-use Rattle.hider.proofs.Threes.{and_true}
 use Rattle.hider.proofs.Orders.{all_sorted}
 
 -- with more put in at each sample
@@ -40,7 +40,7 @@ blocks_above m z [] s e = absurd (cc)
 blocks_above m z (g ∷ gs) s e =
     let low = s.0 in
     by_bool (hides z g)
-    (λ o. let h = (and_true (is_opaque g) (int_lt g.depth z) o).1 in omega (arith, ints))
+    (λ o. let h = (and_parts (is_opaque g) (int_lt g.depth z) o).1 in omega (arith, ints))
     (λ o. let h = blocks_above g.depth z gs s.1 (rw o at e) in omega (arith, ints))
 
 no_block : (m z : ℤ) (l : List Fragment) → IsSortedFrom m l → z ≤ℤ m → blocks z l ≡ false

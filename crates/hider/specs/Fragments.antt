@@ -1,5 +1,5 @@
 -- What a sample sees: the fragments of the micropolygons that cover it, in order of depth.
-use Rattle.std.specs.Prelude.{ℤ, ◌≤ℤ◌, ◌≡◌, cond, int_le, Option, Some, None, List, [], ◌∷◌}
+use Rattle.std.specs.Prelude.{ℤ, ◌≤ℤ◌, ◌≡◌, cond, int_le, Option, List, [], ◌∷◌}
 use Rattle.std.specs.List.{fold, filter, filter_map}
 use Rattle.std.specs.Option.{option_and_then}
 use Rattle.std.specs.Ordering.{int_eq}

@@ -1,5 +1,5 @@
 -- Lights that all lie below a bound: one at or past it isn't among them.
-use Rattle.std.proofs.Common.{◌≡◌, refl, subst, sym, ap, ℕ, suc, ◌<◌, ◌≤◌, ◌==◌, Bool, false, not, List, [], ◌∷◌, get_or, filter, All, if◌then◌else◌, arith}
+use Rattle.std.proofs.Common.{◌≡◌, refl, subst, sym, ap, ℕ, suc, ◌<◌, ◌≤◌, ◌==◌, Bool, false, not, List, [], ◌∷◌, get_or, All, if◌then◌else◌, arith}
 use Rattle.std.proofs.lemmas.List.Folds.{list_any_none}
 use Rattle.light_lists.specs.Lights.{is_among, without_light}
 

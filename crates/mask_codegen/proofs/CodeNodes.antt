@@ -15,7 +15,6 @@ use Rattle.builtins.specs.Shapes.{shape, shape_applied}
 use Rattle.grid_code.specs.declared.code.Register.{Register}
 use Rattle.grid_code.specs.declared.code.Source.TheVariants.{Constant, Copy, Apply}
 use Rattle.grid_code.specs.Code as c
-use Rattle.grid_code.specs.Code.{Block}
 use Rattle.grid_code.specs.Masked.{same_shape}
 use Rattle.grid_code.specs.Shapes.{register_shape, register_shapes, difference_shape}
 use Rattle.grid_code.specs.Valid.{at_most_three, one_to_three, is_placed}

@@ -20,7 +20,7 @@ use Rattle.sl_ast.specs.declared.typed.Variable.{Variable}
 use Rattle.sl_ast.specs.declared.typed.Variable.TheVariants as variables
 use Rattle.sl_ast.specs.Typed as T
 use Rattle.sl_ast.specs.Classes as classes
-use Rattle.sl_ast.specs.Classes.{class_of, is_plain, is_uniform_name, formal_classes, is_uniform_loop}
+use Rattle.sl_ast.specs.Classes.{class_of, is_plain, is_uniform_name, formal_classes}
 use Rattle.sl_ast.specs.Rules.{rule, takes}
 use Rattle.sl_ast.specs.WellTyped.{Around, in_function, in_lights, in_loop, is_type, kind_of, operands, fits, names_space, names_spaces, stands, formal_types, types_after, types_after_all, typed, typed_args, typed_stmt, typed_stmts}
 use Rattle.sl_meaning.specs.Core as C

@@ -8,7 +8,7 @@ use Rattle.sl_ast.specs.declared.kinds.SlType.{SlType}
 use Rattle.sl_ast.specs.declared.typed.TreeFormal.{TreeFormal}
 use Rattle.sl_ast.specs.Typed as T
 use Rattle.sl_ast.specs.Classes as classes
-use Rattle.sl_ast.specs.Classes.{class_of, formal_classes, is_uniform_loop}
+use Rattle.sl_ast.specs.Classes.{class_of, formal_classes}
 use Rattle.sl_ast.specs.Settled as settled
 use Rattle.sl_ast.specs.Settled.{Spot, is_difference, varies_into, goes_wrong, settled_expr, settled_args, settled_stmt, settled_stmts}
 use Rattle.sl_ast.specs.WellTyped.{Around, in_function, in_lights, in_loop, fits, formal_types, types_after, types_after_all, typed, typed_args, typed_stmt, typed_stmts}

@@ -14,7 +14,7 @@ use Rattle.uniform_varying.proofs.Leaves.{function_stays, shader_stays, branch_s
 use Rattle.sl_meaning.specs.Core as C
 use Rattle.sl_meaning.specs.Core.{Slot}
 use Rattle.sl_meaning.specs.Lowered as lowered
-use Rattle.sl_meaning.specs.Lowered.{expr, exprs, arguments, stmt, stmts, put_into, read, with_last, slots, body_of}
+use Rattle.sl_meaning.specs.Lowered.{expr, exprs, arguments, stmt, stmts, slots, body_of}
 use Rattle.core_codegen.specs.Fine.{IsStep, When, FineExpr, FineAll, StaysAll, GridExpr, GridExprs, GridArgs, GridStmt, GridAll}
 use Rattle.mask_codegen.proofs.LoweredScopes.{Scope, scope_after, scope_after_all, scope_of_formals, scope_of_params, variable_class, set_in_scope, read_in_scope}
 use Rattle.mask_codegen.proofs.LoweredClasses.{expr_class, put_takes}

@@ -22,7 +22,7 @@ use Rattle.sl_ast.specs.WellTyped.{Around, in_function, in_lights, in_loop, is_t
 use Rattle.sl_meaning.specs.Core as C
 use Rattle.sl_meaning.specs.Core.{Slot, stmts_uniform}
 use Rattle.sl_meaning.specs.Lowered as lowered
-use Rattle.sl_meaning.specs.Lowered.{expr, exprs, arguments, stmt, stmts, put_into, with_last, value_type}
+use Rattle.sl_meaning.specs.Lowered.{expr, exprs, arguments, stmt, stmts, put_into, with_last}
 use Rattle.mask_codegen.proofs.LoweredScopes.{Scope, scope_after, scope_after_all, scope_of_formals}
 use Rattle.mask_codegen.proofs.LoweredClasses.{expr_class}
 use Rattle.mask_codegen.proofs.Made.{three_unless, load, load_exprs, load_args, load_stmt, load_all}

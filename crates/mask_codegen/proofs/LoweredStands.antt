@@ -28,7 +28,7 @@ use Rattle.sl_ast.specs.Names.{name_type, reads, writes, is_pi, surface_reads, h
 use Rattle.sl_ast.specs.Rules.{node_type, rule, value_rule, components, conversion}
 use Rattle.sl_ast.specs.WellTyped.{Around, same_type, is_type, operands, read_type, set_type, stands, lights_take}
 use Rattle.sl_meaning.specs.Core as C
-use Rattle.sl_meaning.specs.Core.{Slot, no_slot, kind_in}
+use Rattle.sl_meaning.specs.Core.{Slot, kind_in}
 use Rattle.sl_meaning.specs.Lowered as lowered
 use Rattle.sl_meaning.specs.Lowered.{exprs, put_into, read, with_last}
 use Rattle.mask_codegen.proofs.CorePlaced.{are_few, are_some, Reads, PlacedExpr, PlacedExprs}

@@ -8,7 +8,7 @@ use Rattle.sl_ast.specs.declared.typed.Place.{Place}
 use Rattle.sl_ast.specs.Names.{has_lights}
 use Rattle.sl_ast.specs.Typed as T
 use Rattle.sl_ast.specs.Classes as classes
-use Rattle.sl_ast.specs.Classes.{is_uniform, is_uniform_loop, leaves_together, leave_together}
+use Rattle.sl_ast.specs.Classes.{is_uniform, leaves_together, leave_together}
 use Rattle.sl_ast.specs.WellTyped.{Around, is_set, in_lights, operands, lights_take, types_after, typed_args, typed_stmt, typed_stmts, well_typed, local_types, in_shader}
 use Rattle.uniform_varying.specs.Leaving.{stays, all_stay}
 use Rattle.uniform_varying.proofs.Leaves.{shader_stays}

@@ -1,8 +1,8 @@
 -- Points that pass the test of their range are within it.
-use Rattle.std.proofs.Common.{◌≡◌, ℕ, zero, suc, ◌<◌, ◌^◌, Bool, true, false, ◌&&◌, is_some, nat_le, List, [], ◌∷◌, Option, Some, None, arith, refl, sym, subst, length, if◌then◌else◌, slice_index_or, unsigned_abs}
+use Rattle.std.proofs.Common.{◌≡◌, ℕ, zero, suc, ◌<◌, ◌^◌, Bool, true, false, is_some, nat_le, List, [], ◌∷◌, Option, Some, None, arith, refl, sym, subst, length, if◌then◌else◌, slice_index_or, unsigned_abs}
 use Rattle.std.specs.Prelude.{ℤ}
 use Rattle.std.specs.List.{list_all}
-use Rattle.std.proofs.lemmas.Bool.{false≢true}
+use Rattle.std.proofs.lemmas.Bool.{false≢true, and_parts}
 use borrow.Author.Tests.{leb-true}
 use Rattle.fixed_math.specs.declared.vec3.Vec3.{Vec3}
 use Rattle.fixed_math.specs.declared.vec3.Axis.TheVariants.{X, Y, Z}
@@ -32,14 +32,10 @@ origin_near X = omega arith
 origin_near Y = omega arith
 origin_near Z = omega arith
 
-both_true : (a b : Bool) → (a && b) ≡ true → (a ≡ true) × (b ≡ true)
-both_true true b h = (refl, h)
-both_true false b h = absurd (false≢true h)
-
 pub are_near : (ps : List Vec3) → are_in_range ps ≡ true → (k : ℕ) → IsWithin (2 ^ 30) (slice_index_or ps k origin)
 are_near [] h k = origin_near
-are_near (p ∷ ps) h zero = point_near p (both_true (is_in_range p) (list_all is_in_range ps) h).0
-are_near (p ∷ ps) h (suc k) = are_near ps (both_true (is_in_range p) (list_all is_in_range ps) h).1 k
+are_near (p ∷ ps) h zero = point_near p (and_parts (is_in_range p) (list_all is_in_range ps) h).0
+are_near (p ∷ ps) h (suc k) = are_near ps (and_parts (is_in_range p) (list_all is_in_range ps) h).1 k
 
 -- four points of a mesh
 pub four_near : (p q r s : Vec3) → IsWithin (2 ^ 30) p → IsWithin (2 ^ 30) q → IsWithin (2 ^ 30) r → IsWithin (2 ^ 30) s → AreWithin (2 ^ 30) (p ∷ q ∷ r ∷ s ∷ [])
@@ -47,8 +43,8 @@ four_near p q r s a b c d = Each-AreWithin (2 ^ 30) (p ∷ q ∷ r ∷ s ∷ [])
 
 near_from : (ps : List Vec3) → are_in_range ps ≡ true → (k : ℕ) (d : Vec3) → k < length ps → IsWithin (2 ^ 30) (slice_index_or ps k d)
 near_from [] h k d l = absurd (omega arith)
-near_from (p ∷ ps) h zero d l = point_near p (both_true (is_in_range p) (list_all is_in_range ps) h).0
-near_from (p ∷ ps) h (suc k) d l = near_from ps (both_true (is_in_range p) (list_all is_in_range ps) h).1 k d (omega arith)
+near_from (p ∷ ps) h zero d l = point_near p (and_parts (is_in_range p) (list_all is_in_range ps) h).0
+near_from (p ∷ ps) h (suc k) d l = near_from ps (and_parts (is_in_range p) (list_all is_in_range ps) h).1 k d (omega arith)
 
 -- a point that was read of them
 pub item_near : (ps : List Vec3) (k : ℕ) (r : Vec3) → are_in_range ps ≡ true → k < length ps → r ≡ slice_index_or ps k r → IsWithin (2 ^ 30) r

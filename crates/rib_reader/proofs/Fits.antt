@@ -1,5 +1,6 @@
 -- What it means for the arguments and the list of a request that no code stands in them.
 use Rattle.std.proofs.Common.{◌≡◌, ℕ, zero, suc, ◌∷◌, [], List, ℤ, pos, ◌≤ℤ◌, ◌<ℤ◌, Option, Some, None, length, Bool, true, false, not, ◌&&◌, ◌||◌, refl, sym, ap, ◌∙◌, int_lt, cond, codes, is_some, option_map, arith}
+use Rattle.std.proofs.lemmas.Bool.{and_parts}
 use Rattle.std.proofs.lemmas.Int.{ints}
 use Rattle.std.specs.List.{slice_get}
 use Rattle.std.specs.Option.{option_or}
@@ -39,14 +40,6 @@ not_false : (t : Bool) → not t ≡ false → t ≡ true
 not_false true e = refl
 not_false false e = absurd cc
 
-and_left : (a b : Bool) → (a && b) ≡ true → a ≡ true
-and_left true b e = refl
-and_left false b e = absurd cc
-
-and_right : (a b : Bool) → (a && b) ≡ true → b ≡ true
-and_right true b e = e
-and_right false b e = absurd cc
-
 or_left : (a b : Bool) → (a || b) ≡ false → a ≡ false
 or_left true b e = absurd cc
 or_left false b e = refl
@@ -79,8 +72,8 @@ fit_at : (ss : List Shape) (args : List Arg) (n : ℕ) (s : Shape) → fit ss ar
     → (a : Arg) × (slice_get args n ≡ Some a) × (fits s a ≡ true)
 fit_at [] args n s f h = absurd cc
 fit_at (t ∷ ss) [] n s f h = absurd cc
-fit_at (t ∷ ss) (a ∷ rest) zero s f h = (a, refl, rw (sym (same_some t s h)) (and_left (fits t a) (fit ss rest) f))
-fit_at (t ∷ ss) (a ∷ rest) (suc n) s f h = fit_at ss rest n s (and_right (fits t a) (fit ss rest) f) h
+fit_at (t ∷ ss) (a ∷ rest) zero s f h = (a, refl, rw (sym (same_some t s h)) (and_parts (fits t a) (fit ss rest) f).0)
+fit_at (t ∷ ss) (a ∷ rest) (suc n) s f h = fit_at ss rest n s (and_parts (fits t a) (fit ss rest) f).1 h
 
 -- an argument stands at each place of a request's row
 pub arg_there : (name : Req) (args : List Arg) (params : List Param) (n : ℕ) (s : Shape) → request_code name args params ≡ None

@@ -1,5 +1,6 @@
 -- Values and the tokens that they are written with.
 use Rattle.std.proofs.Common.{◌≡◌, ℕ, ◌∷◌, [], ◌++◌, List, Bool, true, false, not, ◌&&◌, ◌||◌, ◌==◌, cond, length, map, refl, sym, ap, ◌∙◌, append_assoc, inl, inr, ◌⊎◌, arith}
+use Rattle.std.proofs.lemmas.Bool.{and_parts}
 use Rattle.std.proofs.lemmas.Bool.Decides.{nat_tests}
 use Rattle.std.proofs.lemmas.List.{append-nil, map-append}
 use Rattle.rib_lex.specs.declared.decimal.Decimal.{Decimal}
@@ -63,19 +64,11 @@ read_value (Numbers ds) p vs ks = numbers_read vs [] ds ks
 read_value (Strings []) p vs ks = absurd cc
 read_value (Strings (t ∷ ts)) p vs ks = strings_read vs t [] ts ks
 
-both_left : (a b : Bool) → (a && b) ≡ true → a ≡ true
-both_left true b e = refl
-both_left false b e = absurd cc
-
-both_right : (a b : Bool) → (a && b) ≡ true → b ≡ true
-both_right true b e = e
-both_right false b e = absurd cc
-
 read_values : (args : List Arg) → are_plain args ≡ true → (vs : List Arg) → scan_kinds (read_as vs) (spelled_all args) ≡ read_as (vs ++ args)
 read_values [] p vs = ap read_as (sym (append-nil vs))
 read_values (a ∷ rest) p vs =
-    read_value a (both_left (is_plain a) (are_plain rest) p) vs (spelled_all rest)
-    ∙ read_values rest (both_right (is_plain a) (are_plain rest) p) (vs ++ a ∷ [])
+    read_value a (and_parts (is_plain a) (are_plain rest) p).0 vs (spelled_all rest)
+    ∙ read_values rest (and_parts (is_plain a) (are_plain rest) p).1 (vs ++ a ∷ [])
     ∙ ap read_as (append_assoc vs (a ∷ []) rest)
 
 pub spell_law : SpellLaw

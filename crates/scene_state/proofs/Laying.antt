@@ -1,7 +1,7 @@
 -- Patches that are placed one after another.
 use Rattle.std.proofs.Common.{◌≡◌, ◌∙◌, ap, sym, refl, subst, arith, ℕ, zero, suc, ◌+◌, ◌-◌, ◌*◌, ◌<◌, ◌≤◌, Bool, true, false, ◌&&◌, nat_le, List, [], ◌∷◌, ◌++◌, length, map, take, drop, Option, Some, None, Ok, Err, slice_index_or, length-append, not, if◌then◌else◌}
 use Rattle.std.specs.List.{range_with_len, sum_by}
-use Rattle.std.proofs.lemmas.Bool.{false≢true}
+use Rattle.std.proofs.lemmas.Bool.{false≢true, and_parts}
 use Rattle.std.proofs.lemmas.List.{length-map}
 use Rattle.std.proofs.lemmas.List.FromFn.{length-map-range_with_len}
 use Rattle.std.proofs.lemmas.List.Sums.{sum_by-cons}
@@ -136,10 +136,6 @@ drop_at xs k d h = drop-cons xs k d h ∙ ap (λ n. slice_index_or xs k d ∷ dr
     next : (k : ℕ) → suc k ≡ k + 1
     next k = omega arith
 
-both_true : (a b : Bool) → (a && b) ≡ true → (a ≡ true) × (b ≡ true)
-both_true true b h = (refl, h)
-both_true false b h = absurd (false≢true h)
-
 -- what is left of the sizes, with room for their pieces and as many corners
 pub record Left (sizes : List ℕ) (room left : ℕ) : Type 0 where
   pub used : use_up sizes left ≡ true
@@ -147,16 +143,16 @@ pub record Left (sizes : List ℕ) (room left : ℕ) : Type 0 where
 
 one_less : (n : ℕ) (ns : List ℕ) (room left : ℕ) → Left (n ∷ ns) room left → Left ns (room + piece_count n) (left - n)
 one_less n ns room left l =
-    let first = both_true (nat_le 3 n) (nat_le n left && use_up ns (left - n)) l.used in
-    let second = both_true (nat_le n left) (use_up ns (left - n)) first.1 in
+    let first = and_parts (nat_le 3 n) (nat_le n left && use_up ns (left - n)) l.used in
+    let second = and_parts (nat_le n left) (use_up ns (left - n)) first.1 in
     let fits = l.fits in
     let all = sum_by-cons piece_count n ns in
     record { used = second.1; fits = omega (arith, fits, all) }
 
 first_fits : (n : ℕ) (ns : List ℕ) (room left : ℕ) → Left (n ∷ ns) room left → n ≤ left
 first_fits n ns room left l =
-    let first = both_true (nat_le 3 n) (nat_le n left && use_up ns (left - n)) l.used in
-    leb-true n left (both_true (nat_le n left) (use_up ns (left - n)) first.1).0
+    let first = and_parts (nat_le 3 n) (nat_le n left && use_up ns (left - n)) l.used in
+    leb-true n left (and_parts (nat_le n left) (use_up ns (left - n)) first.1).0
 
 -- a face has no more corners than are left
 pub face_fits : (sizes : List ℕ) (k d room left : ℕ) → k < length sizes → Left (drop k sizes) room left → slice_index_or sizes k d ≤ left
@@ -191,8 +187,8 @@ faces_end r object ps first sizes corners k s all h inv = sym (ap (λ ns. with_f
 pub pieces_few : (ns : List ℕ) (left : ℕ) → use_up ns left ≡ true → sum_by piece_count ns ≤ left
 pieces_few [] left u = omega arith
 pieces_few (n ∷ ns) left u =
-    let first = both_true (nat_le 3 n) (nat_le n left && use_up ns (left - n)) u in
-    let second = both_true (nat_le n left) (use_up ns (left - n)) first.1 in
+    let first = and_parts (nat_le 3 n) (nat_le n left && use_up ns (left - n)) u in
+    let second = and_parts (nat_le n left) (use_up ns (left - n)) first.1 in
     let within = leb-true n left second.0 in
     let rest = pieces_few ns (left - n) second.1 in
     let all = sum_by-cons piece_count n ns in
@@ -203,8 +199,8 @@ pieces_few (n ∷ ns) left u =
 
 point_near : (ps : List Vec3) (k : ℕ) → are_in_range ps ≡ true → is_in_range (slice_index_or ps k origin) ≡ true
 point_near [] k h = refl
-point_near (p ∷ ps) zero h = (both_true (is_in_range p) (are_in_range ps) h).0
-point_near (p ∷ ps) (suc k) h = point_near ps k (both_true (is_in_range p) (are_in_range ps) h).1
+point_near (p ∷ ps) zero h = (and_parts (is_in_range p) (are_in_range ps) h).0
+point_near (p ∷ ps) (suc k) h = point_near ps k (and_parts (is_in_range p) (are_in_range ps) h).1
 
 and_true : (a b : Bool) → a ≡ true → b ≡ true → (a && b) ≡ true
 and_true true b e f = f

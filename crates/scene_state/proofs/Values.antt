@@ -4,7 +4,7 @@ use Rattle.std.proofs.Math.Nat.{div-le_self, mul-le-mul_left, mod-lt}
 use Rattle.std.proofs.Math.Seq.{drop-cons}
 use Rattle.std.proofs.Math.ListN.{drop_of_length-le}
 use Rattle.std.proofs.lemmas.Bool.Decides.{nat_tests}
-use Rattle.std.proofs.lemmas.Bool.{false≢true}
+use Rattle.std.proofs.lemmas.Bool.{and_parts}
 use Rattle.std.proofs.lemmas.List.{append-nil, length-map, length-take-le, length-drop}
 use Rattle.std.proofs.lemmas.List.Elements.{All-filter}
 use Rattle.std.specs.List.{list_all}
@@ -28,10 +28,6 @@ use Rattle.scene_state.specs.declared.seat.Extent.{Extent}
 use Rattle.scene_state.specs.declared.seat.Seat.{Seat}
 use Rattle.scene_state.specs.Variables.{variables_in, values_in, is_counted, are_counted, places_of, varies, items_at, taken, variable_of, IsIn, IsOfKind, IsThere, IsBelow, IsSeat, corners_along, HasSides, mesh_extent, corner_in, mesh_seat, face_seat}
 use Rattle.scene_state.proofs.Keeping.{all_none, all_one, all_first, all_then, all_either}
-
-both_true : (a b : Bool) → (a && b) ≡ true → (a ≡ true) × (b ≡ true)
-both_true true b h = (refl, h)
-both_true false b h = absurd (false≢true h)
 
 -- ---- lists of what stands behind others
 
@@ -105,7 +101,7 @@ pub all_there : (e : Extent) (seat : Seat) (ps : List Param) → IsSeat e seat �
 all_there e seat [] inside kinds counted = all_none (IsThere seat)
 all_there e seat (p ∷ ps) inside kinds counted =
     let parts = all_rest IsOfKind p ps kinds in
-    let counts = both_true (is_counted e p) (are_counted e ps) counted in
+    let counts = and_parts (is_counted e p) (are_counted e ps) counted in
     all_first (IsThere seat) p ps (there_of e seat p inside parts.0 counts.0) (all_there e seat ps inside parts.1 counts.1)
 
 -- ---- patches of meshes
@@ -171,7 +167,7 @@ cubic_fits false n step m e = by_test (nat_le 4 n && (n - 4) % step == 0) refl e
     by_test true low e =
         let same : (n - 4) / step + 1 ≡ m = cc in
         let few = div-le_self (n - 4) step in
-        let four = (both_true (nat_le 4 n) ((n - 4) % step == 0) low).0 in
+        let four = (and_parts (nat_le 4 n) ((n - 4) % step == 0) low).0 in
         let much : 4 ≤ n = grind (arith, four) in
         omega (arith, same, few, much)
     by_test false low e = absurd cc
@@ -211,8 +207,8 @@ sides_fit s points c e u v = by_test (points == s.nu * s.nv) e
 
 place_below : (n : ℕ) (ks : List ℕ) (k : ℕ) → are_places n ks ≡ true → k < length ks → slice_index_or ks k 0 < n
 place_below n [] k h few = absurd (omega (arith, few))
-place_below n (j ∷ js) zero h few = let low = (both_true (nat_lt j n) (are_places n js) h).0 in grind (arith, low)
-place_below n (j ∷ js) (suc k) h few = place_below n js k (both_true (nat_lt j n) (are_places n js) h).1 (omega (arith, few))
+place_below n (j ∷ js) zero h few = let low = (and_parts (nat_lt j n) (are_places n js) h).0 in grind (arith, low)
+place_below n (j ∷ js) (suc k) h few = place_below n js k (and_parts (nat_lt j n) (are_places n js) h).1 (omega (arith, few))
 
 across_below : (n i : ℕ) (t : Bool) → nat_lt (2 * i + 3) n ≡ t → i < piece_count n → cond t (2 * i + 3) (2 * i + 2) < n
 across_below n i true e h = grind (arith, e)
@@ -241,13 +237,13 @@ pub places_take : (n : ℕ) (ks : List ℕ) (k : ℕ) → are_places n ks ≡ tr
 places_take n ks zero h = refl
 places_take n [] (suc k) h = refl
 places_take n (j ∷ js) (suc k) h =
-    let parts = both_true (nat_lt j n) (are_places n js) h in
+    let parts = and_parts (nat_lt j n) (are_places n js) h in
     ap (λ b. b && are_places n (take k js)) parts.0 ∙ places_take n js k parts.1
 
 pub places_drop : (n : ℕ) (ks : List ℕ) (k : ℕ) → are_places n ks ≡ true → are_places n (drop k ks) ≡ true
 places_drop n ks zero h = h
 places_drop n [] (suc k) h = refl
-places_drop n (j ∷ js) (suc k) h = places_drop n js k (both_true (nat_lt j n) (are_places n js) h).1
+places_drop n (j ∷ js) (suc k) h = places_drop n js k (and_parts (nat_lt j n) (are_places n js) h).1
 
 -- ---- items of values
 

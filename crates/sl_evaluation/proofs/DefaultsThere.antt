@@ -1,5 +1,6 @@
 -- A well-typed tree has a default for each parameter, and its value is that of the default at the parameter's index.
-use Rattle.std.proofs.Common.{◌≡◌, ℕ, suc, ◌<◌, Bool, true, false, ◌&&◌, List, [], ◌∷◌, length, get_or, map, refl, ap, sym, ◌∙◌}
+use Rattle.std.proofs.Common.{◌≡◌, ℕ, suc, ◌<◌, true, List, [], ◌∷◌, length, get_or, map, refl, ap, sym, ◌∙◌}
+use Rattle.std.proofs.lemmas.Bool.{and_parts}
 use Rattle.std.proofs.lemmas.List.{length-map, get_or-map}
 use Rattle.transforms.specs.declared.spaces.Spaces.{Spaces}
 use Rattle.sl_ast.specs.Typed as T
@@ -12,24 +13,16 @@ use Rattle.sl_ast.specs.declared.typed.ParamDecl.{ParamDecl}
 use Rattle.sl_ast.specs.declared.typed.ParamDefault.{ParamDefault}
 use Rattle.sl_meaning.specs.Defaults as spec
 
-first_holds : (a b : Bool) → (a && b) ≡ true → a ≡ true
-first_holds true b h = refl
-first_holds false b h = h
-
-second_holds : (a b : Bool) → (a && b) ≡ true → b ≡ true
-second_holds true b h = h
-second_holds false b h = absurd (cc h)
-
 as_many : (kind : SlKind) (ls : List T.Local) (ds : List T.Default) → typed_defaults kind ls ds ≡ true → length ds ≡ length ls
 as_many kind [] [] h = refl
 as_many kind [] (d ∷ ds) h = absurd (cc h)
 as_many kind (l ∷ ls) [] h = absurd (cc h)
 as_many kind (l ∷ ls) (d ∷ ds) h =
-    ap suc (as_many kind ls ds (second_holds (typed (in_default kind) [] d.value) (typed_defaults kind ls ds) (second_holds _ _ h)))
+    ap suc (as_many kind ls ds (and_parts (typed (in_default kind) [] d.value) (typed_defaults kind ls ds) (and_parts _ _ h).1).1)
 
 pub defaults_there : (t : Tree) → well_typed (tree_of t) ≡ true → length t.defaults ≡ length t.params
 defaults_there t h =
-    sym (length-map t.defaults default_of) ∙ as_many t.kind (map local_of t.params) (map default_of t.defaults) (first_holds _ _ h) ∙ length-map t.params local_of
+    sym (length-map t.defaults default_of) ∙ as_many t.kind (map local_of t.params) (map default_of t.defaults) (and_parts _ _ h).0 ∙ length-map t.params local_of
 
 pub found : (t : Tree) (k : ℕ) (p : ParamDecl) (d : ParamDefault) (sp : Spaces) → k < length t.params → k < length t.defaults →
     p ≡ get_or t.params k p → d ≡ get_or t.defaults k d → spec.evaluated p.kind (default_of d).value sp ≡ spec.default_of (tree_of t) k sp

@@ -18,11 +18,11 @@ use Rattle.builtins.specs.Triples.{each_two}
 use Rattle.builtins.specs.Values.{as_kind, is_true, triple_of}
 use Rattle.builtins.specs.Lights.{is_in_cone, sum_of}
 use Rattle.sl_meaning.specs.Core as C
-use Rattle.sl_meaning.specs.Core.{Expr, Exprs, Arguments, Stmt, Stmts}
+use Rattle.sl_meaning.specs.Core.{Expr, Exprs, Arguments, Stmts}
 use Rattle.sl_meaning.specs.Environment.{Env, Around, Signal, Next, Break, Continue, budget, spend, scope_of, with_name, with_variable, declared, cut_to}
 use Rattle.sl_evaluation.specs.Signals.{is_break}
 use Rattle.sl_meaning.specs.Alone as A
-use Rattle.sl_meaning.specs.Alone.{Gives, Runs, on_value, on_next, inside, loop, round, lighting, over_lights, value, all_values, arg_values, run, run_all}
+use Rattle.sl_meaning.specs.Alone.{Gives, Runs, on_value, inside, loop, round, lighting, over_lights, value, all_values, arg_values, run, run_all}
 use Rattle.sl_meaning.specs.Dark.{dark, light_along}
 use Rattle.sl_meaning.specs.CoreView.{expr_of, exprs_of, args_of, stmts_of}
 use Rattle.sl_meaning.specs.declared.core_tree.CoreExpr.{CoreExpr}

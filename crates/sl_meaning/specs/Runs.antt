@@ -1,9 +1,7 @@
 -- A run of a shader: what its variables hold at the beginning, what a grid is shaded as, and what a light answers at a point.
-use Rattle.std.specs.Prelude.{ℕ, pos, Bool, true, false, cond, ◌||◌, List, [], ◌∷◌, Option, Some, None}
+use Rattle.std.specs.Prelude.{ℕ, Bool, true, false, cond, ◌||◌, List, Option, Some, None}
 use Rattle.fixed_math.specs.declared.vec3.Vec3.{Vec3}
 use Rattle.transforms.specs.declared.spaces.Spaces.{Spaces}
-use Rattle.sl_ast.specs.declared.kinds.LightStmt.{LightStmt}
-use Rattle.sl_ast.specs.declared.kinds.LightStmt.TheVariants.{Illuminance, Illuminate, Solar}
 use Rattle.sl_ast.specs.declared.kinds.Predefined.{Predefined}
 use Rattle.sl_ast.specs.declared.kinds.Predefined.TheVariants as names
 use Rattle.sl_ast.specs.declared.kinds.SlKind.{SlKind}
@@ -13,13 +11,12 @@ use Rattle.sl_ast.specs.declared.typed.Value.TheVariants.{Triple}
 use Rattle.sl_ast.specs.Typed as T
 use Rattle.sl_ast.specs.Names.{name_type, writes}
 use Rattle.sl_ast.specs.Variables.{Row, Start, given, zero, copied, variables, row_named}
-use Rattle.builtins.specs.Names.{place_of}
 use Rattle.builtins.specs.Values.{as_kind, triple_of}
 use Rattle.builtins.specs.Lights as answers
 use Rattle.sl_meaning.specs.Core.{Expr, literal, read, apply, differ, sum, call, Exprs, none, more, Arguments, no_arguments, argument, Stmt, declare, assign, block, test, repeat, lights, leave, again, Stmts, done, first}
 use Rattle.sl_meaning.specs.Environment.{Env, Around, zero_value}
 use Rattle.sl_meaning.specs.Alone.{run_all}
-use Rattle.sl_meaning.specs.Grid.{Envs, inside_all, grid_all}
+use Rattle.sl_meaning.specs.Grid.{inside_all, grid_all}
 use Rattle.sl_meaning.specs.Dark.{dark}
 use Rattle.sl_meaning.specs.Lowered.{body_of, slots}
 

@@ -1,6 +1,6 @@
 -- Calls and expressions are well typed once functions stand in place of their calls.
 use Rattle.std.proofs.Common.{◌≡◌, ℕ, ◌+◌, Bool, true, false, ◌&&◌, ◌||◌, not, List, [], ◌∷◌, map, get_or, Option, Some, None, Ok, Err, is_some, refl, sym, ap, ap₂, ◌∙◌, subst}
-use Rattle.std.proofs.lemmas.Bool.{cond_both}
+use Rattle.std.proofs.lemmas.Bool.{cond_both, and_parts}
 use Rattle.std.specs.Str.{bytes_eq}
 use Rattle.sl_ast.specs.Syntax as U
 use Rattle.sl_ast.specs.WellTyped as W
@@ -27,14 +27,6 @@ use Rattle.sl_types.specs.Inline.{Built, nothing, count, count_args, inline, inl
 use Rattle.sl_types.proofs.WellScope.{Good, GoodSome, good_bind, good_as, good_any, types_of, level_typed}
 use Rattle.sl_types.proofs.WellExprs.{Works, Ready, WorksAt, works_at, Fine, Literal, AllFine, AllLiteral, both, kind_kept, args_fine, applied_fine, stands_operator, stands_prefix, named_fine, converted_fine, tripled_fine}
 
-pub left : (a b : Bool) → (a && b) ≡ true → a ≡ true
-left true b h = refl
-left false b h = h
-
-pub right : (a b : Bool) → (a && b) ≡ true → b ≡ true
-right true b h = h
-right false b h = absurd (cc h)
-
 pub or_right : (a b : Bool) → (a || b) ≡ false → b ≡ false
 or_right true b h = absurd (cc h)
 or_right false b h = h
@@ -50,8 +42,8 @@ fits_kept fs n [] (t ∷ ts) h = absurd (cc h)
 fits_kept fs n (l ∷ ls) [] h = absurd (cc h)
 fits_kept fs n (l ∷ ls) (t ∷ ts) h =
     both (takes l.kind (W.kind_of (inline fs n t))) (W.fits (map tree_formal ls) (inline_args fs (n + count fs t) (T.exprs ts)))
-    (ap (takes l.kind) (kind_kept fs n t) ∙ left (takes l.kind (T.kind_of t)) (fits ls ts) h)
-    (fits_kept fs (n + count fs t) ls ts (right (takes l.kind (T.kind_of t)) (fits ls ts) h))
+    (ap (takes l.kind) (kind_kept fs n t) ∙ (and_parts (takes l.kind (T.kind_of t)) (fits ls ts) h).0)
+    (fits_kept fs (n + count fs t) ls ts (and_parts (takes l.kind (T.kind_of t)) (fits ls ts) h).1)
 
 call_fine : (g : W.Around) (ks : List SlType) (fs : List Built) (k : ℕ) (c : Callee) (ts : List T.Expr) (line : ℕ) → Works g.kind g.default c (get_or fs k nothing)
     → fits c.formals ts ≡ true → AllFine g ks fs ts → Fine g ks fs (T.call k (T.exprs ts) (node_type c.returns) line)
@@ -156,7 +148,7 @@ entries_listed : (es : List (List ℕ × Builtin)) (name : List ℕ) → all_lis
 entries_listed [] name h = tt
 entries_listed (e ∷ es) name h =
     cond_both (bytes_eq e.0 name) (Some e.1) (entry_of es name) (λ o. GoodSome o (λ b. is_listed b ≡ true))
-    (λ is. left (is_listed e.1) (all_listed es) h) (λ is. entries_listed es name (right (is_listed e.1) (all_listed es) h))
+    (λ is. (and_parts (is_listed e.1) (all_listed es) h).0) (λ is. entries_listed es name (and_parts (is_listed e.1) (all_listed es) h).1)
 
 abbrev Allowed : W.Around → Operation → Type 0
 Allowed g op = (has_operation g.kind op && (is_constant op || not g.default)) ≡ true

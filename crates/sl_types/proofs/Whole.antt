@@ -1,6 +1,6 @@
 -- The whole tree: its numbers, its extent, and the limits.
-use Rattle.std.proofs.Common.{◌≡◌, ◌≤◌, ℕ, Bool, zero, suc, ◌+◌, max, nat_lt, true, false, ◌&&◌, List, [], ◌∷◌, length, refl, sym, ap, ap₂, ◌∙◌, arith}
-use Rattle.std.proofs.lemmas.Bool.{ltb-true}
+use Rattle.std.proofs.Common.{◌≡◌, ◌≤◌, ℕ, zero, suc, ◌+◌, max, nat_lt, true, false, ◌&&◌, List, [], ◌∷◌, length, refl, sym, ap, ap₂, ◌∙◌, arith}
+use Rattle.std.proofs.lemmas.Bool.{ltb-true, and_parts}
 use Rattle.sl_ast.specs.Syntax as U
 use Rattle.sl_ast.specs.Typed as A
 use Rattle.sl_expressions.specs.Typed.{stmts}
@@ -64,22 +64,14 @@ nodes_are s p = ap length (tree_numbered s p) ∙ length_upto 0 (1 + (count_para
 pub numbers_go_up : (s : U.Shader) (p : Program) → A.counts_up 0 (A.numbers_tree (tree_of s p)) ≡ true
 numbers_go_up s p = ap (A.counts_up 0) (tree_numbered s p) ∙ counts 0 (1 + (count_params (by_default p) p.params + count_stmts (in_body p) (stmts p.body)))
 
-left : (a b : Bool) → (a && b) ≡ true → a ≡ true
-left true b h = refl
-left false b h = h
-
-right : (a b : Bool) → (a && b) ≡ true → b ≡ true
-right true b h = h
-right false b h = absurd (cc h)
-
 pub few_nodes : (s : U.Shader) (p : Program) → is_within (tree_of s p) ≡ true → length (A.numbers_tree (tree_of s p)) ≤ 65536
 few_nodes s p h =
-    let low = ltb-true (length (A.numbers_tree (tree_of s p))) 65537 (left (nat_lt (length (A.numbers_tree (tree_of s p))) 65537) (nat_lt (A.depth_tree (tree_of s p)) 257) h) in
+    let low = ltb-true (length (A.numbers_tree (tree_of s p))) 65537 (and_parts (nat_lt (length (A.numbers_tree (tree_of s p))) 65537) (nat_lt (A.depth_tree (tree_of s p)) 257) h).0 in
     omega (arith, low)
 
 pub shallow_tree : (s : U.Shader) (p : Program) → is_within (tree_of s p) ≡ true → A.depth_tree (tree_of s p) ≤ 256
 shallow_tree s p h =
-    let low = ltb-true (A.depth_tree (tree_of s p)) 257 (right (nat_lt (length (A.numbers_tree (tree_of s p))) 65537) (nat_lt (A.depth_tree (tree_of s p)) 257) h) in
+    let low = ltb-true (A.depth_tree (tree_of s p)) 257 (and_parts (nat_lt (length (A.numbers_tree (tree_of s p))) 65537) (nat_lt (A.depth_tree (tree_of s p)) 257) h).1 in
     omega (arith, low)
 
 -- how many nodes the parameters and the body may have

@@ -1,10 +1,9 @@
 -- What was passed over so far, and the piece that the loop stands at.
-use Rattle.std.proofs.Common.{◌≡◌, ◌<◌, ◌++◌, ◌∷◌, [], length, subst, sym}
+use Rattle.std.proofs.Common.{◌<◌, length, subst, sym}
 use Rattle.std.proofs.lemmas.List.{nil_from_length}
-use Rattle.patches.specs.Parts.{Part}
 use Rattle.bound_split.specs.Decisions.{decision_of}
-use Rattle.bound_split.specs.Leaves.{IsDeepFrom, pending, leaves}
-use Rattle.bound_split.specs.Culling.{IsTest, Skips, visits}
+use Rattle.bound_split.specs.Leaves.{IsDeepFrom, pending}
+use Rattle.bound_split.specs.Culling.{Skips, visits}
 use Rattle.bound_split.proofs.Stacks.{IsDeepFrom-pop}
 use Rattle.bound_split.proofs.Culls.{none_there, visits-pop, skips-drop, skips-split, skips-leaf}
 use Rattle.bound_split.proofs.walk.next_leaf.Goals as goal

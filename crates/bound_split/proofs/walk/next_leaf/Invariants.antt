@@ -1,4 +1,4 @@
-use Rattle.std.proofs.Common.{◌≡◌, Bool}
+use Rattle.std.proofs.Common.{Bool}
 use Rattle.patches.specs.Parts.{Part}
 use Rattle.bound_split.specs.Decisions.{decision_of}
 use Rattle.bound_split.specs.Leaves.{IsDeepFrom, pending}

@@ -1,4 +1,4 @@
-use Rattle.std.proofs.Common.{◌++◌, ◌∷◌, [], subst, sym, lit<}
+use Rattle.std.proofs.Common.{subst, sym, lit<}
 use Rattle.bound_split.specs.Leaves.{IsDeepFrom}
 use Rattle.bound_split.proofs.Stacks.{room, deeper}
 use Rattle.bound_split.proofs.walk.push_halves.Goals as goal

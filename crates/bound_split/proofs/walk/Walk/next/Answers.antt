@@ -1,6 +1,5 @@
 -- Every part passes, so nothing is passed over.
-use Rattle.std.proofs.Common.{◌≡◌, Bool, true, rules}
-use Rattle.patches.specs.Parts.{Part}
+use Rattle.std.proofs.Common.{true, rules}
 use Rattle.bound_split.specs.Decisions.{decision_of}
 use Rattle.bound_split.specs.Leaves.{pending}
 use Rattle.bound_split.proofs.Culls.{all_pass, unfiltered_next, ended_before}
