@@ -12,7 +12,8 @@ use Rattle.request_binding.specs.Codes.{of_lex, of_request, of_state}
 use Rattle.acceptance.specs.Shaders.{shader_names, shaders_refused, shaders_asked}
 use Rattle.acceptance.specs.Bindings.{uses_refused}
 use Rattle.acceptance.specs.PrimBindings.{prims_refused}
-use Rattle.acceptance.specs.Set.{AcceptedValue, set_of, accepted_with}
+use Rattle.acceptance.specs.Set.{set_of, accepted_with}
+use Rattle.shader_binding.specs.Sets.{AcceptedValue}
 
 -- the scene of a text, or its first fault: its tokens, its requests, then its graphics state
 abbrev pub scene_of_state : Result SceneValue steps.Placed → Reads SceneValue

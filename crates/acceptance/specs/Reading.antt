@@ -8,12 +8,11 @@ use Rattle.scene.specs.declared.uses.ShaderUse.{ShaderUse}
 use Rattle.sl_ast.specs.Typed.{Tree}
 use Rattle.sl_ast.specs.TreeView.{tree_of}
 use Rattle.sl_ast.specs.declared.typed.Value.{Value}
-use Rattle.shader_binding.specs.Sets.{SetValue}
+use Rattle.shader_binding.specs.Sets.{SetValue, AcceptedValue}
 use Rattle.request_binding.specs.declared.refusal.Refusal.{Refusal}
 use Rattle.acceptance.specs.declared.read.ReadShader.{ReadShader}
 use Rattle.acceptance.specs.declared.shaders.UsedShaders.{UsedShaders}
 use Rattle.acceptance.specs.declared.accepted_scene.AcceptedScene.{AcceptedScene}
-use Rattle.acceptance.specs.Set.{AcceptedValue}
 use Rattle.request_binding.specs.Causes.{cause_in}
 use Rattle.acceptance.specs.Shaders.{file_of, text_with, tree_of_text, shader_tree, shaders_refused}
 use Rattle.request_binding.specs.Bindings.{declared_names}

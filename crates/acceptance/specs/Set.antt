@@ -6,7 +6,7 @@ use Rattle.scene.specs.declared.uses.ShaderUse.{ShaderUse}
 use Rattle.sl_ast.specs.declared.typed.Value.{Value}
 use Rattle.sl_ast.specs.Typed.{Tree}
 use Rattle.fixed_math.specs.Names.{last_place}
-use Rattle.shader_binding.specs.Sets.{SetValue}
+use Rattle.shader_binding.specs.Sets.{SetValue, AcceptedValue}
 use Rattle.request_binding.specs.Causes.{Reads}
 use Rattle.acceptance.specs.Shaders.{shader_tree, shader_names}
 use Rattle.request_binding.specs.Bound.{bound_values}
@@ -38,11 +38,6 @@ set_of files uses = record {
   of_use = map (λ u. place_in (shader_names uses) u.name) uses;
   bound = map (λ u. values_in (shader_tree files u.name) u) uses;
 }
-
--- a scene with its shaders
-pub record AcceptedValue : Type 0 where
-  pub scene : SceneValue
-  pub set : SetValue
 
 abbrev pub accepted_with : Files → SceneValue → AcceptedValue
 accepted_with files scene = record { scene = scene; set = set_of files scene.uses }

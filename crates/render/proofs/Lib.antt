@@ -1,8 +1,6 @@
 pub mod Writing
 pub mod Left
 pub mod Completing
-pub mod Drawing
 pub mod StockFlat
 pub mod Fetched
 pub mod Loading
-pub mod LeafParts

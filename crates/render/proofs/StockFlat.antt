@@ -8,14 +8,14 @@ use Rattle.scene.specs.Scene.{SceneValue}
 use Rattle.scene.specs.declared.uses.ShaderUse.{ShaderUse}
 use Rattle.sl_ast.specs.Typed.{Tree}
 use Rattle.fixed_math.specs.Names.{last_place}
-use Rattle.shader_binding.specs.Sets.{bound_with, bound_at}
+use Rattle.shader_binding.specs.Sets.{bound_with, bound_at, AcceptedValue}
 use Rattle.displace_shade.specs.Constant.{constant_tree, IsFlat}
 use Rattle.displace_shade.proofs.Flat.{constant_law}
 use Rattle.request_binding.specs.Causes.{Cause, Reads, unless, cause_in, or_else}
 use Rattle.acceptance.specs.Shaders.{file_of, text_with, tree_of_text, shader_tree, without, distinct, use_name, shader_names, shaders_refused}
 use Rattle.acceptance.specs.Bindings.{uses_refused}
 use Rattle.acceptance.specs.PrimBindings.{prims_refused}
-use Rattle.acceptance.specs.Set.{AcceptedValue, tree_in, trees_of, place_or, place_in, values_in, set_of, accepted_with}
+use Rattle.acceptance.specs.Set.{tree_in, trees_of, place_or, place_in, values_in, set_of, accepted_with}
 use Rattle.acceptance.specs.Accepting.{scene_of_text, accepted_scene, bound_scene}
 use Rattle.acceptance.specs.Reading.{is_among}
 use Rattle.render.specs.Stocked.{the_constant, StockConstantLaw}

@@ -5,7 +5,7 @@ use Rattle.outside.specs.Sink.{Written}
 use Rattle.outside.specs.Frames.{whole, Adds, AddsFront}
 use Rattle.displace_shade.specs.Shop.{set_value}
 use Rattle.render.specs.declared.accepted.Accepted.{Accepted}
-use Rattle.acceptance.specs.Set.{AcceptedValue}
+use Rattle.shader_binding.specs.Sets.{AcceptedValue}
 use Rattle.request_binding.specs.Causes as causes
 use Rattle.request_binding.specs.Causes.{Cause, Reads}
 use Rattle.render.specs.Verdict as verdicts

@@ -1,10 +1,8 @@
 pub mod Notes
 pub mod Pictures
-pub mod Shopped
 pub mod Summary
 pub mod Verdict
 pub mod Stocked
 pub mod Run
 pub mod Answers
-pub mod Sampled
 pub mod Coded

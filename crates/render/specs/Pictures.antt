@@ -1,71 +1,9 @@
--- What a frame shows: the micropolygons of its primitives, and its picture.
-use Rattle.std.specs.Prelude.{ℕ, List, [], map}
-use Rattle.std.specs.List.{flat_map, enumerate_from}
-use Rattle.patches.specs.Parts.{Part, whole_of}
-use Rattle.patches.specs.Patches.{patch_net, patch_width}
-use Rattle.transforms.specs.declared.view.View.{View}
-use Rattle.bound_split.specs.declared.splits.Decision.{Decision}
-use Rattle.bound_split.specs.declared.splits.Decision.TheVariants.{SplitU, SplitV, Dice}
-use Rattle.bound_split.specs.Decisions.{decision_of}
-use Rattle.bound_split.specs.Leaves.{leaves}
-use Rattle.scene.specs.Scene.{PrimValue, FrameValue}
-use Rattle.displace_shade.specs.Shaded.{GridValue, shaded}
-use Rattle.displace_shade.specs.Shop.{leaf_of}
-use Rattle.hider.specs.declared.cell.Cell.{Cell}
-use Rattle.hider.specs.Cells.{Micropolygon, still, cells_of}
-use Rattle.hider.specs.Fragments.{fragments}
-use Rattle.hider.specs.Composite.{composite}
+-- The pictures of a scene.
+use Rattle.std.specs.Prelude.{List, map}
+use Rattle.scene.specs.Scene.{FrameValue}
 use Rattle.outside.specs.Frames.{Picture}
-use Rattle.acceptance.specs.Set.{AcceptedValue}
-use Rattle.frame_pixels.specs.Film.{FilmValues, picture}
-
--- the split decision for a part of a primitive's patch
-abbrev pub decide : View → PrimValue → Part → Decision
-decide v p part = decision_of v p.rate p.bound (patch_width p.patch) (patch_net p.patch) part
-
--- the cells of a grid: each has the colour and opacity of its first point
-abbrev pub grid_cells : GridValue → List Cell
-grid_cells g = cells_of g.columns g.rows g.points g.colours g.opacities
-
--- the cells of a leaf, shaded
-unfoldable pub diced_cells : AcceptedValue → FrameValue → PrimValue → Part → ℕ → ℕ → List Cell
-diced_cells a f prim part p q = grid_cells (shaded (leaf_of f prim part p q) a.set a.scene.uses)
-
-abbrev pub leaf_cells : AcceptedValue → FrameValue → PrimValue → Part → Decision → List Cell
-leaf_cells a f prim part SplitU = []
-leaf_cells a f prim part SplitV = []
-leaf_cells a f prim part (Dice p q) = diced_cells a f prim part p q
-
--- the micropolygons of a leaf
-unfoldable pub leaf_micropolygons : AcceptedValue → FrameValue → PrimValue → Part → List Micropolygon
-leaf_micropolygons a f prim part = map (still prim.one_sided prim.flip) (leaf_cells a f prim part (decide f.camera prim part))
-
--- the leaves of primitive n of a frame, and of all its primitives, each with its number among them
-abbrev pub prim_leaves : FrameValue → ℕ → PrimValue → List Part
-prim_leaves f n prim = leaves (decide f.camera prim) (whole_of n)
-
-abbrev pub frame_leaves : FrameValue → List Part
-frame_leaves f = flat_map (λ np. prim_leaves f np.0 np.1) (enumerate_from 0 f.prims)
-
--- the micropolygons of primitive n: of its leaves, one after another
-unfoldable pub prim_micropolygons : AcceptedValue → FrameValue → ℕ → PrimValue → List Micropolygon
-prim_micropolygons a f n prim = flat_map (leaf_micropolygons a f prim) (prim_leaves f n prim)
-
--- those of a frame
-unfoldable pub micropolygons : AcceptedValue → FrameValue → List Micropolygon
-micropolygons a f = flat_map (λ np. prim_micropolygons a f np.0 np.1) (enumerate_from 0 f.prims)
-
--- each sample has the composite of all micropolygons that cover it
-abbrev pub film_of : AcceptedValue → FrameValue → FilmValues
-film_of a f = record {
-  width = f.camera.width;
-  height = f.camera.height;
-  options = f.options;
-  colour = λ s. composite (fragments f.camera (micropolygons a f) s);
-}
-
-unfoldable pub picture_bytes : AcceptedValue → FrameValue → List ℕ
-picture_bytes a f = picture (film_of a f)
+use Rattle.shader_binding.specs.Sets.{AcceptedValue}
+use Rattle.frame_picture.specs.Pictures.{picture_bytes}
 
 abbrev pub picture_of : AcceptedValue → FrameValue → Picture
 picture_of a f = record { name = f.name; bytes = picture_bytes a f }

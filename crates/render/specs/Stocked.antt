@@ -5,7 +5,7 @@ use Rattle.scene.specs.declared.uses.ShaderUse.{ShaderUse}
 use Rattle.grid_variables.specs.Points.{Leaf}
 use Rattle.displace_shade.specs.Constant.{constant_tree, IsFlat}
 use Rattle.acceptance.specs.Shaders.{file_of, stock_text, tree_of_text}
-use Rattle.acceptance.specs.Set.{AcceptedValue}
+use Rattle.shader_binding.specs.Sets.{AcceptedValue}
 use Rattle.acceptance.specs.Accepting.{accepted}
 
 -- what is read of its text

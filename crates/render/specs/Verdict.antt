@@ -11,7 +11,7 @@ use Rattle.request_binding.specs.Causes.{Cause, Missing, At, Reads}
 use Rattle.request_binding.specs.Codes.{status_of_code}
 use Rattle.command_line.specs.Command.{Source, File, Demo, Command, command_of}
 use Rattle.acceptance.specs.Accepting.{accepted, asked_for_scene, scene_of_text}
-use Rattle.acceptance.specs.Set.{AcceptedValue}
+use Rattle.shader_binding.specs.Sets.{AcceptedValue}
 use Rattle.render.specs.Pictures.{frames_of}
 
 -- the most bytes of a scene file

@@ -2,8 +2,6 @@
 #![tactic(auto)]
 
 mod accepted;
-mod draw;
-mod frame_in;
 mod laws;
 mod load;
 mod program;

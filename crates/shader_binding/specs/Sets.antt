@@ -1,6 +1,7 @@
 -- The shaders of a scene: their trees, the tree of each use, and the values that its parameters are bound to.
 use Rattle.std.specs.Prelude.{ℕ, Bool, true, false, List, [], ◌∷◌, Option, Some, None, slice_get, slice_index_or, ◌≡◌}
 use Rattle.transforms.specs.Map.{Map}
+use Rattle.scene.specs.Scene.{SceneValue}
 use Rattle.scene.specs.declared.uses.ShaderKind.{ShaderKind}
 use Rattle.scene.specs.declared.uses.ShaderKind.TheVariants as requested
 use Rattle.scene.specs.declared.uses.ShaderUse.{ShaderUse}
@@ -15,6 +16,11 @@ pub record SetValue : Type 0 where
   pub trees : List Tree
   pub of_use : List ℕ
   pub bound : List (List Value)
+
+-- a scene with its shaders
+pub record AcceptedValue : Type 0 where
+  pub scene : SceneValue
+  pub set : SetValue
 
 -- a shader of the kind that is asked for
 abbrev pub is_of_kind : SlKind → ShaderKind → Bool

@@ -1,0 +1,2 @@
+pub mod LeafParts
+pub mod Hiding
