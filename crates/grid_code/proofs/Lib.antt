@@ -4,3 +4,5 @@ pub mod Then
 pub mod Found
 pub mod Both
 pub mod ValidThen
+pub mod Blocks
+pub mod Gathered

@@ -2,12 +2,14 @@
 #![tactic(auto)]
 
 mod code;
+mod collect;
 mod register_set;
 mod registers;
 mod shader_code;
 mod slot;
 
 pub use code::{Node, Register, Source};
+pub use collect::gather;
 pub use register_set::RegisterSet;
 pub use shader_code::Code;
 pub use slot::Slot;

@@ -13,7 +13,7 @@ use Rattle.grid_machine.specs.declared.frame.Frame.{Frame}
 use Rattle.grid_machine.specs.Fits.{OfCode}
 use Rattle.place_values.specs.Cells.{is_known}
 use Rattle.grid_machine.specs.State.{Ready}
-use Rattle.grid_machine.specs.Texts.{Holds, texts_of_all, texts_in}
+use Rattle.grid_code.specs.Texts.{Holds, texts_of_all, texts_in}
 use Rattle.grid_machine.proofs.Names.{kind_pass}
 use Rattle.grid_machine.proofs.Validity.{holds_own, values_known, ready_of}
 

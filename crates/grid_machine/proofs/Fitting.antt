@@ -11,7 +11,7 @@ use Rattle.grid_machine.specs.declared.frame.Frame.{Frame}
 use Rattle.grid_machine.specs.Asked.{IsLight}
 use Rattle.grid_machine.specs.Fits.{Fits, OfCode}
 use Rattle.grid_machine.specs.State.{Ready}
-use Rattle.grid_machine.specs.Texts.{texts_of_all, texts_in}
+use Rattle.grid_code.specs.Texts.{texts_of_all, texts_in}
 use Rattle.grid_machine.proofs.Names.{kind_pass, params_all_pass}
 use Rattle.grid_machine.proofs.Validity.{holds_own, values_known, ready_of}
 

@@ -10,7 +10,6 @@ mod Kept
 mod Loads
 mod Elements
 mod Zeros
-mod Gathered
 mod Validity
 mod Names
 mod Starts

@@ -24,7 +24,7 @@ use Rattle.grid_code.specs.Shapes.{register_class, register_shape, difference_sh
 use Rattle.grid_code.specs.Uses.{has, within, source_within, names_at, kind_registers}
 use Rattle.grid_code.specs.Valid.{is_placed, has_operands, at_most_three}
 use Rattle.grid_code.proofs.Both.{both, left, right}
-use Rattle.grid_machine.specs.Texts.{texts_of, texts_of_all, texts_of_source, texts_in, is_in_texts, Holds}
+use Rattle.grid_code.specs.Texts.{texts_of, texts_of_all, texts_of_source, texts_in, is_in_texts, Holds}
 use Rattle.place_values.specs.Cells.{is_known}
 use Rattle.grid_machine.specs.State.{Ready, source_known, lights_registers}
 use Rattle.grid_machine.proofs.Writes.{shape_eq}

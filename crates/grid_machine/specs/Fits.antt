@@ -10,7 +10,7 @@ use Rattle.grid_code.specs.View.{block_of}
 use Rattle.grid_machine.specs.declared.frame.Frame.{Frame}
 use Rattle.grid_machine.specs.Asked.{IsLight}
 use Rattle.place_values.specs.Cells.{is_known}
-use Rattle.grid_machine.specs.Texts.{Holds, texts_in, texts_of_all}
+use Rattle.grid_code.specs.Texts.{Holds, texts_in, texts_of_all}
 
 -- a frame's registers are those of code, and its texts those of values and of the code's constants
 pub record OfCode (f : Frame) (code : Code) (vs : List Value) : Type 0 where

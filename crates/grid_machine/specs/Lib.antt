@@ -2,7 +2,6 @@ pub mod State
 pub mod Operands
 pub mod Run
 pub mod Asked
-pub mod Texts
 pub mod Fits
 pub mod Lamps
 pub mod Ended

@@ -2,11 +2,10 @@
 ghost use Rattle.std.specs.Prelude.{◌≡◌, ◌*◌, ◌≤◌, IfOk};
 ghost use Rattle.grid_code.specs.Uses.{rows_in};
 
-use crate::collect::gather;
 use bumpalo::Bump;
 use bumpalo::collections::into_bump_slice;
 use fixed_math::{NoMemory, Num};
-use grid_code::{Code, RegisterSet};
+use grid_code::{Code, RegisterSet, gather};
 use place_values::Setting;
 use sl_ast::Value;
 use std::slice::from_ref;

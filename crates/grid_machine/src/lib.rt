@@ -7,7 +7,6 @@
 mod asking;
 mod blocks;
 mod call;
-mod collect;
 mod control;
 mod differences;
 mod execute;

@@ -6,7 +6,6 @@ ghost use Rattle.grid_machine.specs.Fits.{OfCode};
 ghost use Rattle.grid_machine.specs.Run.{uniform_inputs, varying_inputs, lines_given};
 ghost use Rattle.grid_machine.specs.State.{lines_of};
 
-use crate::collect::gather;
 use crate::frame::{Frame, Steps};
 use crate::given::{given, inputs as registers_of, steps as step_names};
 use crate::inputs::Inputs;
@@ -14,7 +13,7 @@ use crate::leaving::{number_at, places as places_of};
 use bumpalo::Bump;
 use bumpalo::collections::into_bump_slice;
 use fixed_math::NoMemory;
-use grid_code::{Code, Register};
+use grid_code::{Code, Register, gather};
 use place_values::Setting;
 
 /// The frame of a run, and the registers that take its uniform values and its rows.

@@ -19,7 +19,8 @@ use Rattle.grid_code.specs.Uses.{has}
 use Rattle.grid_code.specs.View.{with_node, block_of}
 use Rattle.grid_machine.specs.State.{state_of, Near, ground_of, lit_ground, lights_registers, ReadyIn, Runs, RunsTurns}
 use Rattle.grid_machine.proofs.Kept.{NearBy, has_kept, places_kept, kept_on, kept_live, ready_kept, runs_kept, begin_kept, any_kept}
-use Rattle.grid_machine.proofs.Nodes.{running_ready, running_small, running_next, running_end, put_steps, differ_steps, branch_is, loop_is, lights_is, block_size}
+use Rattle.grid_code.proofs.Blocks.{branch_is, loop_is, lights_is, block_size}
+use Rattle.grid_machine.proofs.Nodes.{running_ready, running_small, running_next, running_end, put_steps, differ_steps}
 use Rattle.grid_machine.proofs.Masks.{Turning, one_at, parts_at, turning_step, turning_stop, turning_end, looped_steps}
 use Rattle.grid_machine.proofs.blocks.+run.Goals as goal
 

@@ -2,7 +2,8 @@ use Rattle.std.proofs.Common.{◌≡◌, ◌+◌, ◌-◌, ◌*◌}
 use Rattle.grid_code.specs.Code.{end}
 use Rattle.grid_code.specs.View.{with_node, block_of}
 use Rattle.grid_machine.specs.State.{state_of, lit_ground, Kept}
-use Rattle.grid_machine.proofs.Nodes.{Running, block_size}
+use Rattle.grid_code.proofs.Blocks.{block_size}
+use Rattle.grid_machine.proofs.Nodes.{Running}
 use Rattle.grid_machine.proofs.Masks.{Turning}
 use Rattle.grid_machine.proofs.Lit.{Showing}
 use Rattle.grid_machine.proofs.blocks.+run.Given as goal

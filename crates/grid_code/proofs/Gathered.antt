@@ -4,8 +4,8 @@ use Rattle.grid_code.specs.declared.code.Node.{Node, Put, Differ, Sum, If', Loop
 use Rattle.grid_code.specs.Code.{end}
 use Rattle.grid_code.specs.View.{with_node, block_of}
 use Rattle.grid_code.specs.Code.{Block}
-use Rattle.grid_machine.specs.Texts.{texts_of_source, texts_in}
-use Rattle.grid_machine.proofs.Nodes.{block_size, next_node, none_left, node_size}
+use Rattle.grid_code.specs.Texts.{texts_of_source, texts_in}
+use Rattle.grid_code.proofs.Blocks.{block_size, next_node, none_left, node_size}
 
 node_texts : (x : Node) (rest : Block) → texts_in (with_node x rest) ≡ texts_in (with_node x end) ++ texts_in rest
 node_texts (Put to source) rest = sym (append_assoc (texts_of_source source) [] (texts_in rest))

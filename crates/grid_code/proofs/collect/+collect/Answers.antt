@@ -1,10 +1,10 @@
 use Rattle.std.proofs.Common.{arith, ◌++◌, map, sym, ap, ◌∙◌}
 use Rattle.grid_code.specs.Code.{end, branch, loops, lights}
 use Rattle.grid_code.specs.View.{block_of}
-use Rattle.grid_machine.specs.Texts.{texts_in}
-use Rattle.grid_machine.proofs.Nodes.{block_size, branch_is, loop_is, lights_is}
-use Rattle.grid_machine.proofs.Gathered.{gathering_small, gathering_next, one_gathered, two_gathered, three_gathered, follows}
-use Rattle.grid_machine.proofs.collect.+collect.Goals as goal
+use Rattle.grid_code.specs.Texts.{texts_in}
+use Rattle.grid_code.proofs.Blocks.{block_size, branch_is, loop_is, lights_is}
+use Rattle.grid_code.proofs.Gathered.{gathering_small, gathering_next, one_gathered, two_gathered, three_gathered, follows}
+use Rattle.grid_code.proofs.collect.+collect.Goals as goal
 
 pub collect-collect_node-requires : goal.collect-collect_node-requires
 collect-collect_node-requires t c =

@@ -1,9 +1,9 @@
 use Rattle.std.proofs.Common.{◌+◌, ◌*◌, map}
 use Rattle.grid_code.specs.Code.{end}
 use Rattle.grid_code.specs.View.{with_node, block_of}
-use Rattle.grid_machine.proofs.Nodes.{block_size}
-use Rattle.grid_machine.proofs.Gathered.{Gathering}
-use Rattle.grid_machine.proofs.collect.+collect.Given as goal
+use Rattle.grid_code.proofs.Blocks.{block_size}
+use Rattle.grid_code.proofs.Gathered.{Gathering}
+use Rattle.grid_code.proofs.collect.+collect.Given as goal
 
 abbrev pub decreases-collect : goal.decreases-collect
 decreases-collect l = 2 * block_size (block_of l.nodes.now) + 1

@@ -2,11 +2,12 @@
 ghost use Rattle.std.specs.Prelude.{◌≡◌, ◌++◌, IfOk, OnOk, map};
 ghost use Rattle.grid_code.specs.Code.{end};
 ghost use Rattle.grid_code.specs.View.{with_node, block_of};
-ghost use Rattle.grid_machine.specs.Texts as spec;
+ghost use Rattle.grid_code.specs.Texts as spec;
 
+use crate::code::{Node, Source};
+use crate::shader_code::Code;
 use bumpalo::Bump;
 use fixed_math::{NoMemory, Text};
-use grid_code::{Code, Node, Source};
 use sl_ast::Value;
 
 fn collect_value<'a>(value: &'a Value, texts: &mut Vec<&'a Text, &'a Bump>) -> Result<(), NoMemory>
