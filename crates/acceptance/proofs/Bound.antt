@@ -5,15 +5,15 @@ use Rattle.std.proofs.lemmas.Option.{slice_get-get_or}
 use Rattle.outside.specs.Library.{Files}
 use Rattle.scene.specs.declared.uses.ShaderUse.{ShaderUse}
 use Rattle.sl_ast.specs.TreeView.{tree_of}
-use Rattle.request_binding.specs.declared.refusal.Refusal.{Refusal}
+use Rattle.acceptance.specs.declared.refusal.Refusal.{Refusal}
 use Rattle.acceptance.specs.declared.read.ReadShader.{ReadShader}
 use Rattle.acceptance.specs.declared.shaders.UsedShaders.{UsedShaders}
-use Rattle.request_binding.specs.Causes.{Cause, first_of}
+use Rattle.acceptance.specs.Causes.{Cause, first_of}
 use Rattle.acceptance.specs.Shaders.{shader_tree}
-use Rattle.request_binding.specs.Bindings.{binding_fault, cause_at}
+use Rattle.acceptance.specs.RequestBindings.{binding_fault, cause_at}
 use Rattle.acceptance.specs.Bindings.{use_refused}
 use Rattle.acceptance.specs.Reading.{IsReadOf, ArePlaced, named_use, name_of}
-use Rattle.request_binding.specs.Answers.{Because, Clears}
+use Rattle.acceptance.specs.Answers.{Because, Clears}
 use Rattle.acceptance.proofs.Firsts.{first_next, first_here}
 use Rattle.acceptance.proofs.Places.{use_placed, as_many, shader_named, within}
 

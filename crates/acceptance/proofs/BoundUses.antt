@@ -8,7 +8,7 @@ use Rattle.sl_ast.specs.declared.typed.Value.{Value}
 use Rattle.sl_ast.specs.Typed.{Tree}
 use Rattle.shader_binding.specs.Sets.{FitsUse, FitUses}
 use Rattle.acceptance.specs.declared.read.ReadShader.{ReadShader}
-use Rattle.request_binding.specs.Bound.{bound_values}
+use Rattle.acceptance.specs.Bound.{bound_values}
 use Rattle.acceptance.specs.Reading.{tree_read, values_with, values_at, all_values}
 
 -- ---- one use more

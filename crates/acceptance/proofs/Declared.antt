@@ -9,7 +9,7 @@ use Rattle.scene.specs.Scene.{VariableValue}
 use Rattle.sl_ast.specs.Typed.{Local}
 use Rattle.sl_types.specs.Distinct.{are_distinct}
 use Rattle.sl_types.proofs.Distinct.{distinct_parts}
-use Rattle.request_binding.specs.Bindings.{is_of_type, local_name}
+use Rattle.acceptance.specs.RequestBindings.{is_of_type, local_name}
 use Rattle.acceptance.specs.PrimBindings.{is_unfit}
 use Rattle.acceptance.proofs.Names.{same_name}
 

@@ -8,16 +8,16 @@ use Rattle.outside.specs.Causes.{Told}
 use Rattle.outside.specs.Library.{Files, held_as, Fetches, IsHeldAs, IsOfSize}
 use Rattle.outside.specs.declared.library.Fetch.{Fetch}
 use Rattle.outside.specs.declared.library.Fetch.TheVariants.{Whole, Missing, TooLong}
-use Rattle.request_binding.specs.declared.refusal.Refusal.{Refusal}
-use Rattle.request_binding.specs.declared.refusal.FileId.TheVariants.{Shader}
-use Rattle.request_binding.specs.declared.code.Code.TheVariants.{M10}
-use Rattle.request_binding.specs.Causes.{At, cause_in}
+use Rattle.acceptance.specs.declared.refusal.Refusal.{Refusal}
+use Rattle.acceptance.specs.declared.refusal.FileId.TheVariants.{Shader}
+use Rattle.acceptance.specs.declared.code.Code.TheVariants.{M10}
+use Rattle.acceptance.specs.Causes.{At, cause_in}
 use Rattle.acceptance.specs.Shaders.{text_with, tree_of_parsed, tree_of_text, most_shader_bytes, file_of, shader_tree}
 use Rattle.sl_parser.specs.Files.{parsed}
 use Rattle.acceptance.specs.declared.read.ReadShader.{ReadShader}
 use Rattle.sl_ast.specs.TreeView.{tree_of}
 use Rattle.acceptance.specs.Reading.{IsReadOf, GivesShaderText}
-use Rattle.request_binding.specs.Answers.{Because}
+use Rattle.acceptance.specs.Answers.{Because}
 
 -- what a fetch says of what is held
 pub whole_held : (result : Fetch) (limit : ℕ) (held : Option (List ℕ)) (old new bytes : List ℕ) → result ≡ Whole → old ≡ [] → new ≡ old ++ bytes → IsHeldAs result bytes held

@@ -1,9 +1,9 @@
 -- The first cause among those of the items of a list, one after the other.
 use Rattle.std.proofs.Common.{◌≡◌, ℕ, suc, ◌+◌, ◌<◌, List, [], ◌∷◌, length, get_or, map, drop, drop-cons, Option, Some, None, All, refl, sym, ap, ◌∙◌, subst, add-one}
 use Rattle.std.proofs.lemmas.List.Elements.{All-nil, All-cons}
-use Rattle.request_binding.specs.declared.refusal.Refusal.{Refusal}
-use Rattle.request_binding.specs.Causes.{Cause, or_else, first_of}
-use Rattle.request_binding.specs.Answers.{Because}
+use Rattle.acceptance.specs.declared.refusal.Refusal.{Refusal}
+use Rattle.acceptance.specs.Causes.{Cause, or_else, first_of}
+use Rattle.acceptance.specs.Answers.{Because}
 use Rattle.acceptance.proofs.ReadAll.{because_first}
 
 -- what is left begins with the item

@@ -4,8 +4,8 @@ use Rattle.std.specs.Prelude.{slice_get, slice_index_or}
 use Rattle.std.specs.List.{list_any}
 use Rattle.std.specs.Str.{bytes_eq}
 use Rattle.std.proofs.lemmas.List.Elements.{All-nil, All-cons, All-weaker}
-use Rattle.rib_values.specs.declared.params.Kind.{Kind}
-use Rattle.rib_values.specs.declared.params.Kind.TheVariants as kinds
+use Rattle.scene.specs.declared.params.Kind.{Kind}
+use Rattle.scene.specs.declared.params.Kind.TheVariants as kinds
 use Rattle.scene.specs.Scene.{VariableValue, PrimValue, FrameValue}
 use Rattle.scene.specs.declared.uses.ShaderUse.{ShaderUse}
 use Rattle.sl_ast.specs.declared.kinds.SlType.{SlType}
@@ -15,8 +15,8 @@ use Rattle.sl_ast.specs.Typed.{Local, Tree}
 use Rattle.shader_binding.specs.Sets.{SetValue, FitUses, Fits, Bound, bound_with}
 use Rattle.shader_binding.specs.Predefined.{sets_predefined}
 use Rattle.shader_binding.specs.Bindings.{kind_of, Binds, FitVariables, FitUseVariables, FitSomeVariables, FitsPrim}
-use Rattle.request_binding.specs.Causes.{Cause}
-use Rattle.request_binding.specs.Bindings.{is_of_type}
+use Rattle.acceptance.specs.Causes.{Cause}
+use Rattle.acceptance.specs.RequestBindings.{is_of_type}
 use Rattle.acceptance.specs.PrimBindings.{FitPrims, is_unfit, binds_unfit, tree_at, unfit_for, unfit_at, is_unfit_prim, prim_refused, frame_refused, prims_refused}
 use Rattle.acceptance.proofs.Names.{same_name, itself}
 use Rattle.acceptance.proofs.SetSame.{or_false}

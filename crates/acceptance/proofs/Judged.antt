@@ -4,10 +4,10 @@ use Rattle.outside.specs.Causes.{Told}
 use Rattle.outside.specs.Library.{Files}
 use Rattle.outside.specs.Asked.{AsksFront}
 use Rattle.scene.specs.Scene.{SceneValue}
-use Rattle.request_binding.specs.declared.refusal.Refusal.{Refusal}
-use Rattle.request_binding.specs.declared.refusal.Refusal.TheVariants.{Missing, At, ReadFault, NoMemory}
+use Rattle.acceptance.specs.declared.refusal.Refusal.{Refusal}
+use Rattle.acceptance.specs.declared.refusal.Refusal.TheVariants.{Missing, At, ReadFault, NoMemory}
 use Rattle.acceptance.specs.declared.read.ReadShader.{ReadShader}
-use Rattle.request_binding.specs.Causes.{Cause, Reads, unless, cause_in}
+use Rattle.acceptance.specs.Causes.{Cause, Reads, unless, cause_in}
 use Rattle.acceptance.specs.Shaders.{shader_names, shaders_refused, shaders_asked}
 use Rattle.acceptance.specs.Bindings.{uses_refused}
 use Rattle.acceptance.specs.PrimBindings.{frames_refused, prims_refused}
@@ -16,7 +16,7 @@ use Rattle.acceptance.specs.declared.accepted_scene.AcceptedScene.{AcceptedScene
 use Rattle.acceptance.specs.declared.shaders.UsedShaders.{UsedShaders}
 use Rattle.acceptance.specs.Set.{set_of, accepted_with}
 use Rattle.acceptance.specs.Reading.{name_of, tree_read, ArePlaced, IsReadOf, set_read}
-use Rattle.request_binding.specs.Answers.{Because}
+use Rattle.acceptance.specs.Answers.{Because}
 use Rattle.acceptance.specs.Reading.{accepted_in}
 use Rattle.acceptance.specs.Reading.{set_in}
 use Rattle.acceptance.proofs.ReadAll.{none_refused}

@@ -1,3 +1,5 @@
+pub mod BoundValues
+pub mod ParamCount
 pub mod Names
 pub mod Places
 pub mod FileNames

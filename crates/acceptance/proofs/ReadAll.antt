@@ -5,13 +5,13 @@ use Rattle.std.proofs.lemmas.List.Elements.{All-head, All-tail}
 use Rattle.outside.specs.Library.{Files}
 use Rattle.outside.specs.Asked.{AsksAll, AsksFront}
 use Rattle.outside.proofs.Asking.{asks_front-all, asks_front-behind, asks_front-before}
-use Rattle.request_binding.specs.declared.refusal.Refusal.{Refusal}
-use Rattle.request_binding.specs.declared.refusal.Refusal.TheVariants.{Missing, At, ReadFault, NoMemory}
+use Rattle.acceptance.specs.declared.refusal.Refusal.{Refusal}
+use Rattle.acceptance.specs.declared.refusal.Refusal.TheVariants.{Missing, At, ReadFault, NoMemory}
 use Rattle.acceptance.specs.declared.read.ReadShader.{ReadShader}
-use Rattle.request_binding.specs.Causes.{Cause, cause_in, or_else}
+use Rattle.acceptance.specs.Causes.{Cause, cause_in, or_else}
 use Rattle.acceptance.specs.Shaders.{file_of, shader_tree, shaders_refused, shaders_asked, asked_behind}
 use Rattle.acceptance.specs.Reading.{name_of, IsReadOf}
-use Rattle.request_binding.specs.Answers.{Because}
+use Rattle.acceptance.specs.Answers.{Because}
 
 -- the files of these shaders
 abbrev pub files_of : List ReadShader → List (List ℕ)

@@ -7,12 +7,12 @@ use Rattle.outside.specs.Library.{Files}
 use Rattle.outside.specs.Asked.{AsksAll, AsksFront}
 use Rattle.outside.proofs.Asking.{asks_all-none, asks_all-more}
 use Rattle.scene.specs.declared.uses.ShaderUse.{ShaderUse}
-use Rattle.request_binding.specs.declared.refusal.Refusal.{Refusal}
+use Rattle.acceptance.specs.declared.refusal.Refusal.{Refusal}
 use Rattle.acceptance.specs.declared.read.ReadShader.{ReadShader}
-use Rattle.request_binding.specs.Causes.{cause_in}
+use Rattle.acceptance.specs.Causes.{cause_in}
 use Rattle.acceptance.specs.Shaders.{file_of, shader_tree, distinct, use_name, shader_names, shaders_refused, shaders_asked}
 use Rattle.acceptance.specs.Reading.{name_of, is_among, with_once, file_once, IsReadOf, ReadsNext}
-use Rattle.request_binding.specs.Answers.{Because}
+use Rattle.acceptance.specs.Answers.{Because}
 use Rattle.acceptance.proofs.Names.{left, left_in, left_out}
 use Rattle.acceptance.proofs.ReadAll.{Parted, files_of, one_refused, one_asked, all_asked}
 

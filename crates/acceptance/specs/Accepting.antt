@@ -6,9 +6,9 @@ use Rattle.rib_lex.specs.Tokens as tokens
 use Rattle.rib_reader.specs.Reading as reading
 use Rattle.scene.specs.Scene.{SceneValue}
 use Rattle.scene_state.specs.Steps as steps
-use Rattle.request_binding.specs.declared.refusal.FileId.TheVariants.{Scene}
-use Rattle.request_binding.specs.Causes.{At, Reads, unless}
-use Rattle.request_binding.specs.Codes.{of_lex, of_request, of_state}
+use Rattle.acceptance.specs.declared.refusal.FileId.TheVariants.{Scene}
+use Rattle.acceptance.specs.Causes.{At, Reads, unless}
+use Rattle.acceptance.specs.Codes.{of_lex, of_request, of_state}
 use Rattle.acceptance.specs.Shaders.{shader_names, shaders_refused, shaders_asked}
 use Rattle.acceptance.specs.Bindings.{uses_refused}
 use Rattle.acceptance.specs.PrimBindings.{prims_refused}

@@ -3,8 +3,8 @@ use Rattle.std.specs.Prelude.{List, map, Option, Some, Ok, Err}
 use Rattle.outside.specs.Library.{Files}
 use Rattle.scene.specs.declared.uses.ShaderUse.{ShaderUse}
 use Rattle.sl_ast.specs.Typed.{Tree}
-use Rattle.request_binding.specs.Causes.{Cause, Reads, first_of}
-use Rattle.request_binding.specs.Bindings.{binding_fault, cause_at}
+use Rattle.acceptance.specs.Causes.{Cause, Reads, first_of}
+use Rattle.acceptance.specs.RequestBindings.{binding_fault, cause_at}
 use Rattle.acceptance.specs.Shaders.{shader_tree}
 
 -- the fault of a request over what is read of its shader, as a cause

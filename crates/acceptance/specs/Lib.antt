@@ -1,3 +1,8 @@
+pub mod Codes
+pub mod Causes
+pub mod RequestBindings
+pub mod Bound
+pub mod Answers
 pub mod Shaders
 pub mod Bindings
 pub mod PrimBindings

@@ -3,9 +3,9 @@
 use Rattle.std.specs.Prelude.{◌≡◌, refl, ℕ, Bool, true, false, not, ◌&&◌, ◌||◌, List, [], ◌∷◌, map, slice_get, Option, Some, None, All, codes, if◌then◌else◌}
 use Rattle.std.specs.List.{list_any}
 use Rattle.std.specs.Str.{bytes_eq}
-use Rattle.rib_values.specs.declared.params.Kind.{Kind}
-use Rattle.rib_values.specs.declared.params.Kind.TheVariants as kinds
-use Rattle.rib_values.specs.declared.params.Values.TheVariants.{Numbers}
+use Rattle.scene.specs.declared.params.Kind.{Kind}
+use Rattle.scene.specs.declared.params.Kind.TheVariants as kinds
+use Rattle.scene.specs.declared.params.Values.TheVariants.{Numbers}
 use Rattle.scene.specs.Scene.{VariableValue, PrimValue, FrameValue}
 use Rattle.scene.specs.declared.uses.ShaderUse.{ShaderUse}
 use Rattle.sl_ast.specs.declared.kinds.SlType.TheVariants as types
@@ -13,10 +13,10 @@ use Rattle.sl_ast.specs.Typed.{Local, Tree}
 use Rattle.shader_binding.specs.Sets.{SetValue}
 use Rattle.shader_binding.specs.Predefined.{sets_predefined}
 use Rattle.shader_binding.specs.Bindings.{FitsPrim}
-use Rattle.request_binding.specs.declared.code.Code.TheVariants.{B2}
-use Rattle.request_binding.specs.declared.refusal.FileId.TheVariants.{Scene}
-use Rattle.request_binding.specs.Causes.{Cause, At, first_of}
-use Rattle.request_binding.specs.Bindings.{is_of_type}
+use Rattle.acceptance.specs.declared.code.Code.TheVariants.{B2}
+use Rattle.acceptance.specs.declared.refusal.FileId.TheVariants.{Scene}
+use Rattle.acceptance.specs.Causes.{Cause, At, first_of}
+use Rattle.acceptance.specs.RequestBindings.{is_of_type}
 
 -- a variable has the name of a parameter, but another kind, or it varies where the parameter is uniform
 abbrev pub is_unfit : VariableValue → Local → Bool

@@ -9,15 +9,15 @@ use Rattle.sl_ast.specs.Typed.{Tree}
 use Rattle.sl_ast.specs.TreeView.{tree_of}
 use Rattle.sl_ast.specs.declared.typed.Value.{Value}
 use Rattle.shader_binding.specs.Sets.{SetValue, AcceptedValue}
-use Rattle.request_binding.specs.declared.refusal.Refusal.{Refusal}
+use Rattle.acceptance.specs.declared.refusal.Refusal.{Refusal}
 use Rattle.acceptance.specs.declared.read.ReadShader.{ReadShader}
 use Rattle.acceptance.specs.declared.shaders.UsedShaders.{UsedShaders}
 use Rattle.acceptance.specs.declared.accepted_scene.AcceptedScene.{AcceptedScene}
-use Rattle.request_binding.specs.Causes.{cause_in}
+use Rattle.acceptance.specs.Causes.{cause_in}
 use Rattle.acceptance.specs.Shaders.{file_of, text_with, tree_of_text, shader_tree, shaders_refused}
-use Rattle.request_binding.specs.Bindings.{declared_names}
-use Rattle.request_binding.specs.Bound.{bound_values}
-use Rattle.request_binding.specs.Answers.{Because}
+use Rattle.acceptance.specs.RequestBindings.{declared_names}
+use Rattle.acceptance.specs.Bound.{bound_values}
+use Rattle.acceptance.specs.Answers.{Because}
 
 abbrev pub name_of : ReadShader → List ℕ
 name_of s = s.name

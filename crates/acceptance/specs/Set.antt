@@ -7,9 +7,9 @@ use Rattle.sl_ast.specs.declared.typed.Value.{Value}
 use Rattle.sl_ast.specs.Typed.{Tree}
 use Rattle.fixed_math.specs.Names.{last_place}
 use Rattle.shader_binding.specs.Sets.{SetValue, AcceptedValue}
-use Rattle.request_binding.specs.Causes.{Reads}
+use Rattle.acceptance.specs.Causes.{Reads}
 use Rattle.acceptance.specs.Shaders.{shader_tree, shader_names}
-use Rattle.request_binding.specs.Bound.{bound_values}
+use Rattle.acceptance.specs.Bound.{bound_values}
 
 abbrev pub tree_in : Reads Tree → Option Tree
 tree_in (Ok tree) = Some tree

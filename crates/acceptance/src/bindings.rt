@@ -5,13 +5,13 @@ ghost use Rattle.acceptance.specs.Bindings as spec;
 ghost use Rattle.shader_binding.specs.Sets.{FitsUse, FitUses};
 ghost use Rattle.acceptance.specs.Shaders.{shader_tree};
 ghost use Rattle.acceptance.specs.Reading.{IsReadOf, ArePlaced, declared_by, name_of, tree_read, values_at, all_values};
-ghost use Rattle.request_binding.specs.Answers.{Clears};
-ghost use Rattle.request_binding.specs.declared.refusal.Refusal.TheVariants.{ReadFault};
+ghost use Rattle.acceptance.specs.Answers.{Clears};
+ghost use Rattle.acceptance.specs.declared.refusal.Refusal.TheVariants.{ReadFault};
 
 use crate::read::ReadShader;
 use crate::shaders::UsedShaders;
+use crate::{Refusal, bind, declared_names};
 use fixed_math::{List, Names, NoMemory};
-use request_binding::{Refusal, bind, declared_names};
 use scene_state::ShaderUse;
 use sl_ast::Value;
 use std::alloc::Global;

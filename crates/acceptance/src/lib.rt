@@ -4,12 +4,18 @@
 mod accepted_scene;
 mod accepting;
 mod bindings;
+mod code;
 mod read;
+mod refusal;
+mod request_bindings;
 mod shaders;
+mod values;
 mod variables;
 
 pub use accepted_scene::AcceptedScene;
 pub use accepting::accept;
+pub use code::{Code, of_lex, of_request, of_state, of_syntax, of_type};
 pub use read::ReadShader;
-pub use request_binding::{Code, FileId, Refusal, in_scene};
+pub use refusal::{FileId, Refusal, in_scene, in_shader};
+pub use request_bindings::{bind, declared_names, is_of_type};
 pub use shaders::UsedShaders;

@@ -10,23 +10,23 @@ ghost use Rattle.sl_ast.specs.TreeView.{tree_of};
 ghost use Rattle.sl_parser.specs.Files.{parsed};
 ghost use Rattle.sl_types.specs.Checked.{checked};
 ghost use Rattle.sl_types.specs.Distinct.{are_distinct};
-ghost use Rattle.request_binding.specs.Bindings.{declared_names};
+ghost use Rattle.acceptance.specs.RequestBindings.{declared_names};
 ghost use Rattle.acceptance.specs.Shaders.{IsCompilable, file_of, stock_text, tree_in_rows, tree_of_checked, tree_of_parsed, tree_of_bytes, shader_names, shaders_asked};
-ghost use Rattle.request_binding.specs.Answers.{Gives};
+ghost use Rattle.acceptance.specs.Answers.{Gives};
 ghost use Rattle.acceptance.specs.Reading.{GivesShaderText, ReadsShader, ReadsNext, ReadsShaders, ArePlaced, is_among, file_once, with_once, name_of};
-ghost use Rattle.request_binding.specs.declared.refusal.Refusal.TheVariants.{ReadFault};
+ghost use Rattle.acceptance.specs.declared.refusal.Refusal.TheVariants.{ReadFault};
 
 use crate::read::ReadShader;
+use crate::{Code, Refusal, in_shader, of_syntax, of_type};
 use fixed_math::{List, Names, NoMemory, Text};
 use outside::{Fetch, Library};
-use request_binding::{Code, Refusal, in_shader, of_syntax, of_type};
-use row_count::rows;
 use scene_state::ShaderUse;
 use sl_ast::Tree;
 use sl_parser::{SlFault, parse};
 use sl_types::check;
 use sl_typing::TypeFault;
 use std::alloc::Global;
+use uniform_varying::rows;
 
 /// The most bytes of a shader's file.
 const MOST_BYTES: u64 = 1048576;

@@ -5,14 +5,14 @@ ghost use Rattle.sl_ast.specs.TypedView.{local_of};
 ghost use Rattle.sl_ast.specs.TreeView.{tree_of};
 ghost use Rattle.acceptance.specs.PrimBindings as spec;
 ghost use Rattle.acceptance.specs.Reading.{tree_read, declared_by};
-ghost use Rattle.request_binding.specs.Answers.{Clears};
-ghost use Rattle.request_binding.specs.declared.refusal.Refusal.TheVariants.{ReadFault};
+ghost use Rattle.acceptance.specs.Answers.{Clears};
+ghost use Rattle.acceptance.specs.declared.refusal.Refusal.TheVariants.{ReadFault};
 
 use crate::bindings::all_declared;
 use crate::read::ReadShader;
 use crate::shaders::UsedShaders;
+use crate::{Code, Refusal, in_scene, is_of_type};
 use fixed_math::Names;
-use request_binding::{Code, Refusal, in_scene, is_of_type};
 use scene_state::{Frame, Prim, Scene, Variable};
 use shader_binding::sets_predefined;
 use sl_ast::{ParamDecl, Tree};

@@ -3,7 +3,7 @@ use Rattle.std.proofs.Common.{◌≡◌, ℕ, suc, Bool, true, false, cond, List
 use Rattle.std.specs.Option.{option_or}
 use Rattle.std.specs.Str.{bytes_eq}
 use Rattle.fixed_math.specs.declared.vec3.Vec3.{Vec3}
-use Rattle.rib_values.specs.declared.params.Kind.{Kind}
+use Rattle.scene.specs.declared.params.Kind.{Kind}
 use Rattle.scene.specs.Scene.{VariableValue}
 use Rattle.sl_ast.specs.declared.kinds.SlType.{SlType}
 use Rattle.sl_ast.specs.declared.kinds.SlType.TheVariants as types

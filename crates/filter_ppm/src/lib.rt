@@ -1,11 +1,19 @@
 //! From samples to the bytes of a picture: the filter's weights, the weighted mean, exposure, quantizing, and the format PPM.
 #![tactic(auto)]
 
+mod film;
+mod filtered;
 mod levels;
 mod ppm;
+mod reach;
+mod sampling;
+mod shown;
 mod sums;
 mod weights;
+mod window;
 
+pub use film::Film;
+pub use filtered::pixels;
 pub use levels::{expose, pixel_levels, quantize};
 pub use ppm::{band_bytes, header};
 pub use sums::Sums;

@@ -16,7 +16,7 @@ use Rattle.hider.specs.Cells.{Micropolygon, still, cells_of}
 use Rattle.hider.specs.Fragments.{fragments}
 use Rattle.hider.specs.Composite.{composite}
 use Rattle.shader_binding.specs.Sets.{AcceptedValue}
-use Rattle.frame_pixels.specs.Film.{FilmValues, picture}
+use Rattle.filter_ppm.specs.Film.{FilmValues, picture}
 
 -- the split decision for a part of a primitive's patch
 abbrev pub decide : View → PrimValue → Part → Decision

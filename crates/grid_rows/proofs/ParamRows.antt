@@ -4,8 +4,8 @@ use Rattle.std.proofs.lemmas.List.{append-nil, length-map, get_or-map}
 use Rattle.fixed_math.specs.Axes.{origin, part_of}
 use Rattle.fixed_math.specs.declared.vec3.Axis.TheVariants as axes
 use Rattle.fixed_math.specs.declared.vec3.Vec3.{Vec3}
-use Rattle.rib_values.specs.declared.params.Kind.{Kind}
-use Rattle.rib_values.specs.declared.params.Kind.TheVariants as kinds
+use Rattle.scene.specs.declared.params.Kind.{Kind}
+use Rattle.scene.specs.declared.params.Kind.TheVariants as kinds
 use Rattle.scene.specs.Scene.{VariableValue}
 use Rattle.sl_ast.specs.declared.typed.Value.{Value}
 use Rattle.sl_ast.specs.Typed.{Local}

@@ -13,8 +13,7 @@ use bumpalo::Bump;
 use fixed_math::{Axis, NoMemory, Num, Text, Vec3};
 use grid_code::Slot;
 use grid_variables::{Leaf, bound_variable, kind_of, spread, value_or};
-use rib_values::Kind;
-use scene::Variable;
+use scene::{Kind, Variable};
 use sl_ast::{ParamDecl, Value};
 use std::alloc::{Allocator, Global};
 

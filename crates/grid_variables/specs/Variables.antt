@@ -9,10 +9,10 @@ use Rattle.fixed_math.specs.declared.vec3.Axis.TheVariants as axes
 use Rattle.fixed_math.specs.declared.vec3.Vec3.{Vec3}
 use Rattle.patches.specs.Nets.{bilinear_point}
 use Rattle.transforms.specs.Map.{Map, identity}
-use Rattle.rib_values.specs.declared.params.Kind.{Kind}
-use Rattle.rib_values.specs.declared.params.Kind.TheVariants as kinds
-use Rattle.rib_values.specs.declared.params.Values.{Values}
-use Rattle.rib_values.specs.declared.params.Values.TheVariants as held
+use Rattle.scene.specs.declared.params.Kind.{Kind}
+use Rattle.scene.specs.declared.params.Kind.TheVariants as kinds
+use Rattle.scene.specs.declared.params.Values.{Values}
+use Rattle.scene.specs.declared.params.Values.TheVariants as held
 use Rattle.scene.specs.Scene.{VariableValue}
 use Rattle.sl_ast.specs.declared.kinds.SlType.TheVariants as types
 use Rattle.sl_ast.specs.declared.typed.Value.{Value}

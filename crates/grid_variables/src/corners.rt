@@ -7,8 +7,7 @@ use crate::moves::turned;
 use builtins::image;
 use fixed_math::{Num, Vec3};
 use patches::Dyadic;
-use rib_values::{Kind, Values};
-use scene::Variable;
+use scene::{Kind, Values, Variable};
 use sl_ast::SlType;
 use transforms::Affine;
 

@@ -7,8 +7,7 @@ use crate::leaf::Leaf;
 use crate::named::bound_variable;
 use builtins::copied;
 use fixed_math::{NoMemory, Text, Vec3};
-use rib_values::{Kind, Values};
-use scene::Variable;
+use scene::{Kind, Values, Variable};
 use sl_ast::Value;
 use std::alloc::Global;
 

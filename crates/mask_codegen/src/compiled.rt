@@ -12,11 +12,11 @@ use crate::sets::set_of;
 use core_codegen::{emit, given, param_slots};
 use fixed_math::{List, NoMemory};
 use grid_code::Code;
-use row_count::rows;
 use sl_ast::{ParamDecl, Tree};
 use sl_lowering::lower_body;
 use std::alloc::Global;
 use std::marker::Model;
+use uniform_varying::rows;
 
 // A tree counts at most so many rows of registers.
 const MOST_ROWS: u64 = 4096;

@@ -5,8 +5,8 @@ use Rattle.outside.specs.Library.{Files}
 use Rattle.outside.specs.Sink.{Written}
 use Rattle.render.specs.declared.program.Answer.{Answer}
 use Rattle.render.specs.declared.program.Answer.TheVariants as answers
-use Rattle.request_binding.specs.declared.refusal.Refusal.TheVariants as refusals
-use Rattle.request_binding.specs.Causes.{Cause}
+use Rattle.acceptance.specs.declared.refusal.Refusal.TheVariants as refusals
+use Rattle.acceptance.specs.Causes.{Cause}
 use Rattle.render.specs.Verdict.{Verdict, Usage, Refused, Accepted, status_of, status_of_cause}
 use Rattle.render.specs.Run.{is_accepted}
 use Rattle.render.specs.Answers.{Agrees, number_of, cause_of}

@@ -6,11 +6,11 @@ use Rattle.outside.specs.Causes.{Told}
 use Rattle.outside.specs.Library.{Files, held_as, Fetches, IsOfSize}
 use Rattle.outside.specs.declared.library.Fetch.{Fetch}
 use Rattle.outside.specs.declared.library.Fetch.TheVariants.{Whole, TooLong}
-use Rattle.request_binding.specs.declared.refusal.Refusal.{Refusal}
-use Rattle.request_binding.specs.declared.refusal.FileId.TheVariants.{Scene}
-use Rattle.request_binding.specs.declared.code.Code.TheVariants.{M10}
-use Rattle.request_binding.specs.Causes.{At, cause_in}
-use Rattle.request_binding.specs.Answers.{Because}
+use Rattle.acceptance.specs.declared.refusal.Refusal.{Refusal}
+use Rattle.acceptance.specs.declared.refusal.FileId.TheVariants.{Scene}
+use Rattle.acceptance.specs.declared.code.Code.TheVariants.{M10}
+use Rattle.acceptance.specs.Causes.{At, cause_in}
+use Rattle.acceptance.specs.Answers.{Because}
 use Rattle.acceptance.proofs.Fetched.{whole_held, long}
 use Rattle.render.specs.Verdict.{most_bytes, text_of_held}
 

@@ -11,7 +11,7 @@ use Rattle.fixed_math.specs.Names.{last_place}
 use Rattle.shader_binding.specs.Sets.{bound_with, bound_at, AcceptedValue}
 use Rattle.displace_shade.specs.Constant.{constant_tree, IsFlat}
 use Rattle.displace_shade.proofs.Flat.{constant_law}
-use Rattle.request_binding.specs.Causes.{Cause, Reads, unless, cause_in, or_else}
+use Rattle.acceptance.specs.Causes.{Cause, Reads, unless, cause_in, or_else}
 use Rattle.acceptance.specs.Shaders.{file_of, text_with, tree_of_text, shader_tree, without, distinct, use_name, shader_names, shaders_refused}
 use Rattle.acceptance.specs.Bindings.{uses_refused}
 use Rattle.acceptance.specs.PrimBindings.{prims_refused}

@@ -6,15 +6,15 @@ use Rattle.outside.specs.Frames.{whole, Adds, AddsFront}
 use Rattle.displace_shade.specs.Shop.{set_value}
 use Rattle.render.specs.declared.accepted.Accepted.{Accepted}
 use Rattle.shader_binding.specs.Sets.{AcceptedValue}
-use Rattle.request_binding.specs.Causes as causes
-use Rattle.request_binding.specs.Causes.{Cause, Reads}
+use Rattle.acceptance.specs.Causes as causes
+use Rattle.acceptance.specs.Causes.{Cause, Reads}
 use Rattle.render.specs.Verdict as verdicts
 use Rattle.render.specs.Verdict.{pictures_of}
 use Rattle.render.specs.Run.{is_accepted}
-use Rattle.request_binding.specs.Answers.{Because, status_of_refusal}
+use Rattle.acceptance.specs.Answers.{Because, status_of_refusal}
 use Rattle.command_line.specs.declared.command.Action.{Action}
-use Rattle.request_binding.specs.declared.refusal.Refusal.{Refusal}
-use Rattle.request_binding.specs.declared.refusal.Refusal.TheVariants as refusals
+use Rattle.acceptance.specs.declared.refusal.Refusal.{Refusal}
+use Rattle.acceptance.specs.declared.refusal.Refusal.TheVariants as refusals
 use Rattle.render.specs.declared.program.Answer.{Answer}
 use Rattle.render.specs.declared.program.Answer.TheVariants.{Done, Usage, NoScene, Refused, WriteFault, NoMemory}
 

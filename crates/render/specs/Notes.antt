@@ -1,9 +1,9 @@
 -- The note that tells why a command is refused.
 use Rattle.std.specs.Prelude.{ℕ, List, ◌++◌, codes, decimal}
-use Rattle.request_binding.specs.declared.refusal.FileId.{FileId}
-use Rattle.request_binding.specs.declared.refusal.FileId.TheVariants.{Scene, Shader}
-use Rattle.request_binding.specs.Codes.{text_of}
-use Rattle.request_binding.specs.Causes.{Cause, Missing, At}
+use Rattle.acceptance.specs.declared.refusal.FileId.{FileId}
+use Rattle.acceptance.specs.declared.refusal.FileId.TheVariants.{Scene, Shader}
+use Rattle.acceptance.specs.Codes.{text_of}
+use Rattle.acceptance.specs.Causes.{Cause, Missing, At}
 use Rattle.command_line.specs.Command.{Source, File, Demo}
 use Rattle.acceptance.specs.Shaders.{file_of}
 

@@ -3,12 +3,12 @@ use Rattle.std.specs.Prelude.{ℕ, List, [], ◌∷◌, ◌++◌, length, Option
 use Rattle.outside.specs.Library.{Files, held_as}
 use Rattle.outside.specs.Frames.{Picture}
 use Rattle.stock.specs.Demo.{demo}
-use Rattle.request_binding.specs.declared.code.Code.TheVariants.{M10}
+use Rattle.acceptance.specs.declared.code.Code.TheVariants.{M10}
 use Rattle.command_line.specs.declared.command.Action.{Action}
 use Rattle.command_line.specs.declared.command.Action.TheVariants.{Render}
-use Rattle.request_binding.specs.declared.refusal.FileId.TheVariants.{Scene}
-use Rattle.request_binding.specs.Causes.{Cause, Missing, At, Reads}
-use Rattle.request_binding.specs.Codes.{status_of_code}
+use Rattle.acceptance.specs.declared.refusal.FileId.TheVariants.{Scene}
+use Rattle.acceptance.specs.Causes.{Cause, Missing, At, Reads}
+use Rattle.acceptance.specs.Codes.{status_of_code}
 use Rattle.command_line.specs.Command.{Source, File, Demo, Command, command_of}
 use Rattle.acceptance.specs.Accepting.{accepted, asked_for_scene, scene_of_text}
 use Rattle.shader_binding.specs.Sets.{AcceptedValue}

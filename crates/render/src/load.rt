@@ -10,7 +10,7 @@ ghost use Rattle.displace_shade.specs.Shop.{set_value};
 ghost use Rattle.command_line.specs.Command.{source_view, command_view};
 ghost use Rattle.render.specs.Notes.{scene_name};
 ghost use Rattle.render.specs.Answers.{GivesText, LoadsNamed};
-ghost use Rattle.request_binding.specs.declared.refusal.Refusal.TheVariants.{ReadFault};
+ghost use Rattle.acceptance.specs.declared.refusal.Refusal.TheVariants.{ReadFault};
 
 use crate::accepted::{Accepted, accept};
 use acceptance::{Code, Refusal, in_scene};

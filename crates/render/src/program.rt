@@ -6,11 +6,11 @@ ghost use Rattle.command_line.specs.Texts.{texts};
 ghost use Rattle.render.specs.Run.{IsUsage, draws, draws_action, IsAccepted, HasStatus, AnswersVerdict, IsRefused, AddsFrames, AddsFirstFrames, AsksFirstNames};
 ghost use Rattle.command_line.specs.Command.{source_view, command_view};
 ghost use Rattle.render.specs.Verdict.{verdict, verdict_of_command, asked_for_command};
-ghost use Rattle.request_binding.specs.Causes.{Cause};
+ghost use Rattle.acceptance.specs.Causes.{Cause};
 ghost use Rattle.render.specs.Notes.{scene_name, name_in_notes, fault_line, note_of};
 ghost use Rattle.render.specs.Answers.{Agrees, ComesBefore, number_of, cause_told};
 ghost use Rattle.render.specs.declared.program.Answer.TheVariants.{Usage, Refused, WriteFault, NoMemory as OutOfMemory};
-ghost use Rattle.request_binding.specs.declared.refusal.Refusal.TheVariants.{ReadFault};
+ghost use Rattle.acceptance.specs.declared.refusal.Refusal.TheVariants.{ReadFault};
 
 use crate::load::load;
 use crate::write::{Stop, write_pictures};

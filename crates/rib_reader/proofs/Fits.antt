@@ -9,7 +9,7 @@ use Rattle.rib_lex.specs.declared.decimal.Decimal.{Decimal}
 use Rattle.rib_lex.specs.Decimal.{num, whole}
 use Rattle.rib_reader.specs.declared.args.Arg.{Arg}
 use Rattle.rib_reader.specs.declared.args.Arg.TheVariants.{Number, Str, Numbers, Strings}
-use Rattle.rib_values.specs.declared.params.Param.{Param}
+use Rattle.scene.specs.declared.params.Param.{Param}
 use Rattle.rib_reader.specs.declared.req.Req.{Req}
 use Rattle.rib_reader.specs.declared.req.Req.TheVariants.{Quantize}
 use Rattle.rib_reader.specs.declared.table.Shape.{Shape}
@@ -22,18 +22,18 @@ use Rattle.rib_reader.specs.declared.table.Tail.{Tail}
 use Rattle.rib_reader.specs.declared.table.Tail.TheVariants as tails
 use Rattle.rib_reader.specs.declared.follows.Follows.{Follows}
 use Rattle.rib_reader.specs.declared.follows.Follows.TheVariants as follows
-use Rattle.rib_values.specs.declared.params.Kind.{Kind}
-use Rattle.rib_values.specs.declared.params.Kind.TheVariants as kinds
-use Rattle.rib_values.specs.declared.params.Class.{Class}
-use Rattle.rib_values.specs.declared.params.Values.{Values}
-use Rattle.rib_values.specs.declared.params.Values.TheVariants as held
+use Rattle.scene.specs.declared.params.Kind.{Kind}
+use Rattle.scene.specs.declared.params.Kind.TheVariants as kinds
+use Rattle.scene.specs.declared.params.Class.{Class}
+use Rattle.scene.specs.declared.params.Values.{Values}
+use Rattle.scene.specs.declared.params.Values.TheVariants as held
 use Rattle.rib_reader.specs.declared.faults.RibCode.{RibCode}
 use Rattle.rib_reader.specs.declared.faults.RibCode.TheVariants.{S2, S3}
 use Rattle.rib_reader.specs.Table.{row_of, shapes_of, rules_of, words_in}
 use Rattle.rib_reader.specs.Rules.{when, lowest, are_whole, fits, fit, word_in, word_at, number_in, raw_at, whole_in, whole_at, numbers_in, numbers_at, is_outside, is_below, is_not_less, is_among, is_one, is_none_of, rule_code, args_code, levels_code, tail_with, follows_of}
 use Rattle.rib_reader.specs.Holding.{is_named, last_named}
 use Rattle.rib_reader.specs.Lists.{is_points, needed, is_as_needed, is_vertex, kind_code, name_code, count_code, is_geometry, numbers_held, numbers_given, points_in, own_code, param_code, whole_code, params_code, request_code}
-use Rattle.rib_values.specs.Kinds.{is_of_kind}
+use Rattle.scene.specs.Kinds.{is_of_kind}
 use Rattle.rib_reader.proofs.Lowest.{lower_none, when_none, lowest_none}
 
 not_false : (t : Bool) → not t ≡ false → t ≡ true

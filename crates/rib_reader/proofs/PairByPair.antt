@@ -4,7 +4,7 @@ use Rattle.std.specs.List.{slice_get, cons_option}
 use Rattle.std.proofs.lemmas.List.{append-nil}
 use Rattle.rib_reader.specs.declared.args.Arg.{Arg}
 use Rattle.rib_reader.specs.declared.args.Arg.TheVariants.{Str}
-use Rattle.rib_values.specs.declared.params.Param.{Param}
+use Rattle.scene.specs.declared.params.Param.{Param}
 use Rattle.rib_reader.specs.declared.follows.Follows.{Follows}
 use Rattle.rib_reader.specs.declared.follows.Follows.TheVariants.{Nothing, Anything, Free, Bound, Parameters, Variables, Bicubic}
 use Rattle.rib_reader.specs.declared.faults.RibCode.{RibCode}

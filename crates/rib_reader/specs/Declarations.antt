@@ -1,7 +1,7 @@
 -- The declarations of names and their types, one by one.
 use Rattle.std.specs.Prelude.{ℕ, List, [], ◌∷◌, Option, Some, None, slice_get}
-use Rattle.rib_values.specs.declared.params.Class.{Class}
-use Rattle.rib_values.specs.declared.params.Kind.{Kind}
+use Rattle.scene.specs.declared.params.Class.{Class}
+use Rattle.scene.specs.declared.params.Kind.{Kind}
 use Rattle.rib_reader.specs.declared.declared.Declared.{Declared}
 use Rattle.rib_reader.specs.Words.{with_type}
 

@@ -3,10 +3,10 @@ use Rattle.std.specs.Prelude.{◌≡◌, refl, ℕ, pos, Bool, false, ◌==◌, 
 use Rattle.std.specs.List.{list_any}
 use Rattle.std.specs.Option.{option_or}
 use Rattle.std.specs.Str.{bytes_eq}
-use Rattle.rib_values.specs.declared.params.Param.{Param}
-use Rattle.rib_values.specs.declared.params.Class.TheVariants.{Uniform}
-use Rattle.rib_values.specs.declared.params.Kind.TheVariants.{Float}
-use Rattle.rib_values.specs.declared.params.Values.TheVariants.{Numbers}
+use Rattle.scene.specs.declared.params.Param.{Param}
+use Rattle.scene.specs.declared.params.Class.TheVariants.{Uniform}
+use Rattle.scene.specs.declared.params.Kind.TheVariants.{Float}
+use Rattle.scene.specs.declared.params.Values.TheVariants.{Numbers}
 
 -- one of them has this name
 abbrev pub is_named : List ℕ → List Param → Bool

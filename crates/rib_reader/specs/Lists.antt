@@ -5,13 +5,13 @@ use Rattle.rib_lex.specs.declared.decimal.Decimal.{Decimal}
 use Rattle.rib_lex.specs.Decimal.{num}
 use Rattle.rib_reader.specs.declared.args.Arg.{Arg}
 use Rattle.rib_reader.specs.declared.args.Arg.TheVariants.{Number, Str, Numbers, Strings}
-use Rattle.rib_values.specs.declared.params.Values.{Values}
-use Rattle.rib_values.specs.declared.params.Values.TheVariants as held
-use Rattle.rib_values.specs.declared.params.Param.{Param}
-use Rattle.rib_values.specs.declared.params.Class.{Class}
-use Rattle.rib_values.specs.declared.params.Class.TheVariants as classes
-use Rattle.rib_values.specs.declared.params.Kind.{Kind}
-use Rattle.rib_values.specs.declared.params.Kind.TheVariants as kinds
+use Rattle.scene.specs.declared.params.Values.{Values}
+use Rattle.scene.specs.declared.params.Values.TheVariants as held
+use Rattle.scene.specs.declared.params.Param.{Param}
+use Rattle.scene.specs.declared.params.Class.{Class}
+use Rattle.scene.specs.declared.params.Class.TheVariants as classes
+use Rattle.scene.specs.declared.params.Kind.{Kind}
+use Rattle.scene.specs.declared.params.Kind.TheVariants as kinds
 use Rattle.rib_reader.specs.declared.req.Req.{Req}
 use Rattle.rib_reader.specs.declared.table.Tail.{Tail}
 use Rattle.rib_reader.specs.declared.table.Tail.TheVariants as tails
@@ -21,7 +21,7 @@ use Rattle.rib_reader.specs.declared.faults.RibCode.{RibCode}
 use Rattle.rib_reader.specs.declared.faults.RibCode.TheVariants.{S2, S3, S5}
 use Rattle.rib_reader.specs.declared.declared.Declared.{Declared}
 use Rattle.rib_reader.specs.declared.listing.Listing.{Listing}
-use Rattle.rib_values.specs.Kinds.{is_string, width, count, is_of_kind}
+use Rattle.scene.specs.Kinds.{is_string, width, count, is_of_kind}
 use Rattle.rib_reader.specs.Words.{token_of}
 use Rattle.rib_reader.specs.Rules.{lower, when, lowest, args_code, follows_of}
 use Rattle.rib_reader.specs.Holding.{is_named, last_named}

@@ -6,13 +6,13 @@ use Rattle.rib_lex.specs.declared.token.Token.{Token}
 use Rattle.rib_lex.specs.declared.token.TokenKind.{TokenKind}
 use Rattle.rib_lex.specs.declared.token.TokenKind.TheVariants as kinds
 use Rattle.rib_reader.specs.declared.args.Arg.{Arg}
-use Rattle.rib_values.specs.declared.params.Param.{Param}
+use Rattle.scene.specs.declared.params.Param.{Param}
 use Rattle.rib_reader.specs.declared.req.Req.{Req}
 use Rattle.rib_reader.specs.declared.req.Req.TheVariants as reqs
 use Rattle.rib_reader.specs.declared.args.Arg.TheVariants.{Str}
-use Rattle.rib_values.specs.declared.params.Class.TheVariants.{Uniform}
-use Rattle.rib_values.specs.declared.params.Kind.TheVariants.{Float}
-use Rattle.rib_values.specs.declared.params.Values.TheVariants.{Numbers}
+use Rattle.scene.specs.declared.params.Class.TheVariants.{Uniform}
+use Rattle.scene.specs.declared.params.Kind.TheVariants.{Float}
+use Rattle.scene.specs.declared.params.Values.TheVariants.{Numbers}
 use Rattle.rib_lex.specs.declared.decimal.Decimal.{Decimal}
 use Rattle.rib_lex.specs.Decimal.{raw_magnitude, whole_magnitude}
 use Rattle.rib_reader.specs.declared.names.Named.{Named}

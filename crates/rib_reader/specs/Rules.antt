@@ -22,8 +22,8 @@ use Rattle.rib_reader.specs.declared.follows.Follows.TheVariants as follows
 use Rattle.rib_reader.specs.declared.faults.RibCode.{RibCode}
 use Rattle.rib_reader.specs.declared.faults.RibCode.TheVariants.{S1, S2, S3, S4, S5}
 use Rattle.rib_reader.specs.declared.declared.Declared.{Declared}
-use Rattle.rib_values.specs.declared.params.Class.{Class}
-use Rattle.rib_values.specs.declared.params.Kind.{Kind}
+use Rattle.scene.specs.declared.params.Class.{Class}
+use Rattle.scene.specs.declared.params.Kind.{Kind}
 use Rattle.rib_reader.specs.Words.{declared_type, with_type}
 use Rattle.rib_reader.specs.Table.{words_in, row_of, shapes_of, rules_of}
 

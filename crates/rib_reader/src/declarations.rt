@@ -8,7 +8,7 @@ use crate::declared::{Declarations, Declared};
 use crate::faults::RibCode;
 use crate::names::{class_named, kind_named, variable_named};
 use fixed_math::{List, NoMemory, Text};
-use rib_values::{Class, Kind};
+use scene::{Class, Kind};
 use std::alloc::Global;
 
 fn is_white(byte: u8) -> bool

@@ -2,7 +2,7 @@ ghost use Rattle.std.specs.Prelude.{◌≡◌};
 ghost use Rattle.rib_reader.specs.Declarations.{type_at};
 
 use fixed_math::{Names, NoMemory, Text};
-use rib_values::{Class, Kind};
+use scene::{Class, Kind};
 use std::alloc::Global;
 use std::marker::Model;
 

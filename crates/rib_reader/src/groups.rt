@@ -24,7 +24,7 @@ use crate::rules::following;
 use crate::scans::scan;
 use fixed_math::{List, NoMemory, Text};
 use rib_lex::{Decimal, Token, TokenKind};
-use rib_values::Param;
+use scene::Param;
 use std::alloc::Global;
 
 // The one value that is an array of these numbers.

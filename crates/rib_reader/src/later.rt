@@ -3,7 +3,7 @@ ghost use Rattle.rib_reader.specs.Holding.{last_named, holding, is_at};
 ghost use Rattle.fixed_math.specs.Names.{last_place};
 
 use fixed_math::{Names, NoMemory, Text};
-use rib_values::Param;
+use scene::Param;
 use std::alloc::Global;
 
 /// The variable of that name that holds: the last one.

@@ -38,4 +38,4 @@ pub use later::{holding, last_named};
 pub use levels::Levels;
 pub use req::Req;
 pub use request::Request;
-pub use rib_values::{Class, Kind, Param, Values};
+pub use scene::{Class, Kind, Param, Values};

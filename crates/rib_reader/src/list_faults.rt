@@ -2,7 +2,7 @@ ghost use Rattle.std.specs.Prelude.{◌≡◌, IfOk, option_map, codes};
 ghost use Rattle.rib_reader.specs.Rules.{follows_of};
 ghost use Rattle.rib_reader.specs.Holding.{is_named};
 ghost use Rattle.rib_reader.specs.Lists.{is_points, needed, is_as_needed, is_vertex, is_bound, is_counted, kind_code, name_code, count_code, own_code, param_code, whole_code, params_code, request_code, numbers_held, points_in};
-ghost use Rattle.rib_values.specs.Kinds.{width, count, is_of_kind};
+ghost use Rattle.scene.specs.Kinds.{width, count, is_of_kind};
 
 use crate::args::Arg;
 use crate::codes::{code_when, lower_of};
@@ -14,7 +14,7 @@ use crate::req::Req;
 use crate::rules::{args_fault, following};
 use crate::texts::is_word;
 use fixed_math::{NoMemory, Num, Text};
-use rib_values::{Class, Kind, Param, Values};
+use scene::{Class, Kind, Param, Values};
 use std::alloc::Global;
 
 // How many numbers or strings a value of that kind has.

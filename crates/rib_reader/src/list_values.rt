@@ -1,12 +1,12 @@
 ghost use Rattle.std.specs.Prelude.{◌≡◌, IfOk, ◌∷◌, [], Some, map, option_map};
 ghost use Rattle.rib_lex.specs.Decimal.{num};
 ghost use Rattle.rib_reader.specs.Lists.{numbers_of, strings_of, values_of};
-ghost use Rattle.rib_values.specs.Kinds.{is_string};
+ghost use Rattle.scene.specs.Kinds.{is_string};
 
 use crate::args::Arg;
 use fixed_math::{List, NoMemory, Num, Text};
 use rib_lex::Decimal;
-use rib_values::{Kind, Values};
+use scene::{Kind, Values};
 use std::alloc::Global;
 
 fn nums(alloc: Global, numbers: &[Decimal]) -> Result<List<Num>, NoMemory>

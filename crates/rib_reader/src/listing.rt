@@ -1,6 +1,6 @@
 use crate::faults::RibCode;
 use fixed_math::List;
-use rib_values::Param;
+use scene::Param;
 
 /// What is read of a list: the lowest code that stands in its pairs, and their variables.
 #[derive(Drop)]

@@ -4,7 +4,7 @@ ghost use Rattle.rib_reader.specs.Entries.{plain};
 
 use crate::entry::Entry;
 use crate::req::Req;
-use rib_values::{Class, Kind};
+use scene::{Class, Kind};
 
 /// What a request's name stands for.
 #[derive(Clone, Copy)]

@@ -13,7 +13,7 @@ use crate::list_values::values_of;
 use crate::listing::Listing;
 use crate::texts::is_word;
 use fixed_math::{List, NoMemory, Text};
-use rib_values::{Class, Kind, Param};
+use scene::{Class, Kind, Param};
 use std::alloc::Global;
 
 fn nothing(alloc: Global) -> Listing

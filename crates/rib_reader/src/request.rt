@@ -3,8 +3,8 @@ ghost use Rattle.std.specs.List.{slice_get};
 ghost use Rattle.rib_reader.specs.Table.{row_of, shapes_of, rules_of, words_in};
 ghost use Rattle.rib_reader.specs.Rules.{word_at, raw_at, whole_at, numbers_at, are_whole, is_among, rule_code, follows_of};
 ghost use Rattle.rib_reader.specs.Lists.{param_code, own_code, whole_code, request_code, is_geometry, points_in};
-ghost use Rattle.rib_values.specs.Kinds.{is_of_kind};
-ghost use Rattle.rib_values.specs.declared.params.Param.{Param as AParam};
+ghost use Rattle.scene.specs.Kinds.{is_of_kind};
+ghost use Rattle.scene.specs.declared.params.Param.{Param as AParam};
 ghost use Rattle.rib_reader.specs.Levels.{GivesLevels};
 ghost use Rattle.rib_reader.specs.declared.req.Req.TheVariants.{Quantize};
 ghost use Rattle.rib_reader.specs.declared.table.Words.{Words as WordSet};
@@ -22,7 +22,7 @@ use crate::rules::is_one;
 use crate::table::Words;
 use fixed_math::{List, Num, Text};
 use rib_lex::Decimal;
-use rib_values::Param;
+use scene::Param;
 
 /// A request whose arguments and list fit its row of the table, so that no code stands in them.
 ///

@@ -5,9 +5,9 @@ use Rattle.fixed_math.specs.declared.vec3.Vec3.{Vec3}
 use Rattle.transforms.specs.Map.{Map}
 use Rattle.transforms.specs.declared.view.View.{View}
 use Rattle.patches.specs.declared.patch.Patch.{Patch}
-use Rattle.rib_values.specs.declared.params.Kind.{Kind}
-use Rattle.rib_values.specs.declared.params.Values.{Values}
-use Rattle.rib_values.specs.Kinds.{count, width, is_of_kind}
+use Rattle.scene.specs.declared.params.Kind.{Kind}
+use Rattle.scene.specs.declared.params.Values.{Values}
+use Rattle.scene.specs.Kinds.{count, width, is_of_kind}
 use Rattle.scene.specs.Settings.{OptionValues}
 use Rattle.scene.specs.declared.uses.ShaderKind.{ShaderKind}
 use Rattle.scene.specs.declared.uses.ShaderKind.TheVariants.{Surface, Displacement, Light, Volume}

@@ -3,9 +3,9 @@ ghost use Rattle.scene.specs.Scene.{VariableValue, PrimValue, FrameValue, SceneV
 
 use crate::options::Options;
 use crate::uses::ShaderUse;
+use crate::{Kind, Values};
 use fixed_math::{List, Num, Text, Vec3};
 use patches::Patch;
-use rib_values::{Kind, Values};
 use std::marker::Model;
 use transforms::{Affine, Camera};
 

@@ -5,9 +5,11 @@
 mod filter;
 mod frame;
 mod options;
+mod params;
 mod uses;
 
 pub use filter::Filter;
 pub use frame::{Frame, Primitive as Prim, Scene, Variable};
 pub use options::Options;
+pub use params::{Class, Kind, Param, Values};
 pub use uses::{ShaderKind, ShaderUse, params_copy};

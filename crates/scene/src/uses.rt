@@ -1,7 +1,7 @@
 ghost use Rattle.std.specs.Prelude.{◌≡◌, IfOk};
 
+use crate::{Param, Values};
 use fixed_math::{List, NoMemory, Num, Text};
-use rib_values::{Param, Values};
 use std::alloc::Global;
 use transforms::Affine;
 

@@ -1,2 +1,3 @@
+pub mod BoundedLights
 mod Words
 mod Runs

@@ -4,11 +4,11 @@ use Rattle.std.specs.Str.{bytes_eq}
 use Rattle.fixed_math.specs.Fixed.{div}
 use Rattle.fixed_math.specs.Whole.{floor_by}
 use Rattle.transforms.specs.declared.view.View.{View}
-use Rattle.rib_values.specs.declared.params.Param.{Param}
-use Rattle.rib_values.specs.declared.params.Kind.{Kind}
-use Rattle.rib_values.specs.declared.params.Kind.TheVariants as kinds
-use Rattle.rib_values.specs.declared.params.Values.{Values}
-use Rattle.rib_values.specs.declared.params.Values.TheVariants.{Numbers}
+use Rattle.scene.specs.declared.params.Param.{Param}
+use Rattle.scene.specs.declared.params.Kind.{Kind}
+use Rattle.scene.specs.declared.params.Kind.TheVariants as kinds
+use Rattle.scene.specs.declared.params.Values.{Values}
+use Rattle.scene.specs.declared.params.Values.TheVariants.{Numbers}
 use Rattle.rib_reader.specs.declared.table.Words.TheVariants.{Modes}
 use Rattle.rib_reader.specs.declared.req.Req.{Req}
 use Rattle.rib_reader.specs.declared.req.Req.TheVariants as reqs

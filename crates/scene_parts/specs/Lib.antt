@@ -1,3 +1,4 @@
+pub mod Lights
 pub mod Choices
 pub mod Looks
 pub mod Bases

@@ -10,8 +10,7 @@ ghost use Rattle.scene_parts.specs.Choices.{ChoiceValues, AreChoices, IsWindow, 
 use crate::code::StateCode;
 use fixed_math::Num;
 use rib_reader::{Req, Request, last_named};
-use rib_values::{Kind, Param, Values};
-use scene::{Filter, Options};
+use scene::{Filter, Kind, Options, Param, Values};
 use std::marker::Model;
 use transforms::View;
 

@@ -9,7 +9,7 @@ use crate::choices::first_number;
 use fixed_math::{Num, Vec3};
 use rib_lex::Decimal;
 use rib_reader::{Req, Request, last_named};
-use rib_values::Param;
+use scene::Param;
 use std::marker::Model;
 
 /// How a primitive looks beside its shaders: colour and opacity, the shading rate in square pixels, its sides, and how far

@@ -29,7 +29,7 @@ use Rattle.scene_parts.specs.Faces.{FaceValues, one_face, faces_in}
 use Rattle.scene_state.specs.Variables.{variables_in, are_counted, variables_of, mesh_extent, mesh_seat, faces_extent, face_seat}
 use Rattle.scene_parts.specs.Looks.{LookValues, is_single}
 use Rattle.scene_state.specs.Shaders.{first_attributes, first_shaders, with_request, placed, some_placed, all_placed, light_of}
-use Rattle.light_lists.specs.Lights.{with_light, without_light}
+use Rattle.scene_parts.specs.Lights.{with_light, without_light}
 use Rattle.scene_parts.specs.declared.code.StateCode.{StateCode}
 use Rattle.scene_parts.specs.declared.code.StateCode.TheVariants.{N1, N2, N3, N5, G1, G2, G3, G4, G5, M1, M2, M3, M4, M7}
 use Rattle.scene.specs.declared.uses.ShaderKind.{ShaderKind}

@@ -2,16 +2,16 @@
 -- Interface 3.2, section 5).
 use Rattle.std.specs.Prelude.{◌≡◌, refl, ℕ, ◌+◌, ◌*◌, ◌/◌, ◌%◌, ◌^◌, ◌==◌, ◌<◌, ◌≤◌, pos, Bool, true, false, not, List, [], ◌∷◌, ◌++◌, take, drop, length, map, filter, All, slice_index_or, codes}
 use Rattle.std.specs.List.{list_all}
-use Rattle.rib_values.specs.declared.params.Class.{Class}
-use Rattle.rib_values.specs.declared.params.Class.TheVariants.{Constant, Uniform, Varying, Vertex, FaceVarying}
-use Rattle.rib_values.specs.declared.params.Kind.{Kind}
-use Rattle.rib_values.specs.declared.params.Kind.TheVariants as kinds
-use Rattle.rib_values.specs.declared.params.Values.{Values}
-use Rattle.rib_values.specs.declared.params.Values.TheVariants.{Numbers, Strings}
-use Rattle.rib_values.specs.declared.params.Param.{Param}
+use Rattle.scene.specs.declared.params.Class.{Class}
+use Rattle.scene.specs.declared.params.Class.TheVariants.{Constant, Uniform, Varying, Vertex, FaceVarying}
+use Rattle.scene.specs.declared.params.Kind.{Kind}
+use Rattle.scene.specs.declared.params.Kind.TheVariants as kinds
+use Rattle.scene.specs.declared.params.Values.{Values}
+use Rattle.scene.specs.declared.params.Values.TheVariants.{Numbers, Strings}
+use Rattle.scene.specs.declared.params.Param.{Param}
 use Rattle.rib_reader.specs.Holding.{holding}
 use Rattle.rib_reader.specs.Lists.{is_points}
-use Rattle.rib_values.specs.Kinds.{width, count, is_of_kind}
+use Rattle.scene.specs.Kinds.{width, count, is_of_kind}
 use Rattle.mesh_basis.specs.declared.basis.Basis.TheVariants.{Bezier}
 use Rattle.mesh_basis.specs.declared.shape.Shape.{Shape}
 use Rattle.mesh_basis.specs.declared.counts.Counts.{Counts}

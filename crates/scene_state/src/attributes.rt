@@ -3,8 +3,7 @@ ghost use Rattle.std.specs.Prelude.{◌≡◌, IfOk};
 ghost use Rattle.scene_state.specs.Shaders.{first_attributes};
 
 use fixed_math::NoMemory;
-use light_lists::LightsInForce;
-use scene_parts::{Bases, Look};
+use scene_parts::{Bases, LightsInForce, Look};
 use std::alloc::Global;
 
 /// The attributes in force. A shader is named by its place among all shader requests so far.

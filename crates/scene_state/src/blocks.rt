@@ -8,9 +8,8 @@ use crate::attributes::Attributes;
 use crate::fault::{Stop, code_of};
 use crate::state::{Block, State, World};
 use fixed_math::{List, NoMemory};
-use light_lists::LightsInForce;
 use scene::Frame;
-use scene_parts::StateCode;
+use scene_parts::{LightsInForce, StateCode};
 use std::alloc::Global;
 use transforms::{Affine, Camera};
 

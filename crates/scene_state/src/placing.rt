@@ -19,7 +19,7 @@ use crate::variables::{are_counted, variables_in};
 use fixed_math::{NoMemory, Vec3};
 use mesh_basis::{Shape, are_in_range, counts_of};
 use rib_reader::Request;
-use rib_values::Param;
+use scene::Param;
 use scene_parts::{Faces, StateCode, faces_in, one_face, piece_total};
 use std::alloc::Global;
 use transforms::Affine;

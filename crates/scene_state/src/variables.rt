@@ -1,15 +1,14 @@
 // The variables of primitives.
 ghost use Rattle.std.specs.Prelude.{◌≡◌, ◌+◌, ◌*◌, ◌≤◌, ◌++◌, true, not, All, IfOk, filter, length, map};
 ghost use Rattle.rib_reader.specs.Lists.{is_points};
-ghost use Rattle.rib_values.specs.Kinds.{width, count};
+ghost use Rattle.scene.specs.Kinds.{width, count};
 ghost use Rattle.scene_state.specs.Variables.{variables_in, values_in, is_counted, are_counted, items_at, taken, places_of, varies, variable_of, variables_of, IsOfKind, IsThere};
 ghost use Rattle.scene.specs.Scene.{IsVariable};
 
 use crate::seat::{Extent, Seat};
 use fixed_math::{List, NoMemory, Num, Text};
 use rib_reader::{Request, holding};
-use rib_values::{Class, Kind, Param, Values};
-use scene::Variable;
+use scene::{Class, Kind, Param, Values, Variable};
 use std::alloc::Global;
 
 // Those that aren't points.

@@ -1,8 +1,8 @@
 -- When a primitive's variables fit the parameters of its shaders.
 use Rattle.std.specs.Prelude.{◌≡◌, ℕ, true, false, List, Option, Some, None, All}
 use Rattle.std.specs.Str.{bytes_eq}
-use Rattle.rib_values.specs.declared.params.Kind.{Kind}
-use Rattle.rib_values.specs.declared.params.Kind.TheVariants as kinds
+use Rattle.scene.specs.declared.params.Kind.{Kind}
+use Rattle.scene.specs.declared.params.Kind.TheVariants as kinds
 use Rattle.scene.specs.Scene.{PrimValue, VariableValue}
 use Rattle.scene.specs.declared.uses.ShaderUse.{ShaderUse}
 use Rattle.sl_ast.specs.declared.kinds.SlType.{SlType}

@@ -1,3 +1,4 @@
+mod Sums
 pub mod Scopes
 mod Lengths
 pub mod Leaves

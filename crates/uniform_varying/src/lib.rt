@@ -3,6 +3,7 @@
 #![tactic(auto)]
 
 mod classes;
+mod counted;
 mod fault;
 mod leaving;
 mod listing;
@@ -14,6 +15,7 @@ mod spot;
 mod uniform;
 
 pub use classes::{Classes, control, param_classes};
+pub use counted::rows;
 pub use fault::ControlFault;
 pub use leaving::{in_branch, is_uniform_loop};
 pub use scope::{class_of, enter, enter_all, formal_classes};

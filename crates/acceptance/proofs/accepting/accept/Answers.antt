@@ -4,7 +4,7 @@ use Rattle.outside.specs.Causes.{Told}
 use Rattle.acceptance.specs.declared.accepted_scene.AcceptedScene.{AcceptedScene}
 use Rattle.acceptance.specs.Accepting.{accepted}
 use Rattle.acceptance.specs.Reading.{tree_read}
-use Rattle.request_binding.specs.Answers.{Gives}
+use Rattle.acceptance.specs.Answers.{Gives}
 use Rattle.acceptance.specs.Reading.{accepted_in}
 use Rattle.acceptance.proofs.Judged.{read_asked, unbound, unfit, bound}
 use Rattle.acceptance.proofs.Fitting.{fit_prims}

@@ -5,7 +5,7 @@ use Rattle.std.specs.Prelude.{slice_get}
 use Rattle.shader_binding.specs.Sets.{FitsUse}
 use Rattle.acceptance.specs.declared.read.ReadShader.{ReadShader}
 use Rattle.acceptance.specs.Reading.{IsReadOf, name_of, tree_read, values_at}
-use Rattle.request_binding.specs.Answers.{Clears}
+use Rattle.acceptance.specs.Answers.{Clears}
 use Rattle.acceptance.proofs.Bound.{bound_next, unbound_next, place_of_use}
 use Rattle.acceptance.proofs.BoundUses.{all_next, fit_next, all_done, fit_done}
 use Rattle.acceptance.proofs.Places.{as_many}

@@ -2,7 +2,7 @@ use Rattle.std.proofs.Common.{◌≡◌, Some, map}
 use Rattle.std.specs.Prelude.{slice_get}
 use Rattle.std.proofs.lemmas.Result.{IfOk-weaker}
 use Rattle.shader_binding.specs.Sets.{FitsUse}
-use Rattle.request_binding.specs.Bound.{bound_values}
+use Rattle.acceptance.specs.Bound.{bound_values}
 use Rattle.acceptance.specs.Reading.{tree_read, values_at}
 use Rattle.acceptance.proofs.Bound.{bound_by}
 use Rattle.acceptance.proofs.BoundUses.{at_place, fit_place}

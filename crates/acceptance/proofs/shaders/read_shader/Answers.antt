@@ -3,10 +3,10 @@ use Rattle.std.proofs.lemmas.Result.{err_from_is_err_and}
 use Rattle.outside.specs.Causes.{Told}
 use Rattle.sl_ast.specs.TreeView.{tree_of}
 use Rattle.acceptance.specs.declared.read.ReadShader.{ReadShader}
-use Rattle.request_binding.specs.Causes.{cause_in}
+use Rattle.acceptance.specs.Causes.{cause_in}
 use Rattle.acceptance.specs.Shaders.{tree_of_bytes}
 use Rattle.acceptance.specs.Reading.{ReadsShader}
-use Rattle.request_binding.specs.Answers.{Because}
+use Rattle.acceptance.specs.Answers.{Because}
 use Rattle.acceptance.proofs.Fetched.{text_read, text_refused, tree_refused}
 use Rattle.acceptance.proofs.shaders.read_shader.Goals as goal
 

@@ -1,7 +1,7 @@
 use Rattle.std.proofs.Common.{◌≡◌, ◌≤◌, ◌+◌, ◌*◌, length, take}
 use Rattle.hider.specs.Fragments.{fragments}
 use Rattle.hider.specs.Tiles.{Shows}
-use Rattle.frame_pixels.specs.Sampled.{frame_grid}
+use Rattle.filter_ppm.specs.Sampled.{frame_grid}
 use Rattle.frame_picture.specs.Sampled.{prims_micropolygons}
 use Rattle.frame_picture.specs.Shopped.{shaded_by}
 use Rattle.frame_picture.proofs.Hiding.{leaves_of}

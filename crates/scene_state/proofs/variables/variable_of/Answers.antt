@@ -1,5 +1,5 @@
 use Rattle.std.proofs.Common.{◌≡◌, ◌∙◌, ap, sym, rules, ◌*◌, length}
-use Rattle.rib_values.specs.Kinds.{count, width, is_of_kind}
+use Rattle.scene.specs.Kinds.{count, width, is_of_kind}
 use Rattle.scene.specs.Scene.{corners}
 use Rattle.scene_state.proofs.Values.{is_variable}
 use Rattle.scene_state.proofs.variables.variable_of.Goals as goal

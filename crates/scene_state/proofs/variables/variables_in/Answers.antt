@@ -1,6 +1,6 @@
 use Rattle.std.proofs.Common.{◌∙◌, ap, sym, subst, not, filter, map, All}
 use Rattle.rib_reader.specs.Lists.{is_points}
-use Rattle.rib_values.specs.declared.params.Param.{Param}
+use Rattle.scene.specs.declared.params.Param.{Param}
 use Rattle.rib_reader.specs.Holding.{holding}
 use Rattle.scene_state.specs.Variables.{variables_in, IsOfKind}
 use Rattle.scene_state.proofs.Values.{filter_map, kinds_in}

@@ -2,7 +2,7 @@ use Rattle.std.proofs.Common.{◌≡◌, refl, pos, ap, List, Ok}
 use Rattle.rib_reader.specs.declared.req.Req.{Req}
 use Rattle.rib_reader.specs.declared.req.Req.TheVariants as reqs
 use Rattle.rib_reader.specs.declared.args.Arg.{Arg}
-use Rattle.rib_values.specs.declared.params.Param.{Param}
+use Rattle.scene.specs.declared.params.Param.{Param}
 use Rattle.scene_parts.specs.Choices.{ChoiceValues, chosen_by}
 use Rattle.std.specs.List.{slice_get}
 use Rattle.rib_reader.specs.Table.{rules_of, greatest}

@@ -1,5 +1,0 @@
-pub mod Grids
-pub mod Sweeps
-pub mod Reaches
-pub mod ShownSamples
-pub mod Within

@@ -1,2 +1,0 @@
-pub mod BoundValues
-pub mod ParamCount

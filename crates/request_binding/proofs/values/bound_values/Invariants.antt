@@ -1,8 +1,0 @@
-use Rattle.std.proofs.Common.{◌≡◌, map}
-use Rattle.std.specs.List.{range_with_len}
-use Rattle.sl_ast.specs.TreeView.{tree_of}
-use Rattle.request_binding.specs.Bound.{bound_value}
-use Rattle.request_binding.proofs.values.bound_values.Given as goal
-
-abbrev pub invariant-loop-index : goal.invariant-loop-index
-invariant-loop-index l = l.values.items ≡ map (bound_value (tree_of l.tree) l.request) (range_with_len 0 l.index)

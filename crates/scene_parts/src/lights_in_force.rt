@@ -1,0 +1,141 @@
+// The lights in force.
+ghost use Rattle.std.specs.Prelude.{◌≡◌, ◌<◌, [], ◌∷◌, ◌++◌, All, IfOk};
+ghost use Rattle.scene_parts.specs.Lights.{is_among, with_light, without_light};
+
+use crate::shared_lights::SharedLights;
+use fixed_math::NoMemory;
+use std::alloc::Global;
+use std::marker::Model;
+
+/// The lights in force, in order. Contracts see the list.
+///
+/// A scene can leave tens of thousands of lights in force over its worlds, while at most 64 have a number, by which they are put
+/// into force and taken out of it; and blocks by the hundred thousand save the list. So the lights stand in two lists that are
+/// shared, those without a number first, and a light at or past `bound` is looked for among the later ones alone.
+#[derive(Drop)]
+pub struct LightsInForce {
+    earlier: SharedLights,
+    bound: usize,
+    later: SharedLights,
+}
+
+impl Model for LightsInForce {
+    ghost use Rattle.std.specs.Prelude.{ℕ, ◌<◌, List as Items, ◌++◌, All};
+
+    ghost Value = { Items ℕ };
+
+    ghost view = { λ l. l.earlier ++ l.later };
+
+    ghost invariant = { λ l. All (λ n. n < l.bound) l.earlier };
+}
+
+// Whether the light is one of those, which all lie below the bound.
+fn has_below(lights: &SharedLights, bound: usize, light: usize) -> bool
+    requires { All (λ n. n < bound) lights.now }
+    ensures { result ≡ is_among light lights.now }
+{
+    light < bound && lights.has(light)
+}
+
+// Those lights without this one. All lie below the bound.
+fn without_below(
+    alloc: Global,
+    lights: &SharedLights,
+    bound: usize,
+    light: usize,
+) -> Result<SharedLights, NoMemory>
+    requires { All (λ n. n < bound) lights.now }
+    ensures left { IfOk result (λ l. l ≡ without_light light lights.now) }
+    ensures below { IfOk result (λ l. All (λ n. n < bound) l) }
+{
+    if light < bound {
+        lights.without(alloc, light)
+    } else {
+        lights.shared()
+    }
+}
+
+impl LightsInForce {
+    /// No lights.
+    pub fn none(alloc: Global) -> Result<LightsInForce, NoMemory>
+        ensures { IfOk result (λ l. l ≡ []) }
+    {
+        Ok(LightsInForce {
+            earlier: SharedLights::none(alloc)?,
+            bound: 0,
+            later: SharedLights::none(alloc)?,
+        })
+    }
+
+    /// The same lights, held by one more.
+    pub fn shared(&self) -> Result<LightsInForce, NoMemory>
+        ensures { IfOk result (λ l. l ≡ self.now) }
+    {
+        Ok(LightsInForce {
+            earlier: self.earlier.shared()?,
+            bound: self.bound,
+            later: self.later.shared()?,
+        })
+    }
+
+    /// The lights in order.
+    pub fn in_order(&self, alloc: Global) -> Result<Vec<usize>, NoMemory>
+        ensures { IfOk result (λ l. l.items ≡ self.now) }
+    {
+        let mut lights = Vec::new(alloc);
+        lights.extend_from_slice(self.earlier.as_slice())?;
+        lights.extend_from_slice(self.later.as_slice())?;
+        Ok(lights)
+    }
+
+    fn has(&self, light: usize) -> bool
+        ensures { result ≡ is_among light self.now }
+    {
+        has_below(&self.earlier, self.bound, light) || self.later.has(light)
+    }
+
+    /// Puts a light last.
+    pub fn push(&mut self, alloc: Global, light: usize) -> Result<(), NoMemory>
+        ensures { IfOk result (λ _. self.new ≡ self.old ++ light ∷ []) }
+    {
+        self.later.push(alloc, light)
+    }
+
+    /// Puts a light into force, last, where it isn't in force.
+    pub fn put(&mut self, alloc: Global, light: usize) -> Result<(), NoMemory>
+        ensures { IfOk result (λ _. self.new ≡ with_light light self.old) }
+    {
+        if !self.has(light) {
+            self.push(alloc, light)?;
+        }
+        Ok(())
+    }
+
+    /// The lights in force without this one.
+    pub fn without(&self, alloc: Global, light: usize) -> Result<LightsInForce, NoMemory>
+        ensures { IfOk result (λ l. l ≡ without_light light self.now) }
+    {
+        Ok(LightsInForce {
+            earlier: without_below(alloc, &self.earlier, self.bound, light)?,
+            bound: self.bound,
+            later: self.later.without(alloc, light)?,
+        })
+    }
+
+    /// The same lights. Where all later ones were made before light `first`, none of them has a number any more: they become
+    /// earlier ones.
+    pub fn settle(&mut self, alloc: Global, first: usize) -> Result<(), NoMemory>
+        ensures { IfOk result (λ _. self.new ≡ self.old) }
+    {
+        let later = self.later.as_slice();
+        if later.is_empty() || !later.iter().all(|light| *light < first) {
+            return Ok(());
+        }
+        *self = LightsInForce {
+            earlier: self.earlier.and(alloc, later)?,
+            bound: self.bound.max(first),
+            later: SharedLights::none(alloc)?,
+        };
+        Ok(())
+    }
+}
