@@ -1,12 +1,14 @@
 -- Tiles: the samples of a rectangle of pixels, and what shows at each.
-use Rattle.std.specs.Prelude.{ℕ, ◌*◌, ◌<◌, ◌≤◌, ℤ, ◌≡◌, ◌⊎◌, true, refl, ◌/◌, List, [], ◌∷◌, ◌++◌, slice_index_or, length}
+use Rattle.std.specs.Prelude.{ℕ, ◌*◌, ◌<◌, ◌≤◌, ℤ, ◌≡◌, ◌⊎◌, Bool, true, refl, ◌/◌, List, [], ◌∷◌, ◌++◌, slice_index_or, length, map}
+use Rattle.fixed_math.specs.declared.vec3.Vec3.{Vec3}
 use Rattle.fixed_math.specs.Spots.{PixelRect, pixel_count, pixel_x}
 use Rattle.transforms.specs.declared.view.View.{View}
 use Rattle.hider.specs.declared.fragment.Fragment.{Fragment}
 use Rattle.hider.specs.declared.sample.Sample.{Sample}
 use Rattle.hider.specs.declared.tile_sample.TileSample.{TileSample}
 use Rattle.hider.specs.declared.sample_grid.SampleGrid.{SampleGrid}
-use Rattle.hider.specs.Cells.{Micropolygon}
+use Rattle.hider.specs.Cells.{Micropolygon, still, cells_of}
+use Rattle.hider.specs.CellValues.{grid_values, micropolygons_of}
 use Rattle.hider.specs.Composite.{cut}
 use Rattle.hider.specs.Fragments.{covering, put_all, fragments, IsSorted}
 use Rattle.hider.specs.Kept.{keep_all, blocks}
@@ -74,6 +76,11 @@ with_covering v ms f s = put_all (f s) (covering v ms s)
 -- where it showed all fragments of any micropolygons and had ks hidden in it, it shows those of these and ns
 abbrev pub GoesOn : View → TileValue → List Micropolygon → List Micropolygon → Type 0
 GoesOn v t ks ns = (ms : List Micropolygon) → Shows t (with_covering v ks (fragments v ms)) → Shows t (fragments v (ms ++ ns))
+
+-- the same of the cells of a grid, which stay where they are
+abbrev pub HidesGrid : View → TileValue → Bool → Bool → ℕ → ℕ → List Vec3 → List Vec3 → List Vec3 → Type 0
+HidesGrid v t one_sided flip columns rows points colours opacities =
+    GoesOn v t (micropolygons_of (grid_values columns rows points colours opacities) one_sided flip) (map (still one_sided flip) (cells_of columns rows points colours opacities))
 
 -- at each sample an opaque fragment lies nearer than z
 abbrev pub BlocksAll : ℤ → SampleGrid → (Sample → List Fragment) → Type 0

@@ -6,7 +6,7 @@ ghost use Rattle.hider.specs.CellValues.{grid_values, micropolygons_of};
 ghost use Rattle.hider.specs.Cells.{still, cells_of};
 ghost use Rattle.hider.specs.Composite.{composite};
 ghost use Rattle.hider.specs.Kept.{blocks};
-ghost use Rattle.hider.specs.Tiles.{TileValue, IsTile, IsSampleGrid, AreSamplesOf, AreEmpty, Shows, BlocksAll, GoesOn, grid_of, sample_count, sample_of, with_covering};
+ghost use Rattle.hider.specs.Tiles.{TileValue, IsTile, IsSampleGrid, AreSamplesOf, AreEmpty, Shows, BlocksAll, HidesGrid, grid_of, sample_count, sample_of, with_covering};
 
 use crate::cells::Cells;
 use crate::compositing::composite;
@@ -146,5 +146,5 @@ impl Tile {
 /// The law of leaves: where a tile that showed all fragments of some micropolygons had a grid hidden in it, it shows those of
 /// these and then of the grid's.
 pub fn leaf_law(tile: &Tile, grid: &GridCells, camera: &Camera, one_sided: bool, flip: bool)
-    ensures { let g = grid.now.grid in GoesOn camera.now tile.now (micropolygons_of (grid_values g.columns g.rows g.p.now g.ci.now g.oi.now) one_sided flip) (map (still one_sided flip) (cells_of g.columns g.rows g.p.now g.ci.now g.oi.now)) }
+    ensures { let g = grid.now.grid in HidesGrid camera.now tile.now one_sided flip g.columns g.rows g.p.now g.ci.now g.oi.now }
 {}

@@ -24,11 +24,18 @@ y_place None h b u y z = floor_by (pos (256 * h) *ℤ (u -ℤ y)) (unsigned_abs 
 y_place (Some t) h b u y z =
     floor_by (pos (256 * h) *ℤ (pos (z * t) *ℤ u -ℤ pos (2 ^ 32) *ℤ y)) (z * t * unsigned_abs (u -ℤ b))
 
+-- what a camera makes of an x, and of a y, at a depth
+abbrev pub column_at : View → ℤ → ℕ → ℤ
+column_at v x z = clamped (x_place (scale_of v) v.width (left v) (right v) x z)
+
+abbrev pub row_at : View → ℤ → ℕ → ℤ
+row_at v y z = clamped (y_place (scale_of v) v.height (bottom v) (top v) y z)
+
 abbrev pub raster_x : View → Vec3 → ℤ
-raster_x v p = clamped (x_place (scale_of v) v.width (left v) (right v) p.x (unsigned_abs p.z))
+raster_x v p = column_at v p.x (unsigned_abs p.z)
 
 abbrev pub raster_y : View → Vec3 → ℤ
-raster_y v p = clamped (y_place (scale_of v) v.height (bottom v) (top v) p.y (unsigned_abs p.z))
+raster_y v p = row_at v p.y (unsigned_abs p.z)
 
 -- q isn't further left than p, nor does it lie further left on the raster; this holds of all points without perspective, and in
 -- perspective of points at one depth (a point further right but deeper may lie further left)

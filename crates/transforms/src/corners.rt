@@ -3,8 +3,7 @@ ghost use Rattle.std.specs.Prelude.{◌≡◌, ◌<◌, ◌≤◌, ◌^◌, ◌�
 ghost use Rattle.std.specs.Int.{int_min, int_max};
 ghost use Rattle.fixed_math.specs.declared.vec3.Axis.{Axis};
 ghost use Rattle.fixed_math.specs.Axes.{part_of};
-ghost use Rattle.transforms.specs.Field.{left, right, bottom, top, scale_of};
-ghost use Rattle.transforms.specs.Raster.{clamped, x_place, y_place, raster_box, HoldsPlaces};
+ghost use Rattle.transforms.specs.Raster.{column_at, row_at, raster_box, HoldsPlaces};
 
 use crate::camera::Camera;
 use fixed_math::{Num, Vec3};
@@ -48,7 +47,7 @@ impl Camera {
     /// Two places across, at the depth `z`.
     fn sides(&self, first: Num, last: Num, z: Num) -> [i64; 2]
         requires { self.now.near ≤ℤ z }
-        ensures { result ≡ clamped (x_place (scale_of self.now) self.now.width (left self.now) (right self.now) first (unsigned_abs z)) ∷ clamped (x_place (scale_of self.now) self.now.width (left self.now) (right self.now) last (unsigned_abs z)) ∷ [] }
+        ensures { result ≡ column_at self.now first (unsigned_abs z) ∷ column_at self.now last (unsigned_abs z) ∷ [] }
     {
         self.recall();
         let z = z.raw() as u32;
@@ -58,7 +57,7 @@ impl Camera {
     /// Two places down, at the depth `z`.
     fn levels(&self, first: Num, last: Num, z: Num) -> [i64; 2]
         requires { self.now.near ≤ℤ z }
-        ensures { result ≡ clamped (y_place (scale_of self.now) self.now.height (bottom self.now) (top self.now) first (unsigned_abs z)) ∷ clamped (y_place (scale_of self.now) self.now.height (bottom self.now) (top self.now) last (unsigned_abs z)) ∷ [] }
+        ensures { result ≡ row_at self.now first (unsigned_abs z) ∷ row_at self.now last (unsigned_abs z) ∷ [] }
     {
         self.recall();
         let z = z.raw() as u32;
