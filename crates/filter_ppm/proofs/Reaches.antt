@@ -5,7 +5,7 @@ use Rattle.hider.proofs.Pixels.{sample_inside}
 use Rattle.filter_ppm.specs.Weight.{weight_at, reach}
 use Rattle.filter_ppm.specs.Film.{FilmValues}
 use Rattle.filter_ppm.specs.Sampled.{format_of, sample_of, sample_count, sample_number, per_pixel, counts_for, IsWindow}
-use Rattle.filter_ppm.specs.declared.reach.Window.{Window}
+use Rattle.filter_ppm.specs.declared.pixel_window.Window.{Window}
 use Rattle.filter_ppm.proofs.Grids.{before_pixel, part_inside, part_length}
 use Rattle.filter_ppm.proofs.Filters.{far_left, far_right, no_weight_x, no_weight_y}
 use Rattle.filter_ppm.proofs.Sweeps.{Vanishes, IsPart}

@@ -10,7 +10,7 @@ use Rattle.hider.specs.Tiles.{grid_of}
 use Rattle.filter_ppm.specs.Weight.{weight_at, reach}
 use Rattle.filter_ppm.specs.Mean.{Totals, sum_of, weighted_mean}
 use Rattle.filter_ppm.specs.declared.shown.ShownSample.{ShownSample}
-use Rattle.filter_ppm.specs.declared.reach.Window.{Window}
+use Rattle.filter_ppm.specs.declared.pixel_window.Window.{Window}
 use Rattle.filter_ppm.specs.Film.{FilmValues}
 
 -- all samples of a frame of width by height pixels

@@ -9,10 +9,10 @@ ghost use Rattle.filter_ppm.specs.Film.{pixel, pixels};
 ghost use Rattle.filter_ppm.specs.Sampled.{frame_grid, film_with, sample_count, shown_samples};
 
 use crate::film::Film;
+use crate::pixel_levels;
 use crate::sampling::samples;
 use crate::shown::ShownSample;
 use crate::window::mean_about;
-use filter_ppm::pixel_levels;
 use fixed_math::NoMemory;
 use hider::Tile;
 use std::alloc::Global;

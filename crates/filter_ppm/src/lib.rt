@@ -4,8 +4,8 @@
 mod film;
 mod filtered;
 mod levels;
+mod pixel_window;
 mod ppm;
-mod reach;
 mod sampling;
 mod shown;
 mod sums;

@@ -6,9 +6,9 @@ ghost use Rattle.filter_ppm.specs.Mean.{with_colour};
 ghost use Rattle.filter_ppm.specs.Sampled.{film_with, sample_count, counts_for, mean_about, shown_samples, AddsSamples};
 
 use crate::film::Film;
-use crate::reach::window_of;
+use crate::pixel_window::window_of;
 use crate::shown::ShownSample;
-use filter_ppm::{Sums, weight};
+use crate::{Sums, weight};
 use fixed_math::{Num, Vec3};
 use scene::Options;
 
@@ -22,7 +22,7 @@ fn from_middle(place: i64, pixel: u32) -> i64
 }
 
 /// How much a sample counts for the pixel `x`, `y`.
-#[tactic(auto, unfolding(filter_ppm::specs::Weight::weight_at))]
+#[tactic(auto, unfolding(crate::specs::Weight::weight_at))]
 fn counts_for(o: &Options, x: u32, y: u32, sample: &ShownSample) -> Num
     requires x { x < 4096 }
     requires y { y < 4096 }

@@ -5,10 +5,10 @@ ghost use Rattle.sl_ast.specs.TypedView.{tree_expr, tree_stmt, default_of};
 ghost use Rattle.sl_ast.specs.TreeView.{tree_of};
 ghost use Rattle.sl_ast.specs.Registers as spec;
 
+use crate::{enter, enter_all, formal_classes, is_uniform, param_classes};
 use fixed_math::NoMemory;
 use sl_ast::{ParamDefault, SlKind, Tree, TreeExpr, TreeStmt};
 use std::alloc::Global;
-use uniform_varying::{enter, enter_all, formal_classes, is_uniform, param_classes};
 
 fn row_unless(uniform: bool) -> u64
     ensures { result ≡ spec.row_unless uniform }
@@ -180,7 +180,7 @@ fn rows_stmt(s: &TreeStmt, alloc: Global, us: &mut Vec<bool>) -> Result<u64, NoM
 
 // The rows of statements, where the variables in scope have these classes.
 #[cycle(counted)]
-#[tactic(auto, using(uniform_varying::proofs::Scopes::after_kept, uniform_varying::proofs::Scopes::all_kept))]
+#[tactic(auto, using(crate::proofs::Scopes::after_kept, crate::proofs::Scopes::all_kept))]
 fn rows_stmts(body: &[TreeStmt], alloc: Global, us: &mut Vec<bool>) -> Result<u64, NoMemory>
     ensures rows { IfOk result (λ n. n ≡ spec.rows_stmts (stmts (map tree_stmt body.now)) us.old.items) }
     ensures same { OnOk result (us.new.items ≡ us.old.items) }

@@ -2,8 +2,8 @@ ghost use Rattle.std.specs.Prelude.{◌≡◌, ◌≤◌, ◌<◌, ◌+◌, ◌-
 ghost use Rattle.filter_ppm.specs.Sampled.{IsWindow};
 
 use crate::film::Film;
+use crate::reach;
 use crate::sampling::samples_per_pixel;
-use filter_ppm::reach;
 
 /// The pixels whose samples may count for one pixel: columns `left` to below `right` and rows `top` to below `bottom`,
 /// with the width of the frame and the number of samples of a pixel.
