@@ -8,3 +8,4 @@ pub mod Fits
 pub mod Joining
 pub mod Spelling
 pub mod FirstWord
+pub mod Gathering

@@ -85,7 +85,7 @@ row_of reqs.LightSource = row (Word ∷ Whole ∷ []) [] tails.Parameters
 row_of reqs.Illuminate = row (Whole ∷ Whole ∷ []) (Within 1 (pos 0) (pos 1) ∷ []) tails.Empty
 row_of reqs.Attribute = row (Word ∷ []) [] tails.Attribute
 row_of reqs.Basis = row (Word ∷ Whole ∷ Word ∷ Whole ∷ [])
-    (NoArray 0 ∷ OneOf 0 Bases S2 ∷ Within 1 (pos 1) greatest ∷ NoArray 2 ∷ OneOf 2 Bases S2 ∷ Within 3 (pos 1) greatest ∷ []) tails.Empty
+    (NoArray 0 ∷ OneOf 0 Bases S3 ∷ Within 1 (pos 1) greatest ∷ NoArray 2 ∷ OneOf 2 Bases S3 ∷ Within 3 (pos 1) greatest ∷ []) tails.Empty
 row_of reqs.Translate = plain_row (Number ∷ Number ∷ Number ∷ [])
 row_of reqs.Scale = plain_row (Number ∷ Number ∷ Number ∷ [])
 row_of reqs.Rotate = plain_row (Number ∷ Number ∷ Number ∷ Number ∷ [])

@@ -1,5 +1,6 @@
 -- The words of a text, and what they declare (RenderMan Interface 3.2, section 3).
-use Rattle.std.specs.Prelude.{◌≡◌, refl, ℕ, Bool, ◌||◌, ◌==◌, List, [], ◌∷◌, ◌++◌, Option, Some, None, Result, Ok, Err, if◌then◌else◌, codes, length}
+use Rattle.std.specs.Prelude.{◌≡◌, refl, ℕ, Bool, not, ◌||◌, ◌==◌, List, [], ◌∷◌, Option, Some, None, Result, Ok, Err, if◌then◌else◌, codes, filter, length}
+use Rattle.std.specs.List.{slice_split}
 use Rattle.std.specs.Option.{option_or}
 use Rattle.std.specs.Str.{bytes_eq}
 use Rattle.scene.specs.declared.params.Class.{Class}
@@ -15,18 +16,12 @@ use Rattle.rib_reader.specs.Names.{entry_of, class_names, kind_names, variable_n
 abbrev pub is_white : ℕ → Bool
 is_white b = b == 32 || b == 9 || b == 10 || b == 13
 
--- a word more, where there is one
-abbrev pub with_word : List (List ℕ) → List ℕ → List (List ℕ)
-with_word words word = if length word == 0 then words else words ++ word ∷ []
+abbrev pub has_bytes : List ℕ → Bool
+has_bytes word = not (length word == 0)
 
--- behind these words and the beginning of one
-abbrev pub words_from : List (List ℕ) → List ℕ → List ℕ → List (List ℕ)
-words_from words word [] = with_word words word
-words_from words word (b ∷ bs) = if is_white b then words_from (with_word words word) [] bs else words_from words (word ++ b ∷ []) bs
-
--- what stands between white space
+-- the words of a text: the runs of bytes between white space, as long as they can be
 abbrev pub words_of : List ℕ → List (List ℕ)
-words_of text = words_from [] [] text
+words_of text = filter has_bytes (slice_split is_white text)
 
 -- a class and a kind, where these words are
 abbrev pub typed : Option Class → Option Kind → Result (Class × Kind) RibCode
@@ -72,6 +67,9 @@ token_of dict token = or_inline (option_or (last_type dict token) (entry_of vari
 -- worked values
 words : words_of (codes " uniform\tfloat \n Kx") ≡ codes "uniform" ∷ codes "float" ∷ codes "Kx" ∷ []
 words = refl
+
+no_words : words_of (codes "  ") ≡ []
+no_words = refl
 
 known : token_of [] (codes "fov") ≡ Ok record { name = codes "fov"; class = Uniform; kind = Float }
 known = refl

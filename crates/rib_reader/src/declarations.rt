@@ -1,6 +1,6 @@
-ghost use Rattle.std.specs.Prelude.{◌≡◌, IfOk};
+ghost use Rattle.std.specs.Prelude.{◌≡◌, ◌==◌, ◌∷◌, [], ◌++◌, IfOk, if◌then◌else◌, length};
 ghost use Rattle.std.specs.Str.{IsAscii};
-ghost use Rattle.rib_reader.specs.Words.{is_white, with_word, words_of, typed, type_of, named_so, inline_of, declared_type, last_type, token_of};
+ghost use Rattle.rib_reader.specs.Words.{is_white, words_of, typed, type_of, named_so, inline_of, declared_type, last_type, token_of};
 ghost use Rattle.std.specs.Option.{option_or};
 ghost use Rattle.rib_reader.specs.Names.{entry_of, class_names, kind_names, variable_names};
 
@@ -20,7 +20,7 @@ fn is_white(byte: u8) -> bool
 // The word is one of the words, unless it has no bytes.
 fn add_word(alloc: Global, words: &mut List<Text>, word: &[u8]) -> Result<(), NoMemory>
     requires { IsAscii word.now }
-    ensures { IfOk result (λ _. words.new ≡ with_word words.old word.now) }
+    ensures { IfOk result (λ _. words.new ≡ (if length word.now == 0 then words.old else words.old ++ word.now ∷ [])) }
 {
     if !word.is_empty() {
         words.0.push(Text::from_bytes(alloc, word)?)?;

@@ -163,10 +163,10 @@ pub fn row(name: Req) -> Row
             shapes: &[Shape::Word, Shape::Whole, Shape::Word, Shape::Whole],
             rules: &[
                 Rule::NoArray(0),
-                Rule::OneOf(0, Words::Bases, RibCode::S2),
+                Rule::OneOf(0, Words::Bases, RibCode::S3),
                 Rule::Within(1, 1, 2_147_483_647),
                 Rule::NoArray(2),
-                Rule::OneOf(2, Words::Bases, RibCode::S2),
+                Rule::OneOf(2, Words::Bases, RibCode::S3),
                 Rule::Within(3, 1, 2_147_483_647),
             ],
             tail: Tail::Empty,

@@ -1,3 +1,4 @@
 pub mod BoundedLights
 mod Words
 mod Runs
+pub mod LightRuns

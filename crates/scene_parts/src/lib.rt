@@ -4,6 +4,7 @@
 mod bases;
 mod choices;
 mod code;
+mod earlier_lights;
 mod faces;
 mod lights_in_force;
 mod look;

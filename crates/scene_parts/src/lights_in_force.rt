@@ -2,6 +2,7 @@
 ghost use Rattle.std.specs.Prelude.{◌≡◌, ◌<◌, [], ◌∷◌, ◌++◌, All, IfOk};
 ghost use Rattle.scene_parts.specs.Lights.{is_among, with_light, without_light};
 
+use crate::earlier_lights::EarlierLights;
 use crate::shared_lights::SharedLights;
 use fixed_math::NoMemory;
 use std::alloc::Global;
@@ -10,11 +11,11 @@ use std::marker::Model;
 /// The lights in force, in order. Contracts see the list.
 ///
 /// A scene can leave tens of thousands of lights in force over its worlds, while at most 64 have a number, by which they are put
-/// into force and taken out of it; and blocks by the hundred thousand save the list. So the lights stand in two lists that are
-/// shared, those without a number first, and a light at or past `bound` is looked for among the later ones alone.
+/// into force and taken out of it; and blocks by the hundred thousand save the list, and bring it back. So the lights stand in lists
+/// that are shared, those without a number first, and a light at or past `bound` is looked for among the later ones alone.
 #[derive(Drop)]
 pub struct LightsInForce {
-    earlier: SharedLights,
+    earlier: EarlierLights,
     bound: usize,
     later: SharedLights,
 }
@@ -30,26 +31,37 @@ impl Model for LightsInForce {
 }
 
 // Whether the light is one of those, which all lie below the bound.
-fn has_below(lights: &SharedLights, bound: usize, light: usize) -> bool
+fn has_below(
+    alloc: Global,
+    lights: &EarlierLights,
+    bound: usize,
+    light: usize,
+) -> Result<bool, NoMemory>
     requires { All (λ n. n < bound) lights.now }
-    ensures { result ≡ is_among light lights.now }
+    ensures { IfOk result (λ has. has ≡ is_among light lights.now) }
 {
-    light < bound && lights.has(light)
+    if light < bound {
+        Ok(lights.joined(alloc)?.has(light))
+    } else {
+        Ok(false)
+    }
 }
 
 // Those lights without this one. All lie below the bound.
 fn without_below(
     alloc: Global,
-    lights: &SharedLights,
+    lights: &EarlierLights,
     bound: usize,
     light: usize,
-) -> Result<SharedLights, NoMemory>
+) -> Result<EarlierLights, NoMemory>
     requires { All (λ n. n < bound) lights.now }
     ensures left { IfOk result (λ l. l ≡ without_light light lights.now) }
     ensures below { IfOk result (λ l. All (λ n. n < bound) l) }
 {
     if light < bound {
-        lights.without(alloc, light)
+        let joined = lights.joined(alloc)?;
+        let left = joined.without(alloc, light)?;
+        EarlierLights::of(alloc, left)
     } else {
         lights.shared()
     }
@@ -61,7 +73,7 @@ impl LightsInForce {
         ensures { IfOk result (λ l. l ≡ []) }
     {
         Ok(LightsInForce {
-            earlier: SharedLights::none(alloc)?,
+            earlier: EarlierLights::none(alloc)?,
             bound: 0,
             later: SharedLights::none(alloc)?,
         })
@@ -83,15 +95,16 @@ impl LightsInForce {
         ensures { IfOk result (λ l. l.items ≡ self.now) }
     {
         let mut lights = Vec::new(alloc);
-        lights.extend_from_slice(self.earlier.as_slice())?;
+        self.earlier.add_to(&mut lights)?;
         lights.extend_from_slice(self.later.as_slice())?;
         Ok(lights)
     }
 
-    fn has(&self, light: usize) -> bool
-        ensures { result ≡ is_among light self.now }
+    fn has(&self, alloc: Global, light: usize) -> Result<bool, NoMemory>
+        ensures { IfOk result (λ has. has ≡ is_among light self.now) }
     {
-        has_below(&self.earlier, self.bound, light) || self.later.has(light)
+        let is_earlier = has_below(alloc, &self.earlier, self.bound, light)?;
+        Ok(is_earlier || self.later.has(light))
     }
 
     /// Puts a light last.
@@ -105,7 +118,7 @@ impl LightsInForce {
     pub fn put(&mut self, alloc: Global, light: usize) -> Result<(), NoMemory>
         ensures { IfOk result (λ _. self.new ≡ with_light light self.old) }
     {
-        if !self.has(light) {
+        if !self.has(alloc, light)? {
             self.push(alloc, light)?;
         }
         Ok(())
@@ -132,7 +145,7 @@ impl LightsInForce {
             return Ok(());
         }
         *self = LightsInForce {
-            earlier: self.earlier.and(alloc, later)?,
+            earlier: self.earlier.and(alloc, &self.later)?,
             bound: self.bound.max(first),
             later: SharedLights::none(alloc)?,
         };

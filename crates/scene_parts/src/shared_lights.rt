@@ -29,8 +29,8 @@ impl SharedLights {
         SharedLights::of(alloc, List(Vec::new(alloc)))
     }
 
-    // Lights that one holds.
-    fn of(alloc: Global, lights: List<usize>) -> Result<SharedLights, NoMemory>
+    /// Lights that one holds.
+    pub(crate) fn of(alloc: Global, lights: List<usize>) -> Result<SharedLights, NoMemory>
         ensures { IfOk result (λ l. l ≡ lights) }
     {
         Ok(SharedLights {

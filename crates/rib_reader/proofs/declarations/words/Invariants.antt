@@ -1,6 +1,6 @@
 use Rattle.std.proofs.Common.{◌≡◌, drop, []}
 use Rattle.std.specs.Str.{IsAscii}
-use Rattle.rib_reader.specs.Words.{words_from}
+use Rattle.rib_reader.proofs.Gathering.{words_from}
 use Rattle.rib_reader.proofs.declarations.words.Given as goal
 
 abbrev pub invariant-loop-byte : goal.invariant-loop-byte
