@@ -1,3 +1,4 @@
-mod Points
 mod DefaultsThere
 mod Steps
+mod Constants
+mod Sizes

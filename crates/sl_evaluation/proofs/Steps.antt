@@ -1,29 +1,15 @@
 -- The meaning of each form at a point, by the meanings of its parts.
 use Rattle.std.specs.Prelude.{nat_lt}
-use Rattle.std.proofs.Common.{◌≡◌, ◌+◌, ◌-◌, ◌<◌, ℕ, suc, Option, Some, None, Bool, true, false, cond, List, [], ◌∷◌, ◌++◌, length, take, drop, refl, sym, ap, ◌∙◌, arith}
-use Rattle.fixed_math.specs.Fixed.{sub}
-use Rattle.fixed_math.specs.Axes.{origin}
-use Rattle.fixed_math.specs.declared.vec3.Vec3.{Vec3}
-use Rattle.transforms.specs.declared.spaces.Spaces.{Spaces}
+use Rattle.std.proofs.Common.{◌≡◌, ◌+◌, ◌-◌, ◌<◌, ℕ, suc, Bool, true, false, cond, List, ◌++◌, length, take, drop, refl, sym, ap, ◌∙◌, arith}
 use Rattle.sl_ast.specs.declared.kinds.SlType.{SlType}
-use Rattle.sl_ast.specs.declared.kinds.LightStmt.{LightStmt}
-use Rattle.sl_ast.specs.declared.kinds.LightStmt.TheVariants.{Illuminance, Illuminate, Solar}
-use Rattle.sl_ast.specs.declared.kinds.Predefined.TheVariants as names
-use Rattle.sl_ast.specs.declared.operations.LightSum.{LightSum}
-use Rattle.sl_ast.specs.declared.operations.LightSum.TheVariants as sums
 use Rattle.sl_ast.specs.declared.typed.Variable.{Variable}
 use Rattle.sl_ast.specs.declared.typed.Value.{Value}
-use Rattle.sl_ast.specs.declared.typed.Value.TheVariants.{Triple}
-use Rattle.builtins.specs.Triples.{each_two}
-use Rattle.builtins.specs.Values.{as_kind, is_true, triple_of}
-use Rattle.builtins.specs.Lights.{is_in_cone, sum_of}
+use Rattle.builtins.specs.Values.{as_kind, is_true}
 use Rattle.sl_meaning.specs.Core as C
 use Rattle.sl_meaning.specs.Core.{Expr, Exprs, Arguments, Stmts}
-use Rattle.sl_meaning.specs.Environment.{Env, Around, Signal, Next, Break, Continue, budget, spend, scope_of, with_name, with_variable, declared, cut_to}
+use Rattle.sl_meaning.specs.Environment.{Env, Around, Signal, Next, Break, Continue, budget, spend, scope_of, with_variable, declared, cut_to}
 use Rattle.sl_evaluation.specs.Signals.{is_break}
-use Rattle.sl_meaning.specs.Alone as A
-use Rattle.sl_meaning.specs.Alone.{Gives, Runs, on_value, inside, loop, round, lighting, over_lights, value, all_values, arg_values, run, run_all}
-use Rattle.sl_meaning.specs.Dark.{dark, light_along}
+use Rattle.sl_meaning.specs.Alone.{Gives, Runs, on_value, inside, loop, round, value, all_values, arg_values, run, run_all}
 use Rattle.sl_meaning.specs.CoreView.{expr_of, exprs_of, args_of, stmts_of}
 use Rattle.sl_meaning.specs.declared.core_tree.CoreExpr.{CoreExpr}
 use Rattle.sl_meaning.specs.declared.core_tree.Argument.{Argument}
@@ -34,21 +20,6 @@ pub pair : {A B : Type 0} → {a b : A} → {x y : B} → a ≡ b → x ≡ y �
 pair p q = λ i. (p i, q i)
 
 -- expressions
-
-no_sum : (s : LightSum) (vs : List Value) → sum_of s vs [] ≡ Triple origin
-no_sum sums.Ambient vs = refl
-no_sum sums.Diffuse [] = refl
-no_sum sums.Diffuse (n ∷ []) = refl
-no_sum sums.Diffuse (n ∷ v ∷ rest) = refl
-no_sum sums.Specular [] = refl
-no_sum sums.Specular (n ∷ []) = refl
-no_sum sums.Specular (n ∷ v ∷ []) = refl
-no_sum sums.Specular (n ∷ v ∷ r ∷ []) = refl
-no_sum sums.Specular (n ∷ v ∷ r ∷ x ∷ rest) = refl
-
-pub sum_means : (s : LightSum) (args : Exprs) (sp : Spaces) (n : ℕ) (e e1 : Env) (vs : List Value) →
-    all_values args (dark sp) n e ≡ (vs, e1) → value (C.sum s args) (dark sp) n e ≡ (Triple origin, e1)
-sum_means s args sp n e e1 vs h = ap (λ x. (sum_of s x.0 [], x.1)) h ∙ ap (λ w. (w, e1)) (no_sum s vs)
 
 abbrev ended : Env → Value × Env → Value × Env
 ended a r = (r.0, scope_of a r.1)
@@ -157,38 +128,6 @@ module _ (l : CoreLoop) (i : ℕ) (g : Around) (n : ℕ) (e0 e e1 : Env) (v : Va
       pub looping_on : (s' : Signal) (e3 : Env) → is_break s ≡ false → run_all (stmts_of l.step) g n z ≡ (s', e3) → Looping l (i + 1) g n e0 e3
       looping_on s' e3 q hs = turned ∙ round_by s z turn_step (turns l g n (n - (i + 1))) false q ∙ ap (λ y. turns l g n (n - (i + 1)) y.1) hs
 
--- statements over lights
-
-none_seen : (sp : Spaces) (args : List Value) → A.seen_from (dark sp) args ≡ []
-none_seen sp [] = refl
-none_seen sp (place ∷ cone) = refl
-
-abbrev lit_by : Option Vec3 → Runs → Runs
-lit_by None body e = (Next, e)
-lit_by (Some l) body e = lighting l body e
-
-over_none : (word : LightStmt) (sp : Spaces) (args : List Value) (body : Runs) (e : Env) →
-    over_lights word (dark sp) args body e ≡ lit_by (light_along word args (triple_of (e.named names.Ps))) body e
-over_none Illuminance sp args body e = ap (λ ls. A.each_light ls body e) (none_seen sp args)
-over_none Illuminate sp [] body e = refl
-over_none Illuminate sp (place ∷ cone) body e = by (is_in_cone cone l)
-  where
-    l : Vec3
-    l = each_two sub (triple_of (e.named names.Ps)) (triple_of place)
-
-    by : (b : Bool) → cond b (lighting l body e) (Next, e) ≡ lit_by (cond b (Some l) None) body e
-    by true = refl
-    by false = refl
-over_none Solar sp [] body e = refl
-over_none Solar sp (axis ∷ rest) body e = refl
-
-lights_by : (word : LightStmt) (args : Exprs) (s : Stmts) (sp : Spaces) (n : ℕ) (e e1 : Env) (vs : List Value) (o : Option Vec3) →
-    all_values args (dark sp) n e ≡ (vs, e1) → light_along word vs (triple_of (e1.named names.Ps)) ≡ o →
-    run (C.lights word args s) (dark sp) n e ≡ lit_by o (inside (run_all s (dark sp) n)) e1
-lights_by word args s sp n e e1 vs o h k =
-    let body = inside (run_all s (dark sp) n) in
-    ap (λ x. over_lights word (dark sp) x.0 body x.1) h ∙ over_none word sp vs body e1 ∙ ap (λ q. lit_by q body e1) k
-
 -- statements
 
 module _ (g : Around) (n : ℕ) (e e1 : Env) (v : Value) where
@@ -213,15 +152,3 @@ module _ (g : Around) (n : ℕ) (e e1 : Env) (v : Value) where
   pub else_means : (t : Expr) (a b : Stmts) (e2 z : Env) (s : Signal) → value t g n e ≡ (v, e1) → is_true v ≡ false →
       run_all b g n e1 ≡ (s, e2) → z ≡ cut_to e1 e2 → run (C.test t a b) g n e ≡ (s, z)
   else_means t a b e2 z s h k hr hz = either_by t a b false h k ∙ inside_means (run_all b g n) e1 e2 z s hr hz
-
-pub lights_pass : (word : LightStmt) (args : Exprs) (s : Stmts) (sp : Spaces) (n : ℕ) (e e1 : Env) (vs : List Value) →
-    all_values args (dark sp) n e ≡ (vs, e1) → light_along word vs (triple_of (e1.named names.Ps)) ≡ None →
-    run (C.lights word args s) (dark sp) n e ≡ (Next, e1)
-lights_pass word args s sp n e e1 vs h k = lights_by word args s sp n e e1 vs None h k
-
-pub lights_run : (word : LightStmt) (args : Exprs) (s : Stmts) (sp : Spaces) (n : ℕ) (e e1 b e2 z : Env) (vs : List Value) (l : Vec3) (signal : Signal) →
-    all_values args (dark sp) n e ≡ (vs, e1) → light_along word vs (triple_of (e1.named names.Ps)) ≡ Some l →
-    b ≡ record (with_name names.L (Triple l) e1) { lit = true } → run_all s (dark sp) n b ≡ (signal, e2) → z ≡ cut_to b e2 →
-    run (C.lights word args s) (dark sp) n e ≡ (signal, z)
-lights_run word args s sp n e e1 b e2 z vs l signal h k hb hr hz =
-    lights_by word args s sp n e e1 vs (Some l) h k ∙ ap (inside (run_all s (dark sp) n)) (sym hb) ∙ inside_means (run_all s (dark sp) n) b e2 z signal hr hz

@@ -1,2 +1,3 @@
-pub mod PointView
+pub mod ScopeView
 pub mod Signals
+pub mod Constant

@@ -1,19 +1,21 @@
 // The value of a parameter's default.
-ghost use Rattle.std.specs.Prelude.{◌≡◌, ◌<◌, length, IfOk};
+ghost use Rattle.std.specs.Prelude.{◌≡◌, ◌<◌, length, IfOk, [], true};
 ghost use Rattle.sl_ast.specs.Settled.{IsSettled};
 ghost use Rattle.sl_ast.specs.TreeView.{tree_of};
 ghost use Rattle.sl_ast.specs.TypedView.{default_of};
 ghost use Rattle.sl_meaning.specs.Defaults as spec;
+ghost use Rattle.sl_meaning.specs.Lowered.{expr};
+ghost use Rattle.sl_evaluation.specs.Constant.{IsConstant};
 
 use crate::evaluate::{in_kind, value};
-use crate::point::Point;
+use crate::scope::Scope;
 use fixed_math::NoMemory;
 use sl_ast::{ParamDefault, SlType, Tree, Value};
 use sl_lowering::lower_default;
 use std::alloc::Global;
 use transforms::Spaces;
 
-// The turns that a budget has at first.
+// The most turns of a loop: as many as the budget has.
 const TURNS: u32 = 65536;
 
 fn evaluated(
@@ -22,11 +24,12 @@ fn evaluated(
     kind: SlType,
     spaces: &Spaces,
 ) -> Result<Value, NoMemory>
+    requires { IsConstant (expr (default_of default.now).value [] true) }
     ensures { IfOk result (λ v. v ≡ spec.evaluated kind (default_of default.now).value spaces.now) }
 {
-    let mut point = Point::new(alloc, TURNS, TURNS)?;
+    let mut scope = Scope::new(alloc);
     let expression = lower_default(alloc, default)?;
-    let found = value(&expression, alloc, spaces, TURNS, &mut point)?;
+    let found = value(&expression, alloc, spaces, TURNS, &mut scope)?;
     in_kind(alloc, kind, &found)
 }
 
@@ -35,8 +38,8 @@ fn evaluated(
 ///
 /// The tree is settled, and the parameter is there. A default in a settled tree is uniform, so it holds no sum over lights,
 /// no difference and nothing that reads `Ng`; a typed one sees no predefined variable but `PI`, and the functions that
-/// it calls hold no statement over lights. So it meets no light, no neighbour in a grid and no predefined variable, and
-/// its value is taken where no light reaches and all of these are 0. The one refusal is want of memory.
+/// it calls hold no statement over lights. So it meets no light, no neighbour in a grid and no variable of a point, and
+/// all its loops are uniform. The one refusal is want of memory.
 pub fn default_value(
     alloc: Global,
     tree: &Tree,
