@@ -1,39 +1,28 @@
 -- A scene has at most 1,000 frames.
-use Rattle.std.proofs.Common.{◌≡◌, ℕ, ℤ, ◌+◌, ◌*◌, ◌<◌, ◌≤◌, Bool, true, false, List, [], ◌∷◌, ◌++◌, length, take, drop, sum_by, Option, Some, None, Result, Ok, Err, cond, refl, subst, arith, length-append}
-use Rattle.std.specs.Prelude.{if◌then◌else◌, nat_le, ◌==◌, is_some, not}
+use Rattle.std.proofs.Common.{◌≡◌, ℕ, ℤ, ◌<◌, ◌≤◌, Bool, true, false, List, [], ◌∷◌, ◌++◌, length, Option, Some, None, Result, Ok, Err, cond, refl, subst, arith, length-append}
+use Rattle.std.specs.Prelude.{if◌then◌else◌, nat_le, ◌==◌, is_some}
 use Rattle.rib_reader.specs.declared.req.Req.{Req}
 use Rattle.rib_reader.specs.declared.req.Req.TheVariants as reqs
 use Rattle.rib_reader.specs.Reading.{Read}
 use Rattle.rib_reader.specs.Rules.{word_at, raw_at, whole_at, numbers_at}
-use Rattle.patches.specs.declared.patch.Patch.{Patch}
-use Rattle.mesh_basis.specs.declared.shape.Shape.{Shape}
-use Rattle.mesh_basis.specs.declared.counts.Counts.{Counts}
-use Rattle.mesh_basis.specs.Ranges.{are_in_range}
-use Rattle.mesh_basis.specs.Counts.{counts_of}
-use Rattle.mesh_basis.specs.Meshes.{patches_in}
-use Rattle.mesh_basis.specs.Polygons.{piece_count, pieces_of, flat_normal}
 use Rattle.transforms.specs.Map.{Map, before_of}
 use Rattle.transforms.specs.Field.{camera_of}
 use Rattle.transforms.specs.declared.view.View.{View}
 use Rattle.transforms.specs.declared.fault.FormFault.{FormFault}
-use Rattle.fixed_math.specs.declared.vec3.Vec3.{Vec3}
 use Rattle.scene.specs.Scene.{SceneValue}
 use Rattle.scene_parts.specs.Choices.{ChoiceValues, chosen, view_of}
-use Rattle.scene_state.specs.State.{most_blocks, most_frames, most_lights, with_frame, name_or, moved, scaled, turned, of_rows, Stepped, first_state, closed, opened, innermost, frame_ended, attributes_ended, transform_ended, world_with, frame_made, frame_of, world_ended, with_choices, option_set, display_set, with_current, with_before, space_of, use_of, next_shader, with_shader, light_added, light_made, illuminated_by, light_named, with_prim, with_patches, is_past, mesh_from, mesh_counted, mesh_laid, face_points, with_face, with_faces, faces_laid, Located, located, laid, polygon_set, polygons_set}
-use Rattle.scene_parts.specs.Bases.{patch_shape, mesh_shape}
-use Rattle.scene_parts.specs.Faces.{FaceValues, one_face, faces_in}
-use Rattle.scene_state.specs.Variables.{variables_in, are_counted, mesh_extent, mesh_seat, faces_extent, face_seat}
+use Rattle.scene_state.specs.State.{most_blocks, most_frames, most_lights, with_frame, name_or, translated_by, scaled_by, rotated_by, of_rows, Stepped, first_state, closed, opened, innermost, frame_ended, attributes_ended, transform_ended, world_with, frame_made, frame_of, world_ended, with_choices, option_set, display_set, with_current, with_before, space_of, use_of, next_shader, with_shader, light_added, light_made, illuminated_by, light_named, with_patches, patches_placed, room_left, primitive_under, primitive_set}
+use Rattle.primitives.specs.Patches.{PatchValue, Made, patches_of}
 use Rattle.scene_state.specs.Shaders.{with_request}
 use Rattle.scene_state.specs.Steps.{with_surface, with_displacement, with_atmosphere, step, after, and_then, Placed, state_from, ended, last_line, scene_of}
 use Rattle.scene_parts.specs.declared.code.StateCode.{StateCode}
-use Rattle.scene_parts.specs.declared.code.StateCode.TheVariants.{N1, N2, N4, G5, M1, M2, M3, M4, M7}
+use Rattle.scene_parts.specs.declared.code.StateCode.TheVariants.{N1, N2, N4, N5, M1, M2, M4}
 use Rattle.scene.specs.declared.uses.ShaderKind.{ShaderKind}
 use Rattle.scene.specs.declared.uses.ShaderKind.TheVariants as kinds
 use Rattle.scene_state.specs.declared.attributes.Attributes.{Attributes}
 use Rattle.scene_state.specs.declared.state.Block.{Block}
 use Rattle.scene_state.specs.declared.state.Block.TheVariants.{InFrame, InWorld, InAttributes, InTransform}
 use Rattle.scene_state.specs.declared.state.World.{World}
-use Rattle.scene_state.specs.declared.seat.Seat.{Seat}
 use Rattle.scene_state.specs.declared.state.State.{State}
 
 abbrev pub Few : State → Type 0
@@ -127,53 +116,21 @@ few_illuminated : (o : Option ℕ) (on : Option ℤ) (s : State) → Few s → F
 few_illuminated None on s g = tt
 few_illuminated (Some k) on s g = g
 
--- patches that are placed one after another
-few_patches : (r : Read) (object : Map) (flat : Option Vec3) (seats : ℕ → Seat) (k : ℕ) (ps : List Patch) (s : State) → Few s → Few (with_patches r object flat seats k ps s)
-unfolding with_patches
-few_patches r object flat seats k [] s g = g
-few_patches r object flat seats k (p ∷ ps) s g = few_patches r object flat seats (k + 1) ps (with_prim r object flat (seats k) p s) g
+-- patches that are placed
+few_patches : (r : Read) (object : Map) (ps : List PatchValue) (s : State) → Few s → Few (with_patches r object ps s)
+few_patches r object [] s g = g
+few_patches r object (p ∷ ps) s g = g
 
-few_mesh_from : (r : Read) (object : Map) (seats : ℕ → Seat) (k : ℕ) (o : Option (List Patch)) (s : State) → Few s → FewStep (mesh_from r object seats k o s)
-few_mesh_from r object seats k None s g = tt
-few_mesh_from r object seats k (Some ps) s g = few_patches r object None seats k ps s g
+few_made : (r : Read) (object : Map) (made : Made) (s : State) → Few s → FewStep (patches_placed r object made s)
+few_made r object (Err code) s g = tt
+few_made r object (Ok ps) s g = few_patches r object ps s g
 
-few_counted : (r : Read) (object : Map) (shape : Shape) (ps : List Vec3) (o : Option Counts) (s : State) → Few s → FewStep (mesh_counted r object shape ps o s)
-few_counted r object shape ps None s g = tt
-few_counted r object shape ps (Some c) s g =
-    let laid = mesh_from r object (mesh_seat shape c) 0 (patches_in ps shape c) s in
-    either (not (are_counted (mesh_extent shape c) (variables_in r.params))) (Err G5) (if is_past (c.along_u * c.along_v) s then Err M3 else laid) tt
-    (either (is_past (c.along_u * c.along_v) s) (Err M3) laid tt (few_mesh_from r object (mesh_seat shape c) 0 (patches_in ps shape c) s g))
+few_under : (r : Read) (m : Result Map FormFault) (s : State) → Few s → FewStep (primitive_under r m s)
+few_under r (Err e) s g = tt
+few_under r (Ok object) s g = few_made r object (patches_of r s.attributes.bases object (room_left s)) s g
 
--- and faces
-few_faces : (r : Read) (object : Map) (ps : List Vec3) (j first : ℕ) (sizes corners : List ℕ) (s : State) → Few s → Few (with_faces r object ps j first sizes corners s)
-unfolding with_faces
-few_faces r object ps j first [] corners s g = g
-few_faces r object ps j first (n ∷ ns) corners s g =
-    let seats = face_seat j first (take n corners) in
-    let face = face_points ps (take n corners) in
-    few_faces r object ps (j + 1) (first + n) ns (drop n corners) (with_face r object seats face s)
-    (few_patches r object (Some (flat_normal face)) seats 0 (pieces_of face) s g)
-
-few_faces_laid : (r : Read) (object : Map) (ps : List Vec3) (o : Option FaceValues) (s : State) → Few s → FewStep (faces_laid r object ps o s)
-few_faces_laid r object ps None s g = tt
-few_faces_laid r object ps (Some f) s g =
-    let all = with_faces r object ps 0 0 f.sizes f.corners s in
-    let near : Stepped = if are_in_range ps then Ok all else Err M7 in
-    either (not (are_counted (faces_extent (length ps) f) (variables_in r.params))) (Err G5) (if is_past (sum_by piece_count f.sizes) s then Err M3 else near) tt
-    (either (is_past (sum_by piece_count f.sizes) s) (Err M3) near tt (either (are_in_range ps) (Ok all) (Err M7) (few_faces r object ps 0 0 f.sizes f.corners s g) tt))
-
-few_laid : (form : Map → List Vec3 → State → Stepped) (at : Located) (s : State) → ((object : Map) (ps : List Vec3) → FewStep (form object ps s)) → FewStep (laid form at s)
-few_laid form (Err code) s few = tt
-few_laid form (Ok at) s few = few at.0 at.1
-
-few_shape : (r : Read) (shape : Shape) (s : State) → Few s → FewStep (laid (mesh_laid r shape) (located r s) s)
-few_shape r shape s g = few_laid (mesh_laid r shape) (located r s) s (λ object ps. few_counted r object shape ps (counts_of shape (length ps)) s g)
-
-few_polygon : (r : Read) (s : State) → Few s → FewStep (polygon_set r s)
-few_polygon r s g = few_laid (λ object ps. faces_laid r object ps (one_face (length ps))) (located r s) s (λ object ps. few_faces_laid r object ps (one_face (length ps)) s g)
-
-few_polygons : (r : Read) (s : State) → Few s → FewStep (polygons_set r s)
-few_polygons r s g = few_laid (λ object ps. faces_laid r object ps (faces_in (length ps) r.args)) (located r s) s (λ object ps. few_faces_laid r object ps (faces_in (length ps) r.args) s g)
+few_primitive : (r : Read) (s : State) → Few s → FewStep (primitive_set r s)
+few_primitive r s g = either (is_some s.world) (primitive_under r (space_of s) s) (Err N5) (few_under r (space_of s) s g) tt
 
 few_step : (name : Req) (r : Read) (s : State) → Few s → FewStep (step name r s)
 few_step reqs.FrameBegin r s g =
@@ -212,15 +169,15 @@ few_step reqs.LightSource r s g = few_light r (space_of s) s g
 few_step reqs.Illuminate r s g = few_illuminated (light_named (whole_at r.args 0) s.handles) (whole_at r.args 1) s g
 few_step reqs.Attribute r s g = g
 few_step reqs.Basis r s g = g
-few_step reqs.Translate r s g = few_before (moved (raw_at r.args 0) (raw_at r.args 1) (raw_at r.args 2)) s g
-few_step reqs.Scale r s g = few_before (scaled (raw_at r.args 0) (raw_at r.args 1) (raw_at r.args 2)) s g
-few_step reqs.Rotate r s g = few_before (turned (raw_at r.args 0) (raw_at r.args 1) (raw_at r.args 2) (raw_at r.args 3)) s g
+few_step reqs.Translate r s g = few_before (translated_by (raw_at r.args 0) (raw_at r.args 1) (raw_at r.args 2)) s g
+few_step reqs.Scale r s g = few_before (scaled_by (raw_at r.args 0) (raw_at r.args 1) (raw_at r.args 2)) s g
+few_step reqs.Rotate r s g = few_before (rotated_by (raw_at r.args 0) (raw_at r.args 1) (raw_at r.args 2) (raw_at r.args 3)) s g
 few_step reqs.Transform r s g = few_current (of_rows (numbers_at r.args 0)) s g
 few_step reqs.ConcatTransform r s g = few_before (of_rows (numbers_at r.args 0)) s g
-few_step reqs.Patch r s g = few_shape r (patch_shape r.args s.attributes.bases) s g
-few_step reqs.PatchMesh r s g = few_shape r (mesh_shape r.args s.attributes.bases) s g
-few_step reqs.Polygon r s g = few_polygon r s g
-few_step reqs.PointsPolygons r s g = few_polygons r s g
+few_step reqs.Patch r s g = few_primitive r s g
+few_step reqs.PatchMesh r s g = few_primitive r s g
+few_step reqs.Polygon r s g = few_primitive r s g
+few_step reqs.PointsPolygons r s g = few_primitive r s g
 few_step reqs.Version r s g = g
 few_step reqs.ErrorHandler r s g = g
 few_step reqs.Hider r s g = g

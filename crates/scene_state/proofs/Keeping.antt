@@ -1,5 +1,5 @@
 -- The shaders that attributes, lights' numbers and primitives name stay there, and keep their kinds.
-use Rattle.std.proofs.Common.{◌≡◌, refl, subst, ℕ, zero, suc, ◌+◌, ◌*◌, ◌-◌, take, drop, ℤ, Bool, true, false, List, [], ◌∷◌, ◌++◌, length, set, Option, Some, None, Result, Ok, Err, All, slice_get, slice_index_or, if◌then◌else◌, arith, not, is_some, nat_le, ◌==◌}
+use Rattle.std.proofs.Common.{◌≡◌, refl, subst, ℕ, zero, suc, ◌-◌, ℤ, Bool, true, false, List, [], ◌∷◌, ◌++◌, length, map, set, Option, Some, None, Result, Ok, Err, All, slice_get, slice_index_or, if◌then◌else◌, arith, not, is_some, nat_le, ◌==◌}
 use Rattle.std.specs.Ordering.{int_eq}
 use Rattle.std.specs.Option.{option_or}
 use Rattle.std.proofs.lemmas.List.Elements.{All-append, All-take, All-filter}
@@ -7,31 +7,22 @@ use Rattle.rib_reader.specs.declared.req.Req.{Req}
 use Rattle.rib_reader.specs.declared.req.Req.TheVariants as reqs
 use Rattle.rib_reader.specs.Reading.{Read}
 use Rattle.rib_reader.specs.Rules.{word_at, raw_at, whole_at, numbers_at}
-use Rattle.std.specs.List.{sum_by}
 use Rattle.transforms.specs.Map.{Map, identity, before_of}
 use Rattle.transforms.specs.Field.{camera_of}
 use Rattle.transforms.specs.declared.view.View.{View}
 use Rattle.transforms.specs.declared.fault.FormFault.{FormFault}
-use Rattle.fixed_math.specs.declared.vec3.Vec3.{Vec3}
-use Rattle.patches.specs.declared.patch.Patch.{Patch}
 use Rattle.scene.specs.Scene.{PrimValue, FrameValue, IsUse, IsSomeUse, HasUses}
 use Rattle.scene_parts.specs.Choices.{ChoiceValues, chosen, view_of}
 use Rattle.scene_parts.specs.Looks.{look_after, is_single}
-use Rattle.scene_state.specs.Shaders.{with_request, placed_in, placed, some_placed, all_placed, light_of}
+use Rattle.scene_state.specs.Shaders.{with_request, placed_in, placed, some_placed, all_placed, worn_by, light_of}
 use Rattle.scene_parts.specs.Lights.{with_light, without_light, is_among}
-use Rattle.scene_state.specs.State.{most_blocks, most_frames, most_lights, with_frame, name_or, moved, scaled, turned, of_rows, prim_of, Stepped, Located, first_state, closed, opened, innermost, frame_ended, attributes_ended, transform_ended, world_with, frame_made, frame_of, world_ended, with_choices, option_set, display_set, with_current, with_before, space_of, use_of, next_shader, with_shader, light_added, light_made, handle_for, illuminated_by, light_named, with_prim, with_patches, is_past, mesh_from, mesh_counted, mesh_laid, face_points, with_face, with_faces, faces_laid, located, laid}
-use Rattle.scene_state.specs.Variables.{variables_in, are_counted, mesh_extent, mesh_seat, faces_extent, face_seat}
-use Rattle.scene_parts.specs.Bases.{bases_after, patch_shape, mesh_shape}
-use Rattle.scene_parts.specs.Faces.{FaceValues, one_face, faces_in}
-use Rattle.mesh_basis.specs.declared.shape.Shape.{Shape}
-use Rattle.mesh_basis.specs.declared.counts.Counts.{Counts}
-use Rattle.mesh_basis.specs.Ranges.{are_in_range}
-use Rattle.mesh_basis.specs.Counts.{counts_of}
-use Rattle.mesh_basis.specs.Meshes.{patches_in}
-use Rattle.mesh_basis.specs.Polygons.{piece_count, pieces_of, flat_normal}
+use Rattle.scene_state.specs.State.{most_blocks, most_frames, most_lights, with_frame, name_or, translated_by, scaled_by, rotated_by, of_rows, Stepped, first_state, closed, opened, innermost, frame_ended, attributes_ended, transform_ended, world_with, frame_made, frame_of, world_ended, with_choices, option_set, display_set, with_current, with_before, space_of, use_of, next_shader, with_shader, light_added, light_made, handle_for, illuminated_by, light_named, prim_of, with_patches, patches_placed, room_left, primitive_under, primitive_set}
+use Rattle.scene_parts.specs.Bases.{bases_after}
+use Rattle.primitives.specs.Patches.{PatchValue, Made, patches_of}
+use Rattle.primitives.proofs.Lists.{all_none, all_one, all_first, all_then, all_either}
 use Rattle.scene_state.specs.Steps.{with_surface, with_displacement, with_atmosphere, look_set, step, after, and_then, Placed, state_from}
 use Rattle.scene_parts.specs.declared.code.StateCode.{StateCode}
-use Rattle.scene_parts.specs.declared.code.StateCode.TheVariants.{N1, N2, G5, M1, M2, M3, M4, M7}
+use Rattle.scene_parts.specs.declared.code.StateCode.TheVariants.{N1, N2, N5, M1, M2, M4}
 use Rattle.scene.specs.declared.uses.ShaderKind.{ShaderKind}
 use Rattle.scene.specs.declared.uses.ShaderKind.TheVariants as kinds
 use Rattle.scene.specs.declared.uses.ShaderUse.{ShaderUse}
@@ -43,7 +34,6 @@ use Rattle.scene_state.specs.declared.shaders.Handle.{Handle}
 use Rattle.scene_state.specs.declared.state.Block.{Block}
 use Rattle.scene_state.specs.declared.state.Block.TheVariants.{InFrame, InWorld, InAttributes, InTransform}
 use Rattle.scene_state.specs.declared.state.World.{World}
-use Rattle.scene_state.specs.declared.seat.Seat.{Seat}
 use Rattle.scene_state.specs.declared.state.State.{State}
 
 -- ---- lists
@@ -52,13 +42,6 @@ abbrev pub Of : {A : Type 0} → (A → Type 0) → Option A → Type 0
 Of P None = Unit {0}
 Of P (Some x) = P x
 
-pub all_none : {A : Type 0} (P : A → Type 0) → All P []
-all_none P k d h = absurd (omega (arith, h))
-
-pub all_one : {A : Type 0} (P : A → Type 0) (x : A) → P x → All P (x ∷ [])
-all_one P x p zero d h = p
-all_one P x p (suc k) d h = absurd (omega (arith, h))
-
 pub all_more : {A : Type 0} (P : A → Type 0) (xs : List A) (x : A) → All P xs → P x → All P (xs ++ x ∷ [])
 all_more P xs x all p = All-append P xs (x ∷ []) all (all_one P x p)
 
@@ -66,13 +49,6 @@ pub all_of : {A : Type 0} (P : A → Type 0) (xs : List A) (n : ℕ) → All P x
 all_of P [] n all = tt
 all_of P (x ∷ xs) zero all = all 0 x (omega arith)
 all_of P (x ∷ xs) (suc n) all = all_of P xs n (λ k d h. all (suc k) d (omega (arith, h)))
-
-pub all_then : {A : Type 0} (P Q : A → Type 0) (xs : List A) → ((x : A) → P x → Q x) → All P xs → All Q xs
-all_then P Q xs f all k d h = f (slice_index_or xs k d) (all k d h)
-
-pub all_either : {A : Type 0} (P : A → Type 0) (b : Bool) (xs ys : List A) → All P xs → All P ys → All P (if b then xs else ys)
-all_either P true xs ys p q = p
-all_either P false xs ys p q = q
 
 -- ---- shader requests
 
@@ -182,10 +158,6 @@ all_placed_keeps s [] = keeps_same s
 all_placed_keeps s (k ∷ ks) =
     let p = placed s k in
     keeps_both s p.0 (all_placed p.0 ks).0 (placed_keeps s k) (all_placed_keeps p.0 ks)
-
-pub all_first : {A : Type 0} (P : A → Type 0) (x : A) (xs : List A) → P x → All P xs → All P (x ∷ xs)
-all_first P x xs p all zero d h = p
-all_first P x xs p all (suc k) d h = all k d (omega (arith, h))
 
 pub all_placed_are : (s : Shaders) (kind : ShaderKind) (ks : List ℕ) → All (IsShader s kind) ks → All (IsUse (all_placed s ks).0.uses kind) (all_placed s ks).1
 all_placed_are s kind [] all = all_none (IsUse s.uses kind)
@@ -455,8 +427,14 @@ good_illuminated (Some k) on s is g =
 
 -- ---- primitives
 
-pub good_prim : (r : Read) (object : Map) (flat : Option Vec3) (seat : Seat) (patch : Patch) (s : State) → IsGood s → IsGood (with_prim r object flat seat patch s)
-good_prim r object flat seat patch s g =
+-- each primitive of patches
+all_mapped : {A B : Type 0} (P : B → Type 0) (f : A → B) (xs : List A) → ((x : A) → P (f x)) → All P (map f xs)
+all_mapped P f [] each = all_none P
+all_mapped P f (x ∷ xs) each = all_first P (f x) (map f xs) (each x) (all_mapped P f xs each)
+
+pub good_patches : (r : Read) (object : Map) (ps : List PatchValue) (s : State) → IsGood s → IsGood (with_patches r object ps s)
+good_patches r object [] s g = g
+good_patches r object (q ∷ qs) s g =
     let a = s.attributes in
     let w = g.attributes in
     let d = some_placed s.shaders a.displacement in
@@ -472,60 +450,32 @@ good_prim r object flat seat patch s g =
     let to_f = keeps_both s.shaders d.0 f.0 to_d d_f in
     let to_v = keeps_both s.shaders f.0 v.0 to_f f_v in
     let h = state_keeps s l.0 (keeps_both s.shaders v.0 l.0 to_v v_l) g in
+    let had = worn_by s.shaders a in
+    let made = prim_of r object a.look had.1 in
+    let each : (p : PatchValue) → HasUses l.0.uses (made p) = λ p. record {
+      surface = f_l.uses kinds.Surface f.1 (placed_is d.0 kinds.Surface a.surface (to_d.shaders kinds.Surface a.surface w.surface));
+      displacement = some_use_keeps d.0 l.0 kinds.Displacement d.1 d_l (some_placed_is s.shaders kinds.Displacement a.displacement w.displacement);
+      atmosphere = some_use_keeps v.0 l.0 kinds.Volume v.1 v_l (some_placed_is f.0 kinds.Volume a.atmosphere (some_keeps s.shaders f.0 kinds.Volume a.atmosphere to_f w.atmosphere));
+      lights = all_placed_are v.0 kinds.Light a.lights (all_then (IsShader s.shaders kinds.Light) (IsShader v.0 kinds.Light) a.lights (to_v.shaders kinds.Light) w.lights);
+    } in
     record {
       attributes = h.attributes;
       blocks = h.blocks;
       handles = h.handles;
-      prims = all_more (HasUses l.0.uses) s.prims (prim_of r object flat seat patch a.look f.1 d.1 v.1 l.1) h.prims record {
-        surface = f_l.uses kinds.Surface f.1 (placed_is d.0 kinds.Surface a.surface (to_d.shaders kinds.Surface a.surface w.surface));
-        displacement = some_use_keeps d.0 l.0 kinds.Displacement d.1 d_l (some_placed_is s.shaders kinds.Displacement a.displacement w.displacement);
-        atmosphere = some_use_keeps v.0 l.0 kinds.Volume v.1 v_l (some_placed_is f.0 kinds.Volume a.atmosphere (some_keeps s.shaders f.0 kinds.Volume a.atmosphere to_f w.atmosphere));
-        lights = all_placed_are v.0 kinds.Light a.lights (all_then (IsShader s.shaders kinds.Light) (IsShader v.0 kinds.Light) a.lights (to_v.shaders kinds.Light) w.lights);
-      };
+      prims = All-append (HasUses l.0.uses) s.prims (map made (q ∷ qs)) h.prims (all_mapped (HasUses l.0.uses) made (q ∷ qs) each);
       frames = h.frames;
     }
 
-good_patches : (r : Read) (object : Map) (flat : Option Vec3) (seats : ℕ → Seat) (k : ℕ) (ps : List Patch) (s : State) → IsGood s → IsGood (with_patches r object flat seats k ps s)
-unfolding with_patches
-good_patches r object flat seats k [] s g = g
-good_patches r object flat seats k (p ∷ ps) s g = good_patches r object flat seats (k + 1) ps (with_prim r object flat (seats k) p s) (good_prim r object flat (seats k) p s g)
+good_made : (r : Read) (object : Map) (made : Made) (s : State) → IsGood s → GoodStep (patches_placed r object made s)
+good_made r object (Err code) s g = tt
+good_made r object (Ok ps) s g = good_patches r object ps s g
 
-good_in_range : (r : Read) (object : Map) (seats : ℕ → Seat) (o : Option (List Patch)) (s : State) → IsGood s → GoodStep (mesh_from r object seats 0 o s)
-good_in_range r object seats None s g = tt
-good_in_range r object seats (Some ps) s g = good_patches r object None seats 0 ps s g
+good_under : (r : Read) (m : Result Map FormFault) (s : State) → IsGood s → GoodStep (primitive_under r m s)
+good_under r (Err e) s g = tt
+good_under r (Ok object) s g = good_made r object (patches_of r s.attributes.bases object (room_left s)) s g
 
-good_counted : (r : Read) (object : Map) (shape : Shape) (ps : List Vec3) (o : Option Counts) (s : State) → IsGood s → GoodStep (mesh_counted r object shape ps o s)
-good_counted r object shape ps None s g = tt
-good_counted r object shape ps (Some c) s g =
-    let laid = mesh_from r object (mesh_seat shape c) 0 (patches_in ps shape c) s in
-    either (not (are_counted (mesh_extent shape c) (variables_in r.params))) (Err G5) (if is_past (c.along_u * c.along_v) s then Err M3 else laid) tt
-    (either (is_past (c.along_u * c.along_v) s) (Err M3) laid tt (good_in_range r object (mesh_seat shape c) (patches_in ps shape c) s g))
-
-good_mesh : (r : Read) (shape : Shape) (object : Map) (ps : List Vec3) (s : State) → IsGood s → GoodStep (mesh_laid r shape object ps s)
-good_mesh r shape object ps s g = good_counted r object shape ps (counts_of shape (length ps)) s g
-
-pub good_face : (r : Read) (object : Map) (seats : ℕ → Seat) (ps : List Vec3) (s : State) → IsGood s → IsGood (with_face r object seats ps s)
-good_face r object seats ps s g = good_patches r object (Some (flat_normal ps)) seats 0 (pieces_of ps) s g
-
-good_all_faces : (r : Read) (object : Map) (ps : List Vec3) (j first : ℕ) (ns corners : List ℕ) (s : State) → IsGood s → IsGood (with_faces r object ps j first ns corners s)
-unfolding with_faces
-good_all_faces r object ps j first [] corners s g = g
-good_all_faces r object ps j first (n ∷ ns) corners s g =
-    let seats = face_seat j first (take n corners) in
-    let face = face_points ps (take n corners) in
-    good_all_faces r object ps (j + 1) (first + n) ns (drop n corners) (with_face r object seats face s) (good_face r object seats face s g)
-
-good_faces : (r : Read) (object : Map) (ps : List Vec3) (o : Option FaceValues) (s : State) → IsGood s → GoodStep (faces_laid r object ps o s)
-good_faces r object ps None s g = tt
-good_faces r object ps (Some f) s g =
-    let all = with_faces r object ps 0 0 f.sizes f.corners s in
-    let near : Stepped = if are_in_range ps then Ok all else Err M7 in
-    either (not (are_counted (faces_extent (length ps) f) (variables_in r.params))) (Err G5) (if is_past (sum_by piece_count f.sizes) s then Err M3 else near) tt
-    (either (is_past (sum_by piece_count f.sizes) s) (Err M3) near tt (either (are_in_range ps) (Ok all) (Err M7) (good_all_faces r object ps 0 0 f.sizes f.corners s g) tt))
-
-good_laid : (form : Map → List Vec3 → State → Stepped) (at : Located) (s : State) → ((object : Map) (ps : List Vec3) → GoodStep (form object ps s)) → GoodStep (laid form at s)
-good_laid form (Err code) s f = tt
-good_laid form (Ok at) s f = f at.0 at.1
+good_primitive : (r : Read) (s : State) → IsGood s → GoodStep (primitive_set r s)
+good_primitive r s g = either (is_some s.world) (primitive_under r (space_of s) s) (Err N5) (good_under r (space_of s) s g) tt
 
 -- ---- the whole list
 
@@ -565,21 +515,15 @@ good_step reqs.LightSource r s g = good_light (space_of s) r s g
 good_step reqs.Illuminate r s g = good_illuminated (light_named (whole_at r.args 0) s.handles) (whole_at r.args 1) s (named_is s.shaders (whole_at r.args 0) s.handles g.handles) g
 good_step reqs.Attribute r s g = good_look r s g
 good_step reqs.Basis r s g = worn s (record s.attributes { bases = bases_after r.args s.attributes.bases }) (record { surface = g.attributes.surface; displacement = g.attributes.displacement; atmosphere = g.attributes.atmosphere; lights = g.attributes.lights }) g
-good_step reqs.Translate r s g = good_before (moved (raw_at r.args 0) (raw_at r.args 1) (raw_at r.args 2)) s g
-good_step reqs.Scale r s g = good_before (scaled (raw_at r.args 0) (raw_at r.args 1) (raw_at r.args 2)) s g
-good_step reqs.Rotate r s g = good_before (turned (raw_at r.args 0) (raw_at r.args 1) (raw_at r.args 2) (raw_at r.args 3)) s g
+good_step reqs.Translate r s g = good_before (translated_by (raw_at r.args 0) (raw_at r.args 1) (raw_at r.args 2)) s g
+good_step reqs.Scale r s g = good_before (scaled_by (raw_at r.args 0) (raw_at r.args 1) (raw_at r.args 2)) s g
+good_step reqs.Rotate r s g = good_before (rotated_by (raw_at r.args 0) (raw_at r.args 1) (raw_at r.args 2) (raw_at r.args 3)) s g
 good_step reqs.Transform r s g = good_current (of_rows (numbers_at r.args 0)) s g
 good_step reqs.ConcatTransform r s g = good_before (of_rows (numbers_at r.args 0)) s g
-good_step reqs.Patch r s g =
-    let shape = patch_shape r.args s.attributes.bases in
-    good_laid (mesh_laid r shape) (located r s) s (λ object ps. good_mesh r shape object ps s g)
-good_step reqs.PatchMesh r s g =
-    let shape = mesh_shape r.args s.attributes.bases in
-    good_laid (mesh_laid r shape) (located r s) s (λ object ps. good_mesh r shape object ps s g)
-good_step reqs.Polygon r s g =
-    good_laid (λ object ps. faces_laid r object ps (one_face (length ps))) (located r s) s (λ object ps. good_faces r object ps (one_face (length ps)) s g)
-good_step reqs.PointsPolygons r s g =
-    good_laid (λ object ps. faces_laid r object ps (faces_in (length ps) r.args)) (located r s) s (λ object ps. good_faces r object ps (faces_in (length ps) r.args) s g)
+good_step reqs.Patch r s g = good_primitive r s g
+good_step reqs.PatchMesh r s g = good_primitive r s g
+good_step reqs.Polygon r s g = good_primitive r s g
+good_step reqs.PointsPolygons r s g = good_primitive r s g
 good_step reqs.Version r s g = g
 good_step reqs.ErrorHandler r s g = g
 good_step reqs.Hider r s g = g

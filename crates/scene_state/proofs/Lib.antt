@@ -1,8 +1,7 @@
-pub mod Runs
-pub mod Laying
+pub mod Wearing
 pub mod Keeping
 pub mod Places
-pub mod Values
 pub mod FirstUse
 pub mod Order
 pub mod FrameCount
+pub mod InForce

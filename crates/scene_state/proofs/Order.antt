@@ -1,36 +1,27 @@
 -- The uses of a scene stand in the order in which its primitives first have them.
-use Rattle.std.proofs.Common.{◌≡◌, refl, sym, ap, ◌∙◌, subst, ℕ, zero, suc, ◌+◌, ◌*◌, ◌<◌, ℤ, Bool, true, false, ◌||◌, ◌-◌, take, drop, List, [], ◌∷◌, ◌++◌, length, Option, Some, None, Result, Ok, Err, All, slice_get, slice_index_or, is_some, nat_le, ◌==◌, append_assoc, if◌then◌else◌, not, arith}
+use Rattle.std.proofs.Common.{◌≡◌, refl, sym, ap, ◌∙◌, subst, ℕ, zero, suc, ◌<◌, ℤ, Bool, true, false, ◌||◌, ◌-◌, take, List, [], ◌∷◌, ◌++◌, length, map, Option, Some, None, Result, Ok, Err, All, slice_get, slice_index_or, is_some, nat_le, ◌==◌, append_assoc, if◌then◌else◌, arith}
 use Rattle.std.proofs.lemmas.List.{append-nil}
 use Rattle.std.proofs.lemmas.Bool.Decides.{nat_tests}
-use Rattle.std.specs.List.{list_any, sum_by}
+use Rattle.std.specs.List.{list_any}
+use Rattle.std.proofs.lemmas.List.Elements.{All-append}
 use Rattle.rib_reader.specs.declared.req.Req.{Req}
 use Rattle.rib_reader.specs.declared.req.Req.TheVariants as reqs
 use Rattle.rib_reader.specs.Reading.{Read}
 use Rattle.rib_reader.specs.Rules.{word_at, raw_at, whole_at, numbers_at}
-use Rattle.rib_reader.specs.Lists.{points_in}
 use Rattle.transforms.specs.Map.{Map, identity, before_of}
 use Rattle.transforms.specs.Field.{camera_of}
 use Rattle.transforms.specs.declared.view.View.{View}
 use Rattle.transforms.specs.declared.fault.FormFault.{FormFault}
-use Rattle.fixed_math.specs.declared.vec3.Vec3.{Vec3}
-use Rattle.patches.specs.declared.patch.Patch.{Patch}
-use Rattle.scene.specs.Scene.{PrimValue, FrameValue, IsUse}
+use Rattle.scene.specs.Scene.{PrimValue, FrameValue, IsUse, IsSomeUse, HasUses}
+use Rattle.primitives.specs.Patches.{PatchValue, Made, patches_of}
+use Rattle.primitives.proofs.Lists.{all_none, all_one, all_first, all_then}
 use Rattle.scene_state.specs.FirstUse.{place_in, places_in, places_of, all_places, firsts, below}
 use Rattle.scene_parts.specs.Choices.{ChoiceValues, chosen, view_of}
-use Rattle.scene_state.specs.Shaders.{with_request, placed_in, placed, some_placed, all_placed}
-use Rattle.scene_state.specs.State.{most_blocks, most_frames, most_lights, with_frame, name_or, moved, scaled, turned, of_rows, prim_of, Stepped, Located, first_state, opened, innermost, closed, outer, frame_ended, attributes_ended, transform_ended, world_with, frame_made, frame_of, world_ended, with_choices, option_set, display_set, with_current, with_before, space_of, use_of, next_shader, with_shader, light_added, light_made, illuminated_by, light_named, with_prim, with_patches, is_past, mesh_from, mesh_counted, mesh_laid, face_points, with_face, with_faces, faces_laid, in_space, located, laid}
-use Rattle.scene_state.specs.Variables.{variables_in, are_counted, mesh_extent, mesh_seat, faces_extent, face_seat}
-use Rattle.scene_parts.specs.Bases.{patch_shape, mesh_shape}
-use Rattle.scene_parts.specs.Faces.{FaceValues, one_face, faces_in}
-use Rattle.mesh_basis.specs.declared.shape.Shape.{Shape}
-use Rattle.mesh_basis.specs.declared.counts.Counts.{Counts}
-use Rattle.mesh_basis.specs.Ranges.{are_in_range}
-use Rattle.mesh_basis.specs.Counts.{counts_of}
-use Rattle.mesh_basis.specs.Meshes.{patches_in}
-use Rattle.mesh_basis.specs.Polygons.{piece_count, pieces_of, flat_normal}
+use Rattle.scene_state.specs.Shaders.{with_request, placed_in, placed, some_placed, all_placed, worn_by}
+use Rattle.scene_state.specs.State.{most_blocks, most_frames, most_lights, with_frame, name_or, translated_by, scaled_by, rotated_by, of_rows, Stepped, first_state, opened, innermost, closed, outer, frame_ended, attributes_ended, transform_ended, world_with, frame_made, frame_of, world_ended, with_choices, option_set, display_set, with_current, with_before, space_of, use_of, next_shader, with_shader, light_added, light_made, illuminated_by, light_named, prim_of, with_patches, patches_placed, room_left, primitive_under, primitive_set}
 use Rattle.scene_state.specs.Steps.{with_surface, with_displacement, with_atmosphere, step, after, and_then, Placed, state_from}
 use Rattle.scene_parts.specs.declared.code.StateCode.{StateCode}
-use Rattle.scene_parts.specs.declared.code.StateCode.TheVariants.{N1, N2, N5, G5, M1, M2, M3, M4, M7}
+use Rattle.scene_parts.specs.declared.code.StateCode.TheVariants.{N1, N2, N5, M1, M2, M4}
 use Rattle.scene.specs.declared.uses.ShaderKind.{ShaderKind}
 use Rattle.scene.specs.declared.uses.ShaderKind.TheVariants as kinds
 use Rattle.scene.specs.declared.uses.ShaderUse.{ShaderUse}
@@ -41,10 +32,9 @@ use Rattle.scene_state.specs.declared.shaders.Shaders.{Shaders}
 use Rattle.scene_state.specs.declared.state.Block.{Block}
 use Rattle.scene_state.specs.declared.state.Block.TheVariants.{InFrame, InWorld, InAttributes, InTransform}
 use Rattle.scene_state.specs.declared.state.World.{World}
-use Rattle.scene_state.specs.declared.seat.Seat.{Seat}
 use Rattle.scene_state.specs.declared.state.State.{State}
 use Rattle.scene_state.proofs.FirstUse.{Reaches, reaches_again, reaches_next}
-use Rattle.scene_state.proofs.Keeping.{IsShader, IsSomeShader, SlotIs, IsGood, GoodStep, good_step, good_prim, good_face, first_good, some_keeps, keeps_both, placed_keeps, some_placed_keeps, all_then}
+use Rattle.scene_state.proofs.Keeping.{IsShader, IsSomeShader, SlotIs, IsGood, GoodStep, good_step, good_patches, first_good, some_keeps, keeps_both, placed_keeps, some_placed_keeps}
 
 -- ---- places that are had one after another
 
@@ -253,8 +243,40 @@ grouped : (w d : List ℕ) (f : ℕ) (v l : List ℕ) → (((w ++ d) ++ f ∷ []
 grouped w d f v l =
     append_assoc ((w ++ d) ++ f ∷ []) v l ∙ append_assoc (w ++ d) (f ∷ []) (v ++ l) ∙ append_assoc w d (f ∷ (v ++ l))
 
-ordered_prim : (r : Read) (object : Map) (flat : Option Vec3) (seat : Seat) (patch : Patch) (s : State) → is_some s.world ≡ true → IsGood s → IsOrdered s → IsOrdered (with_prim r object flat seat patch s)
-ordered_prim r object flat seat patch s opens g o =
+-- places that were had before, several
+reaches_all : (ns ms : List ℕ) (n : ℕ) → Reaches ns n → All (λ m. m < n) ms → Reaches (ns ++ ms) n
+reaches_all ns [] n r below = no_more ns n r
+reaches_all ns (m ∷ ms) n r below =
+    subst (λ ks. Reaches ks n) (append_assoc ns (m ∷ []) ms)
+    (reaches_all (ns ++ m ∷ []) ms n (reaches_again ns n m r (below 0 m (omega arith))) (λ k d h. below (suc k) d (omega (arith, h))))
+
+some_there : (uses : List ShaderUse) (kind : ShaderKind) (o : Option ℕ) → IsSomeUse uses kind o → All (λ m. m < length uses) (place_in o)
+some_there uses kind None h = all_none (λ m. m < length uses)
+some_there uses kind (Some n) h = all_one (λ m. m < length uses) n (use_there uses kind n h)
+
+places_there : (uses : List ShaderUse) (p : PrimValue) → HasUses uses p → All (λ m. m < length uses) (places_in p)
+places_there uses p h =
+    let low = λ (m : ℕ). m < length uses in
+    All-append low (place_in p.displacement) (p.surface ∷ (place_in p.atmosphere ++ p.lights)) (some_there uses kinds.Displacement p.displacement h.displacement)
+    (all_first low p.surface (place_in p.atmosphere ++ p.lights) (use_there uses kinds.Surface p.surface h.surface)
+    (All-append low (place_in p.atmosphere) p.lights (some_there uses kinds.Volume p.atmosphere h.atmosphere)
+    (all_then (IsUse uses kinds.Light) low p.lights (λ n is. use_there uses kinds.Light n is) h.lights)))
+
+-- primitives that have no shader for the first time
+reaches_more : (uses : List ShaderUse) (ps : List PrimValue) (ns : List ℕ) → All (HasUses uses) ps → Reaches ns (length uses) → Reaches (ns ++ places_of ps) (length uses)
+reaches_more uses [] ns all r = no_more ns (length uses) r
+reaches_more uses (p ∷ ps) ns all r =
+    subst (λ ks. Reaches ks (length uses)) (append_assoc ns (places_in p) (places_of ps))
+    (reaches_more uses ps (ns ++ places_in p) (λ k d h. all (suc k) d (omega (arith, h)))
+    (reaches_all ns (places_in p) (length uses) r (places_there uses p (all 0 p (omega arith)))))
+
+places_of-both : (ps qs : List PrimValue) → places_of (ps ++ qs) ≡ places_of ps ++ places_of qs
+places_of-both [] qs = refl
+places_of-both (p ∷ ps) qs = ap (λ ns. places_in p ++ ns) (places_of-both ps qs) ∙ sym (append_assoc (places_in p) (places_of ps) (places_of qs))
+
+ordered_patches : (r : Read) (object : Map) (ps : List PatchValue) (s : State) → is_some s.world ≡ true → IsGood s → IsOrdered s → IsOrdered (with_patches r object ps s)
+ordered_patches r object [] s opens g o = o
+ordered_patches r object (q ∷ qs) s opens g o =
     let a = s.attributes in
     let w = g.attributes in
     let d = some_placed s.shaders a.displacement in
@@ -271,71 +293,39 @@ ordered_prim r object flat seat patch s opens g o =
     let had_f = placed_reaches d.0 kinds.Surface a.surface ds (to_d.shaders kinds.Surface a.surface w.surface) had_d in
     let had_v = some_reaches f.0 kinds.Volume a.atmosphere fs (some_keeps s.shaders f.0 kinds.Volume a.atmosphere to_f w.atmosphere) had_f in
     let had_l = all_reaches v.0 kinds.Light a.lights vs (all_then (IsShader s.shaders kinds.Light) (IsShader v.0 kinds.Light) a.lights (to_v.shaders kinds.Light) w.lights) had_v in
-    let p : PrimValue = prim_of r object flat seat patch a.look f.1 d.1 v.1 l.1 in
-    let walk : vs ++ l.1 ≡ all_places s.frames ++ places_of (s.prims ++ p ∷ []) =
-    grouped (walked s) (place_in d.1) f.1 (place_in v.1) l.1
-    ∙ append_assoc (all_places s.frames) (places_of s.prims) (places_in p)
-    ∙ sym (ap (λ ns. all_places s.frames ++ ns) (places_of-append s.prims p)) in
-    (subst (λ ns. Reaches ns (length l.0.uses)) walk had_l, λ h. absurd (both_ways (has_world s.blocks) (o.2 opens) h), o.2)
+    let made = prim_of r object a.look (worn_by s.shaders a).1 in
+    let rest = map made qs in
+    let all = (good_patches r object (q ∷ qs) s g).prims in
+    let later : All (HasUses l.0.uses) rest = λ k d h. all_behind (HasUses l.0.uses) s.prims (made q) rest all k d h in
+    let first : Reaches (walked s ++ places_in (made q)) (length l.0.uses) =
+    subst (λ ns. Reaches ns (length l.0.uses)) (grouped (walked s) (place_in d.1) f.1 (place_in v.1) l.1) had_l in
+    let walk : (walked s ++ places_in (made q)) ++ places_of rest ≡ all_places s.frames ++ places_of (s.prims ++ made q ∷ rest) =
+    append_assoc (walked s) (places_in (made q)) (places_of rest)
+    ∙ append_assoc (all_places s.frames) (places_of s.prims) (places_in (made q) ++ places_of rest)
+    ∙ sym (ap (λ ns. all_places s.frames ++ ns) (places_of-both s.prims (made q ∷ rest))) in
+    (subst (λ ns. Reaches ns (length l.0.uses)) walk (reaches_more l.0.uses rest (walked s ++ places_in (made q)) later first), λ h. absurd (both_ways (has_world s.blocks) (o.2 opens) h), o.2)
   where
     both_ways : (b : Bool) → b ≡ true → b ≡ false → ⊥
     both_ways true t f = cc
     both_ways false t f = cc
 
-ordered_patches : (r : Read) (object : Map) (flat : Option Vec3) (seats : ℕ → Seat) (k : ℕ) (ps : List Patch) (s : State) → is_some s.world ≡ true → IsGood s → IsOrdered s
-    → IsOrdered (with_patches r object flat seats k ps s)
-unfolding with_patches
-ordered_patches r object flat seats k [] s opens g o = o
-ordered_patches r object flat seats k (p ∷ ps) s opens g o =
-    ordered_patches r object flat seats (k + 1) ps (with_prim r object flat (seats k) p s) opens
-    (good_prim r object flat (seats k) p s g) (ordered_prim r object flat (seats k) p s opens g o)
+    all_behind : (P : PrimValue → Type 0) (ps : List PrimValue) (p : PrimValue) (qs : List PrimValue) → All P (ps ++ p ∷ qs) → All P qs
+    all_behind P [] p qs all = λ k d h. all (suc k) d (omega (arith, h))
+    all_behind P (x ∷ ps) p qs all = all_behind P ps p qs (λ k d h. all (suc k) d (omega (arith, h)))
 
-ordered_in_range : (r : Read) (object : Map) (seats : ℕ → Seat) (p : Option (List Patch)) (s : State) → is_some s.world ≡ true → IsGood s → IsOrdered s → OrderedStep (mesh_from r object seats 0 p s)
-ordered_in_range r object seats None s opens g o = tt
-ordered_in_range r object seats (Some ps) s opens g o = ordered_patches r object None seats 0 ps s opens g o
+ordered_made : (r : Read) (object : Map) (made : Made) (s : State) → is_some s.world ≡ true → IsGood s → IsOrdered s → OrderedStep (patches_placed r object made s)
+ordered_made r object (Err code) s opens g o = tt
+ordered_made r object (Ok ps) s opens g o = ordered_patches r object ps s opens g o
 
-ordered_counted : (r : Read) (object : Map) (shape : Shape) (ps : List Vec3) (c : Option Counts) (s : State) → is_some s.world ≡ true → IsGood s → IsOrdered s → OrderedStep (mesh_counted r object shape ps c s)
-ordered_counted r object shape ps None s opens g o = tt
-ordered_counted r object shape ps (Some c) s opens g o =
-    let laid = mesh_from r object (mesh_seat shape c) 0 (patches_in ps shape c) s in
-    either (not (are_counted (mesh_extent shape c) (variables_in r.params))) (Err G5) (if is_past (c.along_u * c.along_v) s then Err M3 else laid) tt
-    (either (is_past (c.along_u * c.along_v) s) (Err M3) laid tt (ordered_in_range r object (mesh_seat shape c) (patches_in ps shape c) s opens g o))
+ordered_under : (r : Read) (m : Result Map FormFault) (s : State) → is_some s.world ≡ true → IsGood s → IsOrdered s → OrderedStep (primitive_under r m s)
+ordered_under r (Err e) s opens g o = tt
+ordered_under r (Ok object) s opens g o = ordered_made r object (patches_of r s.attributes.bases object (room_left s)) s opens g o
 
-ordered_mesh : (r : Read) (shape : Shape) (object : Map) (ps : List Vec3) (s : State) → is_some s.world ≡ true → IsGood s → IsOrdered s → OrderedStep (mesh_laid r shape object ps s)
-ordered_mesh r shape object ps s opens g o = ordered_counted r object shape ps (counts_of shape (length ps)) s opens g o
-
-still_open : (r : Read) (object : Map) (flat : Option Vec3) (seats : ℕ → Seat) (k : ℕ) (ps : List Patch) (s : State) → (with_patches r object flat seats k ps s).world ≡ s.world
-unfolding with_patches
-still_open r object flat seats k [] s = refl
-still_open r object flat seats k (p ∷ ps) s = still_open r object flat seats (k + 1) ps (with_prim r object flat (seats k) p s)
-
-ordered_all_faces : (r : Read) (object : Map) (ps : List Vec3) (j first : ℕ) (ns corners : List ℕ) (s : State) → is_some s.world ≡ true → IsGood s → IsOrdered s → IsOrdered (with_faces r object ps j first ns corners s)
-unfolding with_faces
-ordered_all_faces r object ps j first [] corners s opens g o = o
-ordered_all_faces r object ps j first (n ∷ ns) corners s opens g o =
-    let seats = face_seat j first (take n corners) in
-    let face = face_points ps (take n corners) in
-    ordered_all_faces r object ps (j + 1) (first + n) ns (drop n corners) (with_face r object seats face s)
-    (ap is_some (still_open r object (Some (flat_normal face)) seats 0 (pieces_of face) s) ∙ opens)
-    (good_face r object seats face s g) (ordered_patches r object (Some (flat_normal face)) seats 0 (pieces_of face) s opens g o)
-
-ordered_faces : (r : Read) (object : Map) (ps : List Vec3) (f : Option FaceValues) (s : State) → is_some s.world ≡ true → IsGood s → IsOrdered s → OrderedStep (faces_laid r object ps f s)
-ordered_faces r object ps None s opens g o = tt
-ordered_faces r object ps (Some f) s opens g o =
-    let all = with_faces r object ps 0 0 f.sizes f.corners s in
-    let near : Stepped = if are_in_range ps then Ok all else Err M7 in
-    either (not (are_counted (faces_extent (length ps) f) (variables_in r.params))) (Err G5) (if is_past (sum_by piece_count f.sizes) s then Err M3 else near) tt
-    (either (is_past (sum_by piece_count f.sizes) s) (Err M3) near tt (either (are_in_range ps) (Ok all) (Err M7) (ordered_all_faces r object ps 0 0 f.sizes f.corners s opens g o) tt))
-
-ordered_laid : (form : Map → List Vec3 → State → Stepped) (r : Read) (s : State) → (is_some s.world ≡ true → (object : Map) (ps : List Vec3) → OrderedStep (form object ps s)) → OrderedStep (laid form (located r s) s)
-ordered_laid form r s f = by_world (is_some s.world) refl
+ordered_primitive : (r : Read) (s : State) → IsGood s → IsOrdered s → OrderedStep (primitive_set r s)
+ordered_primitive r s g o = by_world (is_some s.world) refl
   where
-    at : (found : Located) → is_some s.world ≡ true → OrderedStep (laid form found s)
-    at (Err code) opens = tt
-    at (Ok found) opens = f opens found.0 found.1
-
-    by_world : (b : Bool) → is_some s.world ≡ b → OrderedStep (laid form (if b then in_space (points_in r.params) (space_of s) else Err N5) s)
-    by_world true opens = at (in_space (points_in r.params) (space_of s)) opens
+    by_world : (b : Bool) → is_some s.world ≡ b → OrderedStep (if b then primitive_under r (space_of s) s else Err N5)
+    by_world true opens = ordered_under r (space_of s) s opens g o
     by_world false opens = tt
 
 -- ---- the whole list
@@ -371,13 +361,9 @@ ordered_step reqs.Sides r s g o = o
 ordered_step reqs.Orientation r s g o = o
 ordered_step reqs.Attribute r s g o = o
 ordered_step reqs.Basis r s g o = o
-ordered_step reqs.PatchMesh r s g o =
-    let shape = mesh_shape r.args s.attributes.bases in
-    ordered_laid (mesh_laid r shape) r s (λ opens object ps. ordered_mesh r shape object ps s opens g o)
-ordered_step reqs.Polygon r s g o =
-    ordered_laid (λ object ps. faces_laid r object ps (one_face (length ps))) r s (λ opens object ps. ordered_faces r object ps (one_face (length ps)) s opens g o)
-ordered_step reqs.PointsPolygons r s g o =
-    ordered_laid (λ object ps. faces_laid r object ps (faces_in (length ps) r.args)) r s (λ opens object ps. ordered_faces r object ps (faces_in (length ps) r.args) s opens g o)
+ordered_step reqs.PatchMesh r s g o = ordered_primitive r s g o
+ordered_step reqs.Polygon r s g o = ordered_primitive r s g o
+ordered_step reqs.PointsPolygons r s g o = ordered_primitive r s g o
 ordered_step reqs.Version r s g o = o
 ordered_step reqs.ErrorHandler r s g o = o
 ordered_step reqs.Hider r s g o = o
@@ -393,14 +379,12 @@ ordered_step reqs.Displacement r s g o = ordered_shader kinds.Displacement r wit
 ordered_step reqs.Atmosphere r s g o = ordered_shader kinds.Volume r with_atmosphere (space_of s) s o
 ordered_step reqs.LightSource r s g o = ordered_light (space_of s) r s o
 ordered_step reqs.Illuminate r s g o = ordered_illuminated (light_named (whole_at r.args 0) s.handles) (whole_at r.args 1) s o
-ordered_step reqs.Translate r s g o = ordered_before (moved (raw_at r.args 0) (raw_at r.args 1) (raw_at r.args 2)) s o
-ordered_step reqs.Scale r s g o = ordered_before (scaled (raw_at r.args 0) (raw_at r.args 1) (raw_at r.args 2)) s o
-ordered_step reqs.Rotate r s g o = ordered_before (turned (raw_at r.args 0) (raw_at r.args 1) (raw_at r.args 2) (raw_at r.args 3)) s o
+ordered_step reqs.Translate r s g o = ordered_before (translated_by (raw_at r.args 0) (raw_at r.args 1) (raw_at r.args 2)) s o
+ordered_step reqs.Scale r s g o = ordered_before (scaled_by (raw_at r.args 0) (raw_at r.args 1) (raw_at r.args 2)) s o
+ordered_step reqs.Rotate r s g o = ordered_before (rotated_by (raw_at r.args 0) (raw_at r.args 1) (raw_at r.args 2) (raw_at r.args 3)) s o
 ordered_step reqs.Transform r s g o = ordered_current (of_rows (numbers_at r.args 0)) s o
 ordered_step reqs.ConcatTransform r s g o = ordered_before (of_rows (numbers_at r.args 0)) s o
-ordered_step reqs.Patch r s g o =
-    let shape = patch_shape r.args s.attributes.bases in
-    ordered_laid (mesh_laid r shape) r s (λ opens object ps. ordered_mesh r shape object ps s opens g o)
+ordered_step reqs.Patch r s g o = ordered_primitive r s g o
 
 abbrev BothPlaced : Result State Placed → Type 0
 BothPlaced (Ok s) = IsGood s × IsOrdered s

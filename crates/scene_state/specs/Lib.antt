@@ -1,6 +1,6 @@
 pub mod FirstUse
-pub mod Variables
 pub mod Shaders
 pub mod State
 pub mod Steps
 pub mod Answers
+pub mod Laws

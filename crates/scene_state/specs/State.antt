@@ -1,18 +1,9 @@
 -- The state between two requests, and how each request changes it (RenderMan Interface 3.2, sections 3 to 5).
-use Rattle.std.specs.Prelude.{ℕ, ◌+◌, ◌-◌, ◌*◌, ◌==◌, nat_le, nat_lt, ℤ, pos, List, [], ◌∷◌, ◌++◌, length, take, drop, map, Bool, not, Option, Some, None, is_some, Result, Ok, Err, if◌then◌else◌, codes, slice_index_or}
-use Rattle.std.specs.List.{slice_get, sum_by}
-use Rattle.fixed_math.specs.Fixed.{sat}
-use Rattle.fixed_math.specs.declared.vec3.Vec3.{Vec3}
+use Rattle.std.specs.Prelude.{ℕ, ◌-◌, ◌==◌, nat_le, ℤ, List, [], ◌∷◌, ◌++◌, length, take, map, Option, Some, None, is_some, Result, Ok, Err, if◌then◌else◌, codes}
+use Rattle.std.specs.List.{slice_get}
 use Rattle.rib_lex.specs.declared.decimal.Decimal.{Decimal}
 use Rattle.rib_lex.specs.Decimal.{num}
-use Rattle.patches.specs.declared.patch.Patch.{Patch}
-use Rattle.mesh_basis.specs.declared.shape.Shape.{Shape}
-use Rattle.mesh_basis.specs.declared.counts.Counts.{Counts}
-use Rattle.mesh_basis.specs.Ranges.{with_next, are_in_range}
-use Rattle.mesh_basis.specs.Counts.{counts_of}
-use Rattle.mesh_basis.specs.Meshes.{patches_in}
-use Rattle.mesh_basis.specs.Polygons.{point, piece_count, pieces_of, flat_normal}
-use Rattle.transforms.specs.Map.{Map, identity, translation, scale_map, before_of, point_of, differ}
+use Rattle.transforms.specs.Map.{Map, identity, translation, scale_map, before_of, differ}
 use Rattle.transforms.specs.Rotation.{rotate_map}
 use Rattle.transforms.specs.Concat.{concat_map}
 use Rattle.transforms.specs.Field.{camera_of}
@@ -20,27 +11,24 @@ use Rattle.transforms.specs.declared.view.View.{View}
 use Rattle.transforms.specs.declared.fault.FormFault.{FormFault}
 use Rattle.transforms.specs.declared.fault.FormFault.TheVariants as forms
 use Rattle.rib_reader.specs.Rules.{word_at, whole_at}
-use Rattle.rib_reader.specs.Lists.{points_in}
 use Rattle.rib_reader.specs.Reading.{Read}
 use Rattle.scene.specs.Scene.{PrimValue, FrameValue, most_prims}
 use Rattle.scene_parts.specs.Choices.{ChoiceValues, first_choices, chosen, view_of}
-use Rattle.scene_parts.specs.Bases.{patch_shape, mesh_shape}
-use Rattle.scene_parts.specs.Faces.{FaceValues, one_face, faces_in}
-use Rattle.scene_state.specs.Variables.{variables_in, are_counted, variables_of, mesh_extent, mesh_seat, faces_extent, face_seat}
 use Rattle.scene_parts.specs.Looks.{LookValues, is_single}
-use Rattle.scene_state.specs.Shaders.{first_attributes, first_shaders, with_request, placed, some_placed, all_placed, light_of}
+use Rattle.primitives.specs.Patches.{PatchValue, Made, patches_of}
+use Rattle.scene_state.specs.Shaders.{first_attributes, first_shaders, with_request, worn_by, light_of}
 use Rattle.scene_parts.specs.Lights.{with_light, without_light}
 use Rattle.scene_parts.specs.declared.code.StateCode.{StateCode}
-use Rattle.scene_parts.specs.declared.code.StateCode.TheVariants.{N1, N2, N3, N5, G1, G2, G3, G4, G5, M1, M2, M3, M4, M7}
+use Rattle.scene_parts.specs.declared.code.StateCode.TheVariants.{N1, N2, N3, N5, G1, G2, G3, G4, M1, M2, M4}
 use Rattle.scene.specs.declared.uses.ShaderKind.{ShaderKind}
 use Rattle.scene.specs.declared.uses.ShaderKind.TheVariants as shader_kinds
 use Rattle.scene.specs.declared.uses.ShaderUse.{ShaderUse}
 use Rattle.scene_state.specs.declared.shaders.Handle.{Handle}
+use Rattle.scene_state.specs.declared.shaders.Worn.{Worn}
 use Rattle.scene_state.specs.declared.attributes.Attributes.{Attributes}
 use Rattle.scene_state.specs.declared.state.Block.{Block}
 use Rattle.scene_state.specs.declared.state.Block.TheVariants.{InFrame, InWorld, InAttributes, InTransform}
 use Rattle.scene_state.specs.declared.state.World.{World}
-use Rattle.scene_state.specs.declared.seat.Seat.{Seat}
 use Rattle.scene_state.specs.declared.state.State.{State}
 
 abbrev pub first_state : State
@@ -160,17 +148,17 @@ display_set r s = if is_some s.world then Err N2 else Ok (record s { name = name
 
 -- ---- transformations
 
-abbrev pub moved : Option ℤ → Option ℤ → Option ℤ → Result Map FormFault
-moved (Some x) (Some y) (Some z) = Ok (translation x y z)
-moved _ _ _ = Ok identity
+abbrev pub translated_by : Option ℤ → Option ℤ → Option ℤ → Result Map FormFault
+translated_by (Some x) (Some y) (Some z) = Ok (translation x y z)
+translated_by _ _ _ = Ok identity
 
-abbrev pub scaled : Option ℤ → Option ℤ → Option ℤ → Result Map FormFault
-scaled (Some x) (Some y) (Some z) = scale_map (record { x = x; y = y; z = z })
-scaled _ _ _ = Ok identity
+abbrev pub scaled_by : Option ℤ → Option ℤ → Option ℤ → Result Map FormFault
+scaled_by (Some x) (Some y) (Some z) = scale_map (record { x = x; y = y; z = z })
+scaled_by _ _ _ = Ok identity
 
-abbrev pub turned : Option ℤ → Option ℤ → Option ℤ → Option ℤ → Result Map FormFault
-turned (Some angle) (Some x) (Some y) (Some z) = rotate_map angle (record { x = x; y = y; z = z })
-turned _ _ _ _ = Ok identity
+abbrev pub rotated_by : Option ℤ → Option ℤ → Option ℤ → Option ℤ → Result Map FormFault
+rotated_by (Some angle) (Some x) (Some y) (Some z) = rotate_map angle (record { x = x; y = y; z = z })
+rotated_by _ _ _ _ = Ok identity
 
 abbrev pub of_rows : Option (List Decimal) → Result Map FormFault
 of_rows (Some ds) = concat_map (map num ds)
@@ -244,140 +232,46 @@ light_named None handles = None
 
 -- ---- primitives
 
--- the number at a place
-abbrev pub item : List ℤ → ℕ → ℤ
-item xs k = slice_index_or xs k (pos 0)
-
--- a raw place in camera space as a point; what passes the limit of a number is still out of a primitive's range
-abbrev pub saturated : List ℤ → Vec3
-saturated xs = record { x = sat (item xs 0); y = sat (item xs 1); z = sat (item xs 2) }
-
-abbrev pub camera_point : Map → Vec3 → Vec3
-camera_point m p = saturated (point_of m p)
-
--- the points of three coordinates each, in camera space
-abbrev pub points_from : Map → List ℤ → Option (List Vec3)
-points_from m [] = Some []
-points_from m (x ∷ y ∷ z ∷ xs) = with_next (Some (camera_point m (record { x = x; y = y; z = z }))) (points_from m xs)
-points_from m _ = None
-
--- a primitive of these attributes, whose shaders have these places among the uses
-abbrev pub prim_of : Read → Map → Option Vec3 → Seat → Patch → LookValues → ℕ → Option ℕ → Option ℕ → List ℕ → PrimValue
-prim_of r object flat seat patch l surface displacement atmosphere lights = record {
-  patch = patch;
-  flat = flat;
+-- the primitive of a patch, with this look, whose shaders have these places among the uses
+abbrev pub prim_of : Read → Map → LookValues → Worn → PatchValue → PrimValue
+prim_of r object l w p = record {
+  patch = p.patch;
+  flat = p.flat;
   cs = l.cs;
   os = l.os;
-  surface = surface;
-  displacement = displacement;
-  atmosphere = atmosphere;
-  lights = lights;
+  surface = w.surface;
+  displacement = w.displacement;
+  atmosphere = w.atmosphere;
+  lights = w.lights;
   bound = l.bound;
   rate = l.rate;
   one_sided = l.one_sided;
   flip = differ l.flip object.mirrored;
-  vars = variables_of seat (variables_in r.params);
+  vars = p.vars;
   object = object;
-  place = seat.place;
+  place = p.place;
   line = r.line;
 }
 
--- a patch is placed: its shaders are had in the order displacement, surface, atmosphere, lights
-abbrev pub with_prim : Read → Map → Option Vec3 → Seat → Patch → State → State
-with_prim r object flat seat patch s =
-    let a = s.attributes in
-    let d = some_placed s.shaders a.displacement in
-    let f = placed d.0 a.surface in
-    let v = some_placed f.0 a.atmosphere in
-    let l = all_placed v.0 a.lights in
-    record s { shaders = l.0; prims = s.prims ++ prim_of r object flat seat patch a.look f.1 d.1 v.1 l.1 ∷ [] }
+-- patches are placed: where there is one, the shaders in force are had, in the order displacement, surface, atmosphere, lights
+abbrev pub with_patches : Read → Map → List PatchValue → State → State
+with_patches r object [] s = s
+with_patches r object (p ∷ ps) s =
+    let had = worn_by s.shaders s.attributes in
+    record s { shaders = had.0; prims = s.prims ++ map (prim_of r object s.attributes.look had.1) (p ∷ ps) }
 
--- patches one after another, the first of these being patch k of those that stand so in their primitive
-unfoldable pub with_patches : Read → Map → Option Vec3 → (ℕ → Seat) → ℕ → List Patch → State → State
-with_patches r object flat seats k [] s = s
-with_patches r object flat seats k (p ∷ ps) s = with_patches r object flat seats (k + 1) ps (with_prim r object flat (seats k) p s)
+abbrev pub patches_placed : Read → Map → Made → State → Stepped
+patches_placed r object (Err code) s = Err code
+patches_placed r object (Ok ps) s = Ok (with_patches r object ps s)
 
--- a frame has no room for so many primitives more
-abbrev pub is_past : ℕ → State → Bool
-is_past count s = nat_lt most_prims (length s.prims + count)
+-- how many primitives the frame may still take
+abbrev pub room_left : State → ℕ
+room_left s = most_prims - length s.prims
 
--- ---- patches and meshes
-
--- those from patch k on, where each is in range
-abbrev pub mesh_from : Read → Map → (ℕ → Seat) → ℕ → Option (List Patch) → State → Stepped
-mesh_from r object seats k None s = Err M7
-mesh_from r object seats k (Some ps) s = Ok (with_patches r object None seats k ps s)
-
--- as many points as the shape has, as many values of each variable as its class has, room in the frame, and then each point in
--- range
-abbrev pub mesh_counted : Read → Map → Shape → List Vec3 → Option Counts → State → Stepped
-mesh_counted r object shape ps None s = Err G5
-mesh_counted r object shape ps (Some c) s =
-    if not (are_counted (mesh_extent shape c) (variables_in r.params)) then Err G5
-    else if is_past (c.along_u * c.along_v) s then Err M3
-    else mesh_from r object (mesh_seat shape c) 0 (patches_in ps shape c) s
-
-abbrev pub mesh_laid : Read → Shape → Map → List Vec3 → State → Stepped
-mesh_laid r shape object ps s = mesh_counted r object shape ps (counts_of shape (length ps)) s
-
--- ---- polygons
-
--- the points of a face
-abbrev pub face_points : List Vec3 → List ℕ → List Vec3
-face_points ps corners = map (point ps) corners
-
--- a face is taken apart; each of its pieces has the normal of the face
-abbrev pub with_face : Read → Map → (ℕ → Seat) → List Vec3 → State → State
-with_face r object seats ps s = with_patches r object (Some (flat_normal ps)) seats 0 (pieces_of ps) s
-
--- faces one after another, the first of these being that face of its primitive, and its first corner that one of all corners
-unfoldable pub with_faces : Read → Map → List Vec3 → ℕ → ℕ → List ℕ → List ℕ → State → State
-with_faces r object ps face first [] corners s = s
-with_faces r object ps face first (n ∷ ns) corners s =
-    with_faces r object ps (face + 1) (first + n) ns (drop n corners)
-    (with_face r object (face_seat face first (take n corners)) (face_points ps (take n corners)) s)
-
--- faces, as many values of each variable as its class has, room in the frame, and then each point in range, those that no face has
--- too
-abbrev pub faces_laid : Read → Map → List Vec3 → Option FaceValues → State → Stepped
-faces_laid r object ps None s = Err G5
-faces_laid r object ps (Some f) s =
-    if not (are_counted (faces_extent (length ps) f) (variables_in r.params)) then Err G5
-    else if is_past (sum_by piece_count f.sizes) s then Err M3
-    else if are_in_range ps then Ok (with_faces r object ps 0 0 f.sizes f.corners s)
-    else Err M7
-
--- ---- primitives by their requests
-
--- a primitive's map to camera space, and its points there
-abbrev pub Located : Type 0
-Located = Result (Map × List Vec3) StateCode
-
-abbrev pub with_points : Map → Option (List Vec3) → Located
-with_points object None = Err G5
-with_points object (Some ps) = Ok (object, ps)
-
-abbrev pub in_space : Option (List ℤ) → Result Map FormFault → Located
-in_space xs (Err e) = Err (code_of e)
-in_space None (Ok object) = Err G5
-in_space (Some xs) (Ok object) = with_points object (points_from object xs)
+abbrev pub primitive_under : Read → Result Map FormFault → State → Stepped
+primitive_under r (Err e) s = Err (code_of e)
+primitive_under r (Ok object) s = patches_placed r object (patches_of r s.attributes.bases object (room_left s)) s
 
 -- primitives stand in worlds alone
-abbrev pub located : Read → State → Located
-located r s = if is_some s.world then in_space (points_in r.params) (space_of s) else Err N5
-
-abbrev pub laid : (Map → List Vec3 → State → Stepped) → Located → State → Stepped
-laid form (Err code) s = Err code
-laid form (Ok at) s = form at.0 at.1 s
-
-abbrev pub patch_set : Read → State → Stepped
-patch_set r s = laid (mesh_laid r (patch_shape r.args s.attributes.bases)) (located r s) s
-
-abbrev pub mesh_set : Read → State → Stepped
-mesh_set r s = laid (mesh_laid r (mesh_shape r.args s.attributes.bases)) (located r s) s
-
-abbrev pub polygon_set : Read → State → Stepped
-polygon_set r s = laid (λ object ps. faces_laid r object ps (one_face (length ps))) (located r s) s
-
-abbrev pub polygons_set : Read → State → Stepped
-polygons_set r s = laid (λ object ps. faces_laid r object ps (faces_in (length ps) r.args)) (located r s) s
+abbrev pub primitive_set : Read → State → Stepped
+primitive_set r s = if is_some s.world then primitive_under r (space_of s) s else Err N5

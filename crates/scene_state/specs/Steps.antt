@@ -11,7 +11,7 @@ use Rattle.scene_parts.specs.Bases.{bases_after}
 use Rattle.scene_state.specs.declared.attributes.Attributes.{Attributes}
 use Rattle.scene_state.specs.declared.state.State.{State}
 use Rattle.scene_state.specs.declared.state.Block.TheVariants.{InAttributes, InTransform}
-use Rattle.scene_state.specs.State.{Stepped, first_state, opened, innermost, frame_begun, frame_ended, attributes_ended, transform_ended, world_begun, world_ended, option_set, display_set, moved, scaled, turned, of_rows, with_current, with_before, space_of, shader_set, light_made, illuminated_by, light_named, patch_set, mesh_set, polygon_set, polygons_set}
+use Rattle.scene_state.specs.State.{Stepped, first_state, opened, innermost, frame_begun, frame_ended, attributes_ended, transform_ended, world_begun, world_ended, option_set, display_set, translated_by, scaled_by, rotated_by, of_rows, with_current, with_before, space_of, shader_set, light_made, illuminated_by, light_named, primitive_set}
 use Rattle.scene_parts.specs.declared.code.StateCode.{StateCode}
 use Rattle.scene_parts.specs.declared.code.StateCode.TheVariants.{N4}
 use Rattle.scene.specs.declared.uses.ShaderKind.TheVariants as kinds
@@ -67,14 +67,14 @@ step reqs.Illuminate r s = illuminated_by (light_named (whole_at r.args 0) s.han
 step reqs.Identity r s = Ok (record s { current = identity })
 step reqs.Transform r s = with_current (of_rows (numbers_at r.args 0)) s
 step reqs.ConcatTransform r s = with_before (of_rows (numbers_at r.args 0)) s
-step reqs.Translate r s = with_before (moved (raw_at r.args 0) (raw_at r.args 1) (raw_at r.args 2)) s
-step reqs.Scale r s = with_before (scaled (raw_at r.args 0) (raw_at r.args 1) (raw_at r.args 2)) s
-step reqs.Rotate r s = with_before (turned (raw_at r.args 0) (raw_at r.args 1) (raw_at r.args 2) (raw_at r.args 3)) s
+step reqs.Translate r s = with_before (translated_by (raw_at r.args 0) (raw_at r.args 1) (raw_at r.args 2)) s
+step reqs.Scale r s = with_before (scaled_by (raw_at r.args 0) (raw_at r.args 1) (raw_at r.args 2)) s
+step reqs.Rotate r s = with_before (rotated_by (raw_at r.args 0) (raw_at r.args 1) (raw_at r.args 2) (raw_at r.args 3)) s
 step reqs.Basis r s = bases_set r s
-step reqs.Patch r s = patch_set r s
-step reqs.PatchMesh r s = mesh_set r s
-step reqs.Polygon r s = polygon_set r s
-step reqs.PointsPolygons r s = polygons_set r s
+step reqs.Patch r s = primitive_set r s
+step reqs.PatchMesh r s = primitive_set r s
+step reqs.Polygon r s = primitive_set r s
+step reqs.PointsPolygons r s = primitive_set r s
 step _ r s = Ok s
 
 abbrev pub after : Read → State → Stepped

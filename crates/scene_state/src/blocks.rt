@@ -5,7 +5,7 @@ ghost use Rattle.scene_state.specs.Answers.{Steps};
 ghost use Rattle.scene_state.specs.declared.state.Block.TheVariants.{InAttributes, InTransform};
 
 use crate::attributes::Attributes;
-use crate::fault::{Stop, code_of};
+use crate::fault::{StepFault, code_of};
 use crate::state::{Block, State, World};
 use fixed_math::{List, NoMemory};
 use scene::Frame;
@@ -18,11 +18,11 @@ const MOST_BLOCKS: usize = 64;
 const MOST_FRAMES: usize = 1000;
 
 impl State {
-    fn open(&mut self, block: Block) -> Result<(), Stop>
+    fn open(&mut self, block: Block) -> Result<(), StepFault>
         ensures { Steps result (opened block self.old) self.new }
     {
         if self.blocks.len() >= MOST_BLOCKS {
-            return Err(Stop::Fault(StateCode::M1));
+            return Err(StepFault::Refused(StateCode::M1));
         }
         self.blocks.0.push(block)?;
         Ok(())
@@ -54,11 +54,11 @@ impl State {
         self.attributes.lights.settle(alloc, first)
     }
 
-    pub(crate) fn begin_frame(&mut self) -> Result<(), Stop>
+    pub(crate) fn begin_frame(&mut self) -> Result<(), StepFault>
         ensures { Steps result (frame_begun self.old) self.new }
     {
         if self.blocks.len() != 0 {
-            return Err(Stop::Fault(StateCode::N1));
+            return Err(StepFault::Refused(StateCode::N1));
         }
         let block = Block::InFrame {
             attributes: self.attributes.shared()?,
@@ -69,7 +69,7 @@ impl State {
         self.open(block)
     }
 
-    pub(crate) fn end_frame(&mut self, alloc: Global) -> Result<(), Stop>
+    pub(crate) fn end_frame(&mut self, alloc: Global) -> Result<(), StepFault>
         ensures { Steps result (frame_ended (innermost self.old.blocks) self.old) self.new }
     {
         match self.close() {
@@ -86,11 +86,11 @@ impl State {
                 self.restore(alloc, attributes, current)?;
                 Ok(())
             }
-            _ => Err(Stop::Fault(StateCode::N1)),
+            _ => Err(StepFault::Refused(StateCode::N1)),
         }
     }
 
-    pub(crate) fn begin_attributes(&mut self) -> Result<(), Stop>
+    pub(crate) fn begin_attributes(&mut self) -> Result<(), StepFault>
         ensures { Steps result (opened (InAttributes self.old.attributes self.old.current) self.old) self.new }
     {
         let block = Block::InAttributes {
@@ -100,7 +100,7 @@ impl State {
         self.open(block)
     }
 
-    pub(crate) fn end_attributes(&mut self, alloc: Global) -> Result<(), Stop>
+    pub(crate) fn end_attributes(&mut self, alloc: Global) -> Result<(), StepFault>
         ensures { Steps result (attributes_ended (innermost self.old.blocks) self.old) self.new }
     {
         match self.close() {
@@ -113,11 +113,11 @@ impl State {
                 self.restore(alloc, attributes, current)?;
                 Ok(())
             }
-            _ => Err(Stop::Fault(StateCode::N1)),
+            _ => Err(StepFault::Refused(StateCode::N1)),
         }
     }
 
-    pub(crate) fn begin_transform(&mut self) -> Result<(), Stop>
+    pub(crate) fn begin_transform(&mut self) -> Result<(), StepFault>
         ensures { Steps result (opened (InTransform self.old.current) self.old) self.new }
     {
         self.open(Block::InTransform {
@@ -125,7 +125,7 @@ impl State {
         })
     }
 
-    pub(crate) fn end_transform(&mut self) -> Result<(), Stop>
+    pub(crate) fn end_transform(&mut self) -> Result<(), StepFault>
         ensures { Steps result (transform_ended (innermost self.old.blocks) self.old) self.new }
     {
         match self.blocks.as_slice().last() {
@@ -135,19 +135,19 @@ impl State {
                 self.current = current;
                 Ok(())
             }
-            _ => Err(Stop::Fault(StateCode::N1)),
+            _ => Err(StepFault::Refused(StateCode::N1)),
         }
     }
 
-    pub(crate) fn begin_world(&mut self) -> Result<(), Stop>
+    pub(crate) fn begin_world(&mut self) -> Result<(), StepFault>
         ensures { Steps result (world_begun self.old) self.new }
     {
         if self.world.is_some() {
-            return Err(Stop::Fault(StateCode::N1));
+            return Err(StepFault::Refused(StateCode::N1));
         }
         let camera = match Camera::new(self.choices.view()) {
             Ok(camera) => camera,
-            Err(fault) => return Err(Stop::Fault(code_of(fault))),
+            Err(fault) => return Err(StepFault::Refused(code_of(fault))),
         };
         let block = Block::InWorld {
             attributes: self.attributes.shared()?,
@@ -185,11 +185,11 @@ impl State {
     }
 
     // The frame of the open world, where what the world's block saved is back.
-    fn make_frame(&mut self, alloc: Global, world: &World) -> Result<(), Stop>
+    fn make_frame(&mut self, alloc: Global, world: &World) -> Result<(), StepFault>
         ensures { Steps result (frame_made (Some world.now) self.old.attributes self.old.current self.old) self.new }
     {
         if self.frames.len() >= MOST_FRAMES {
-            return Err(Stop::Fault(StateCode::M2));
+            return Err(StepFault::Refused(StateCode::M2));
         }
         self.add_frame(alloc, world)?;
         self.attributes.lights = LightsInForce::none(alloc)?;
@@ -198,7 +198,7 @@ impl State {
         Ok(())
     }
 
-    pub(crate) fn end_world(&mut self, alloc: Global) -> Result<(), Stop>
+    pub(crate) fn end_world(&mut self, alloc: Global) -> Result<(), StepFault>
         ensures { Steps result (world_ended (innermost self.old.blocks) self.old) self.new }
     {
         match self.close() {
@@ -211,10 +211,10 @@ impl State {
                 self.restore(alloc, attributes, current)?;
                 match self.world {
                     Some(world) => self.make_frame(alloc, &world),
-                    None => Err(Stop::Fault(StateCode::N1)),
+                    None => Err(StepFault::Refused(StateCode::N1)),
                 }
             }
-            _ => Err(Stop::Fault(StateCode::N1)),
+            _ => Err(StepFault::Refused(StateCode::N1)),
         }
     }
 }

@@ -1,10 +1,12 @@
+// Why there is no scene.
 ghost use Rattle.std.specs.Prelude.{◌≡◌};
 ghost use Rattle.scene_state.specs.State.{code_of};
-ghost use Rattle.scene_state.specs.Answers.{stopped_at};
+ghost use Rattle.scene_state.specs.Answers.{fault_at, step_fault};
 ghost use Rattle.scene_state.specs.declared.fault.StateFault.TheVariants.{NoMemory as OutOfMemory};
-ghost use Rattle.scene_state.specs.declared.fault.Stop.TheVariants.{NoMemory as Exhausted};
+ghost use Rattle.scene_state.specs.declared.fault.StepFault.TheVariants.{NoMemory as Exhausted};
 
 use fixed_math::NoMemory;
+use primitives::PrimitiveFault;
 use scene_parts::StateCode;
 use std::alloc::{AllocError, AllocFailed};
 use transforms::FormFault;
@@ -26,44 +28,55 @@ impl From<NoMemory> for StateFault {
 
 /// Why a request doesn't change the state.
 #[derive(Clone, Copy)]
-pub(crate) enum Stop {
-    Fault(StateCode),
+pub(crate) enum StepFault {
+    Refused(StateCode),
     NoMemory,
 }
 
-impl Stop {
+impl StepFault {
     /// The same, of a request whose name stands in that line.
     pub(crate) fn at(self, line: u32) -> StateFault
-        ensures { result ≡ stopped_at line self }
+        ensures { result ≡ fault_at line self }
     {
         match self {
-            Stop::Fault(code) => StateFault::At { code, line },
-            Stop::NoMemory => StateFault::NoMemory,
+            StepFault::Refused(code) => StateFault::At { code, line },
+            StepFault::NoMemory => StateFault::NoMemory,
         }
     }
 }
 
-impl From<NoMemory> for Stop {
+impl From<NoMemory> for StepFault {
     ghost from_gives = { λ _ e. e ≡ Exhausted };
 
-    fn from(_: NoMemory) -> Stop {
-        Stop::NoMemory
+    fn from(_: NoMemory) -> StepFault {
+        StepFault::NoMemory
     }
 }
 
-impl From<AllocError> for Stop {
+impl From<AllocError> for StepFault {
     ghost from_gives = { λ _ e. e ≡ Exhausted };
 
-    fn from(_: AllocError) -> Stop {
-        Stop::NoMemory
+    fn from(_: AllocError) -> StepFault {
+        StepFault::NoMemory
     }
 }
 
-impl<T: Drop> From<AllocFailed<T>> for Stop {
+impl<T: Drop> From<AllocFailed<T>> for StepFault {
     ghost from_gives = { λ _ e. e ≡ Exhausted };
 
-    fn from(_: AllocFailed<T>) -> Stop {
-        Stop::NoMemory
+    fn from(_: AllocFailed<T>) -> StepFault {
+        StepFault::NoMemory
+    }
+}
+
+impl From<PrimitiveFault> for StepFault {
+    ghost from_gives = { λ fault e. e ≡ step_fault fault };
+
+    fn from(fault: PrimitiveFault) -> StepFault {
+        match fault {
+            PrimitiveFault::Refused(code) => StepFault::Refused(code),
+            PrimitiveFault::NoMemory => StepFault::NoMemory,
+        }
     }
 }
 

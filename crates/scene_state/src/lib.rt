@@ -4,21 +4,19 @@
 mod attributes;
 mod blocks;
 mod fault;
+mod laws;
 mod lights;
-mod patching;
 mod placing;
-mod points;
 mod prims;
 mod reading;
-mod seat;
 mod shaders;
 mod shared_name;
 mod state;
 mod steps;
 mod turning;
-mod variables;
 
 pub use fault::StateFault;
+pub use laws::surface_in_force;
 pub use reading::scene;
 pub use scene::{Filter, Frame, Options, Prim, Scene, ShaderKind, ShaderUse, Variable};
 pub use scene_parts::StateCode;

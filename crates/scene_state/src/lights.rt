@@ -11,7 +11,7 @@ ghost use Rattle.scene_state.specs.Shaders.{with_request};
 ghost use Rattle.scene_state.specs.Steps.{with_surface, with_displacement, with_atmosphere};
 ghost use Rattle.scene_state.specs.Answers.{Steps, GivesMap};
 
-use crate::fault::{Stop, code_of};
+use crate::fault::{StepFault, code_of};
 use crate::shaders::{Handle, light_of};
 use crate::state::State;
 use fixed_math::NoMemory;
@@ -60,7 +60,7 @@ impl State {
         Ok(place)
     }
 
-    pub(crate) fn set_surface(&mut self, alloc: Global, request: &Request) -> Result<(), Stop>
+    pub(crate) fn set_surface(&mut self, alloc: Global, request: &Request) -> Result<(), StepFault>
         requires { request.now.name ≡ reqs.Surface }
         ensures { Steps result (shader_set kinds.Surface (plain request.now) with_surface self.old) self.new }
     {
@@ -69,7 +69,11 @@ impl State {
         Ok(())
     }
 
-    pub(crate) fn set_displacement(&mut self, alloc: Global, request: &Request) -> Result<(), Stop>
+    pub(crate) fn set_displacement(
+        &mut self,
+        alloc: Global,
+        request: &Request,
+    ) -> Result<(), StepFault>
         requires { request.now.name ≡ reqs.Displacement }
         ensures { Steps result (shader_set kinds.Displacement (plain request.now) with_displacement self.old) self.new }
     {
@@ -79,7 +83,11 @@ impl State {
         Ok(())
     }
 
-    pub(crate) fn set_atmosphere(&mut self, alloc: Global, request: &Request) -> Result<(), Stop>
+    pub(crate) fn set_atmosphere(
+        &mut self,
+        alloc: Global,
+        request: &Request,
+    ) -> Result<(), StepFault>
         requires { request.now.name ≡ reqs.Atmosphere }
         ensures { Steps result (shader_set kinds.Volume (plain request.now) with_atmosphere self.old) self.new }
     {
@@ -90,12 +98,12 @@ impl State {
     }
 
     // The map from the current space to camera space, or the fault of one that isn't there.
-    fn shader_space(&self) -> Result<Affine, Stop>
+    fn shader_space(&self) -> Result<Affine, StepFault>
         ensures { GivesMap result (space_of self.now) }
     {
         match self.space() {
             Ok(space) => Ok(space),
-            Err(fault) => Err(Stop::Fault(code_of(fault))),
+            Err(fault) => Err(StepFault::Refused(code_of(fault))),
         }
     }
 
@@ -118,23 +126,23 @@ impl State {
         alloc: Global,
         request: &Request,
         space: Result<Affine, FormFault>,
-    ) -> Result<(), Stop>
+    ) -> Result<(), StepFault>
         requires { request.now.name ≡ reqs.LightSource }
         ensures { Steps result (light_made (plain request.now) space self.old) self.new }
     {
         let space = match space {
             Ok(space) => space,
-            Err(fault) => return Err(Stop::Fault(code_of(fault))),
+            Err(fault) => return Err(StepFault::Refused(code_of(fault))),
         };
         if self.handles.len() >= MOST_LIGHTS {
-            return Err(Stop::Fault(StateCode::M4));
+            return Err(StepFault::Refused(StateCode::M4));
         }
         let light = self.add_shader(alloc, ShaderKind::Light, request, space)?;
         self.add_light(alloc, light, request)?;
         Ok(())
     }
 
-    pub(crate) fn make_light(&mut self, alloc: Global, request: &Request) -> Result<(), Stop>
+    pub(crate) fn make_light(&mut self, alloc: Global, request: &Request) -> Result<(), StepFault>
         requires { request.now.name ≡ reqs.LightSource }
         ensures { Steps result (light_made (plain request.now) (space_of self.old) self.old) self.new }
     {
@@ -142,12 +150,12 @@ impl State {
         self.make_light_in(alloc, request, space)
     }
 
-    pub(crate) fn illuminate(&mut self, alloc: Global, request: &Request) -> Result<(), Stop>
+    pub(crate) fn illuminate(&mut self, alloc: Global, request: &Request) -> Result<(), StepFault>
         requires { request.now.name ≡ reqs.Illuminate }
         ensures { Steps result (illuminated_by (light_named (whole_at request.now.args 0) self.old.handles) (whole_at request.now.args 1) self.old) self.new }
     {
         let Some(light) = light_of(self.handles.as_slice(), request.whole(0)) else {
-            return Err(Stop::Fault(StateCode::N3));
+            return Err(StepFault::Refused(StateCode::N3));
         };
         if request.whole(1) == 1 {
             self.attributes.lights.put(alloc, light)?;

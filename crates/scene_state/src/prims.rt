@@ -1,4 +1,5 @@
-ghost use Rattle.std.specs.Prelude.{◌≡◌, ◌≤◌, ◌<◌, List as Items, [], ◌∷◌, ◌++◌, ◌+◌, length, IfOk, nat_lt};
+// The primitives of an open world.
+ghost use Rattle.std.specs.Prelude.{◌≡◌, ◌≤◌, List as Items, [], ◌++◌, ◌+◌, ◌-◌, length, IfOk};
 ghost use Rattle.scene.specs.Scene.{PrimValue, most_prims};
 
 use fixed_math::{List, NoMemory};
@@ -34,19 +35,21 @@ impl Prims {
         }
     }
 
-    /// Whether a frame has no room for so many primitives more.
-    pub(crate) fn lack_room(&self, count: usize) -> bool
-        ensures { result ≡ nat_lt most_prims (length self.now + count) }
+    /// How many primitives the frame may still take.
+    pub(crate) fn room(&self) -> usize
+        ensures room { result ≡ most_prims - length self.now }
+        ensures few { length self.now ≤ most_prims }
     {
-        count > MOST_PRIMS - self.prims.len()
+        MOST_PRIMS - self.prims.len()
     }
 
-    /// A primitive more.
-    pub(crate) fn push(&mut self, prim: Prim) -> Result<(), NoMemory>
-        requires { length self.old < most_prims }
-        ensures { IfOk result (λ _. self.new ≡ self.old ++ prim ∷ []) }
+    /// Primitives more, in order.
+    pub(crate) fn add(&mut self, more: List<Prim>) -> Result<(), NoMemory>
+        requires { length self.old + length more ≤ most_prims }
+        ensures { IfOk result (λ _. self.new ≡ self.old ++ more) }
     {
-        self.prims.0.push(prim)?;
+        let mut more = more;
+        self.prims.0.append(&mut more.0)?;
         Ok(())
     }
 

@@ -6,7 +6,7 @@ ghost use Rattle.scene_state.specs.State.{option_set, display_set};
 ghost use Rattle.scene_state.specs.Steps.{look_set, bases_set, after};
 ghost use Rattle.scene_state.specs.Answers.{Steps};
 
-use crate::fault::Stop;
+use crate::fault::StepFault;
 use crate::shared_name::SharedName;
 use crate::state::State;
 use rib_reader::{Req, Request};
@@ -27,27 +27,27 @@ impl State {
         self.attributes.bases = self.attributes.bases.after(request);
     }
 
-    fn set_option(&mut self, request: &Request) -> Result<(), Stop>
+    fn set_option(&mut self, request: &Request) -> Result<(), StepFault>
         ensures { Steps result (option_set (plain request.now) self.old) self.new }
     {
         if self.world.is_some() {
-            return Err(Stop::Fault(StateCode::N2));
+            return Err(StepFault::Refused(StateCode::N2));
         }
         match self.choices.chosen(request) {
             Ok(choices) => {
                 self.choices = choices;
                 Ok(())
             }
-            Err(code) => Err(Stop::Fault(code)),
+            Err(code) => Err(StepFault::Refused(code)),
         }
     }
 
-    fn set_display(&mut self, alloc: Global, request: &Request) -> Result<(), Stop>
+    fn set_display(&mut self, alloc: Global, request: &Request) -> Result<(), StepFault>
         requires { request.now.name ≡ reqs.Display }
         ensures { Steps result (display_set (plain request.now) self.old) self.new }
     {
         if self.world.is_some() {
-            return Err(Stop::Fault(StateCode::N2));
+            return Err(StepFault::Refused(StateCode::N2));
         }
         let name = request.word(0);
         if !name.as_str().starts_with('+') {
@@ -58,7 +58,7 @@ impl State {
 
     /// Changes the state by a request. The fault is the first that the request gives, of its nesting, of its geometry, or of a
     /// limit.
-    pub(crate) fn step(&mut self, alloc: Global, request: &Request) -> Result<(), Stop>
+    pub(crate) fn step(&mut self, alloc: Global, request: &Request) -> Result<(), StepFault>
         ensures { Steps result (after (plain request.now) self.old) self.new }
     {
         match request.name {
@@ -109,10 +109,10 @@ impl State {
                 self.set_bases(request);
                 Ok(())
             }
-            Req::Patch => self.place_patch(alloc, request),
-            Req::PatchMesh => self.place_mesh(alloc, request),
-            Req::Polygon => self.place_polygon(alloc, request),
-            Req::PointsPolygons => self.place_polygons(alloc, request),
+            Req::Patch => self.place_primitive(alloc, request),
+            Req::PatchMesh => self.place_primitive(alloc, request),
+            Req::Polygon => self.place_primitive(alloc, request),
+            Req::PointsPolygons => self.place_primitive(alloc, request),
             _ => Ok(()),
         }
     }

@@ -4,10 +4,10 @@ ghost use Rattle.rib_lex.specs.Decimal.{num};
 ghost use Rattle.rib_reader.specs.Rules.{raw_at, numbers_at};
 ghost use Rattle.rib_reader.specs.declared.req.Req.TheVariants as reqs;
 ghost use Rattle.transforms.specs.Map.{identity};
-ghost use Rattle.scene_state.specs.State.{moved, scaled, turned, of_rows, with_current, with_before, space_of};
+ghost use Rattle.scene_state.specs.State.{translated_by, scaled_by, rotated_by, of_rows, with_current, with_before, space_of};
 ghost use Rattle.scene_state.specs.Answers.{Steps};
 
-use crate::fault::{Stop, code_of};
+use crate::fault::{StepFault, code_of};
 use crate::state::State;
 use fixed_math::{Num, Vec3};
 use rib_lex::Decimal;
@@ -32,7 +32,7 @@ fn of_rows(rows: &[Decimal]) -> Result<Affine, FormFault>
 }
 
 impl State {
-    fn set_current(&mut self, map: Result<Affine, FormFault>) -> Result<(), Stop>
+    fn set_current(&mut self, map: Result<Affine, FormFault>) -> Result<(), StepFault>
         ensures { Steps result (with_current map self.old) self.new }
     {
         match map {
@@ -40,11 +40,11 @@ impl State {
                 self.current = map;
                 Ok(())
             }
-            Err(fault) => Err(Stop::Fault(code_of(fault))),
+            Err(fault) => Err(StepFault::Refused(code_of(fault))),
         }
     }
 
-    fn set_before(&mut self, map: Result<Affine, FormFault>) -> Result<(), Stop>
+    fn set_before(&mut self, map: Result<Affine, FormFault>) -> Result<(), StepFault>
         ensures { Steps result (with_before map self.old) self.new }
     {
         match map {
@@ -52,7 +52,7 @@ impl State {
                 let current = self.current;
                 self.set_current(current.before(&map))
             }
-            Err(fault) => Err(Stop::Fault(code_of(fault))),
+            Err(fault) => Err(StepFault::Refused(code_of(fault))),
         }
     }
 
@@ -62,39 +62,39 @@ impl State {
         self.current = Affine::identity();
     }
 
-    pub(crate) fn transform(&mut self, request: &Request) -> Result<(), Stop>
+    pub(crate) fn transform(&mut self, request: &Request) -> Result<(), StepFault>
         requires { request.now.name ≡ reqs.Transform }
         ensures { Steps result (with_current (of_rows (numbers_at request.now.args 0)) self.old) self.new }
     {
         self.set_current(of_rows(request.array(0, 16)))
     }
 
-    pub(crate) fn concat(&mut self, request: &Request) -> Result<(), Stop>
+    pub(crate) fn concat(&mut self, request: &Request) -> Result<(), StepFault>
         requires { request.now.name ≡ reqs.ConcatTransform }
         ensures { Steps result (with_before (of_rows (numbers_at request.now.args 0)) self.old) self.new }
     {
         self.set_before(of_rows(request.array(0, 16)))
     }
 
-    pub(crate) fn translate(&mut self, request: &Request) -> Result<(), Stop>
+    pub(crate) fn translate(&mut self, request: &Request) -> Result<(), StepFault>
         requires { request.now.name ≡ reqs.Translate }
-        ensures { Steps result (with_before (moved (raw_at request.now.args 0) (raw_at request.now.args 1) (raw_at request.now.args 2)) self.old) self.new }
+        ensures { Steps result (with_before (translated_by (raw_at request.now.args 0) (raw_at request.now.args 1) (raw_at request.now.args 2)) self.old) self.new }
     {
         let by = vector(request.number(0), request.number(1), request.number(2));
         self.set_before(Ok(Affine::translate(by)))
     }
 
-    pub(crate) fn scale(&mut self, request: &Request) -> Result<(), Stop>
+    pub(crate) fn scale(&mut self, request: &Request) -> Result<(), StepFault>
         requires { request.now.name ≡ reqs.Scale }
-        ensures { Steps result (with_before (scaled (raw_at request.now.args 0) (raw_at request.now.args 1) (raw_at request.now.args 2)) self.old) self.new }
+        ensures { Steps result (with_before (scaled_by (raw_at request.now.args 0) (raw_at request.now.args 1) (raw_at request.now.args 2)) self.old) self.new }
     {
         let by = vector(request.number(0), request.number(1), request.number(2));
         self.set_before(Affine::scale(by))
     }
 
-    pub(crate) fn rotate(&mut self, request: &Request) -> Result<(), Stop>
+    pub(crate) fn rotate(&mut self, request: &Request) -> Result<(), StepFault>
         requires { request.now.name ≡ reqs.Rotate }
-        ensures { Steps result (with_before (turned (raw_at request.now.args 0) (raw_at request.now.args 1) (raw_at request.now.args 2) (raw_at request.now.args 3)) self.old) self.new }
+        ensures { Steps result (with_before (rotated_by (raw_at request.now.args 0) (raw_at request.now.args 1) (raw_at request.now.args 2) (raw_at request.now.args 3)) self.old) self.new }
     {
         let axis = vector(request.number(1), request.number(2), request.number(3));
         self.set_before(Affine::rotate(request.number(0), axis))

@@ -1,6 +1,6 @@
 use Rattle.std.proofs.Common.{◌∙◌, ap}
 use Rattle.scene_state.specs.Shaders.{all_placed}
-use Rattle.scene_state.proofs.Laying.{worn_is}
+use Rattle.scene_state.proofs.Wearing.{worn_is}
 use Rattle.scene_state.proofs.shaders.Shaders.wear.Goals as goal
 
 pub returns : goal.returns

@@ -3,11 +3,11 @@ use Rattle.std.proofs.Math.Seq.{drop-cons}
 use Rattle.rib_reader.specs.declared.request.Request.{Request}
 use Rattle.rib_reader.specs.Reading.{plain}
 use Rattle.scene_state.specs.Steps.{Placed, after, and_then, state_from}
-use Rattle.scene_state.specs.Answers.{Steps, GivesState, stopped_at}
+use Rattle.scene_state.specs.Answers.{Steps, GivesState, fault_at}
 use Rattle.scene_state.specs.declared.state.State.{State}
 use Rattle.scene_parts.specs.declared.code.StateCode.{StateCode}
-use Rattle.scene_state.specs.declared.fault.Stop.{Stop}
-use Rattle.scene_state.specs.declared.fault.Stop.TheVariants.{Fault, NoMemory}
+use Rattle.scene_state.specs.declared.fault.StepFault.{StepFault}
+use Rattle.scene_state.specs.declared.fault.StepFault.TheVariants.{Refused, NoMemory}
 use Rattle.scene_state.proofs.state.State.go_through.Goals as goal
 
 -- the requests from one on
@@ -19,16 +19,16 @@ cut rs k x h is =
     next : (k : ℕ) → suc k ≡ k + 1
     next k = omega arith
 
-one_done : {A : Type 0} (rs : List Request) (k : ℕ) (x : Request) (s t : State) (all : Result State Placed) (result : Result A Stop) (done : A) → k < length rs → x ≡ slice_index_or rs k x →
+one_done : {A : Type 0} (rs : List Request) (k : ℕ) (x : Request) (s t : State) (all : Result State Placed) (result : Result A StepFault) (done : A) → k < length rs → x ≡ slice_index_or rs k x →
     Steps result (after (plain x) s) t → result ≡ Ok done → state_from s (map plain (drop k rs)) ≡ all → state_from t (map plain (drop (k + 1) rs)) ≡ all
 one_done rs k x s t all result done h is steps e inv =
     let rest = map plain (drop (k + 1) rs) in
     let to : after (plain x) s ≡ Ok t = subst (λ r. Steps r (after (plain x) s) t) e steps in
     sym (ap (λ st. and_then st (plain x).line (λ u. state_from u rest)) to) ∙ sym (ap (state_from s) (cut rs k x h is)) ∙ inv
 
-one_stopped : (rs : List Request) (k : ℕ) (x : Request) (s t : State) (all : Result State Placed) (stop : Stop) → k < length rs → x ≡ slice_index_or rs k x →
-    ((code : StateCode) → stop ≡ Fault code → after (plain x) s ≡ Err code) → state_from s (map plain (drop k rs)) ≡ all → GivesState {A = Unit {0}} (Err (stopped_at (plain x).line stop)) all t
-one_stopped rs k x s t all (Fault code) h is to inv =
+one_stopped : (rs : List Request) (k : ℕ) (x : Request) (s t : State) (all : Result State Placed) (stop : StepFault) → k < length rs → x ≡ slice_index_or rs k x →
+    ((code : StateCode) → stop ≡ Refused code → after (plain x) s ≡ Err code) → state_from s (map plain (drop k rs)) ≡ all → GivesState {A = Unit {0}} (Err (fault_at (plain x).line stop)) all t
+one_stopped rs k x s t all (Refused code) h is to inv =
     let rest = map plain (drop (k + 1) rs) in
     sym inv ∙ ap (state_from s) (cut rs k x h is) ∙ ap (λ st. and_then st (plain x).line (λ u. state_from u rest)) (to code refl)
 one_stopped rs k x s t all NoMemory h is to inv = tt

@@ -1,0 +1,5 @@
+pub mod Lists
+pub mod Runs
+pub mod Values
+pub mod Seating
+pub mod Room

@@ -1,0 +1,41 @@
+use Rattle.std.proofs.Common.{◌∙◌, ap, sym, subst, ◌*◌, ◌++◌, [], ◌∷◌, None, All}
+use Rattle.mesh_basis.specs.Meshes.{patch_at, all_from}
+use Rattle.primitives.specs.declared.seat.Seat.{Seat}
+use Rattle.primitives.specs.Variables.{mesh_seat, IsThere}
+use Rattle.primitives.specs.Patches.{PatchValue, held_of, patch_with}
+use Rattle.primitives.proofs.Seating.{mesh_start, mesh_next, mesh_none, mesh_end}
+use Rattle.primitives.proofs.meshes.mesh_seated.Goals as goal
+
+pub returns-in_default : goal.returns-in_default
+returns-in_default c =
+    let n = c.args.counts.along_u * c.args.counts.along_v in
+    let f = patch_at c.args.points.now c.args.shape.now c.args.counts.along_u in
+    let seats = mesh_seat c.args.shape.now c.args.counts in
+    let params = held_of c.args.params.now in
+    sym (mesh_start params seats (all_from f 0 n))
+    ∙ mesh_none f params seats c.loop-k.k n c.loop-k.all.items _ c.loop-k-test.true (sym c.patch_at.ensures ∙ c.in_default.is) c.loop-k.invariant
+
+pub loop-k-preserved : goal.loop-k-preserved
+loop-k-preserved c =
+    let n = c.args.counts.along_u * c.args.counts.along_v in
+    let f = patch_at c.args.points.now c.args.shape.now c.args.counts.along_u in
+    let seats = mesh_seat c.args.shape.now c.args.counts in
+    let params = held_of c.args.params.now in
+    let p = c.in-Some.patch in
+    let done = c.loop-k.all.items in
+    mesh_next f params seats c.loop-k.k n p done c.push.new.self.items _ c.loop-k-test.true (sym c.patch_at.ensures ∙ c.in-Some.is)
+    (c.in_ok-push.ensures.items ∙ ap (λ (x : PatchValue). done ++ x ∷ []) (c.in_ok-placed.ensures ∙ ap (λ (seat : Seat). patch_with params None seat p) c.mesh_seat-seat.ensures.value))
+    c.loop-k.invariant
+
+pub returns : goal.returns
+returns c =
+    let n = c.args.counts.along_u * c.args.counts.along_v in
+    let f = patch_at c.args.points.now c.args.shape.now c.args.counts.along_u in
+    let seats = mesh_seat c.args.shape.now c.args.counts in
+    let params = held_of c.args.params.now in
+    sym (mesh_start params seats (all_from f 0 n))
+    ∙ mesh_end f params seats c.loop-k.k n c.loop-k.all.items _ c.loop-k-test.false c.loop-k.invariant
+
+pub patch_with-requires-clause-there : goal.patch_with-requires-clause-there
+patch_with-requires-clause-there c =
+    subst (λ seat. All (IsThere seat) (held_of c.args.params.now)) (sym c.mesh_seat-seat.ensures.value) (c.requires.there c.loop-k.k c.loop-k-test.true)

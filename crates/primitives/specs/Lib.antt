@@ -1,0 +1,4 @@
+pub mod Variables
+pub mod Points
+pub mod Patches
+pub mod Answers

@@ -1,0 +1,117 @@
+-- The patches of a primitive by its request, its bases, its map to camera space, and the room that its frame has left
+-- (RenderMan Interface 3.2, sections 5.1 and 5.2).
+use Rattle.std.specs.Prelude.{ℕ, ◌+◌, ◌*◌, nat_lt, not, List, [], ◌∷◌, ◌++◌, length, take, drop, map, Option, Some, None, Result, Ok, Err, if◌then◌else◌}
+use Rattle.std.specs.List.{sum_by}
+use Rattle.std.specs.Borrow.{Bor}
+use Rattle.fixed_math.specs.declared.vec3.Vec3.{Vec3}
+use Rattle.transforms.specs.Map.{Map}
+use Rattle.patches.specs.declared.patch.Patch.{Patch}
+use Rattle.scene.specs.declared.params.Param.{Param}
+use Rattle.scene.specs.Scene.{VariableValue}
+use Rattle.rib_reader.specs.declared.args.Arg.{Arg}
+use Rattle.rib_reader.specs.declared.req.Req.{Req}
+use Rattle.rib_reader.specs.declared.req.Req.TheVariants as reqs
+use Rattle.rib_reader.specs.Lists.{points_in}
+use Rattle.rib_reader.specs.Reading.{Read}
+use Rattle.mesh_basis.specs.declared.shape.Shape.{Shape}
+use Rattle.mesh_basis.specs.declared.counts.Counts.{Counts}
+use Rattle.mesh_basis.specs.Ranges.{are_in_range}
+use Rattle.mesh_basis.specs.Counts.{counts_of}
+use Rattle.mesh_basis.specs.Meshes.{patches_in}
+use Rattle.mesh_basis.specs.Polygons.{piece_count, pieces_of, flat_normal}
+use Rattle.scene_parts.specs.Bases.{BasisValues, patch_shape, mesh_shape}
+use Rattle.scene_parts.specs.Faces.{FaceValues, one_face, faces_in}
+use Rattle.scene_parts.specs.declared.code.StateCode.{StateCode}
+use Rattle.scene_parts.specs.declared.code.StateCode.TheVariants.{G5, M3, M7}
+use Rattle.primitives.specs.declared.seat.Seat.{Seat}
+use Rattle.primitives.specs.Variables.{variables_in, are_counted, variables_of, mesh_extent, mesh_seat, faces_extent, face_seat}
+use Rattle.primitives.specs.Points.{placed_points, face_points}
+
+-- a patch of a primitive: its surface in camera space, the normal of the flat face that it is a piece of, its place in its mesh as
+-- column, columns, row and rows, and its values of the primitive's variables
+pub record PatchValue : Type 0 where
+  pub patch : Patch
+  pub flat : Option Vec3
+  pub place : List ℕ
+  pub vars : List VariableValue
+
+-- variables that are borrowed
+abbrev pub held_of : List (Bor Param) → List Param
+held_of params = map (λ p. p.now) params
+
+-- the patch that stands there in its primitive, with its values of these variables
+abbrev pub patch_with : List Param → Option Vec3 → Seat → Patch → PatchValue
+patch_with params flat seat patch = record { patch = patch; flat = flat; place = seat.place; vars = variables_of seat params }
+
+-- patches one after another, the first of these being patch k of those that stand so in their primitive
+unfoldable pub seated : List Param → Option Vec3 → (ℕ → Seat) → ℕ → List Patch → List PatchValue
+seated params flat seats k [] = []
+seated params flat seats k (p ∷ ps) = patch_with params flat (seats k) p ∷ seated params flat seats (k + 1) ps
+
+-- all patches of a primitive, or its first fault
+abbrev pub Made : Type 0
+Made = Result (List PatchValue) StateCode
+
+-- ---- patches and meshes
+
+-- where each control point is in range
+abbrev pub mesh_seated : List Param → (ℕ → Seat) → Option (List Patch) → Made
+mesh_seated params seats None = Err M7
+mesh_seated params seats (Some ps) = Ok (seated params None seats 0 ps)
+
+-- as many points as the shape has, as many values of each variable as its class has, room in the frame, and then each point in
+-- range
+abbrev pub mesh_counted : List Param → Shape → ℕ → List Vec3 → Option Counts → Made
+mesh_counted params shape room ps None = Err G5
+mesh_counted params shape room ps (Some c) =
+    if not (are_counted (mesh_extent shape c) params) then Err G5
+    else if nat_lt room (c.along_u * c.along_v) then Err M3
+    else mesh_seated params (mesh_seat shape c) (patches_in ps shape c)
+
+abbrev pub mesh_patches : List Param → Shape → ℕ → List Vec3 → Made
+mesh_patches params shape room ps = mesh_counted params shape room ps (counts_of shape (length ps))
+
+-- ---- polygons
+
+-- a face is taken apart; each of its pieces has the normal of the face
+abbrev pub face_patches : List Param → (ℕ → Seat) → List Vec3 → List PatchValue
+face_patches params seats ps = seated params (Some (flat_normal ps)) seats 0 (pieces_of ps)
+
+-- the pieces of a face whose points stand at these places
+abbrev pub pieces_at : List Param → List Vec3 → ℕ → ℕ → List ℕ → List PatchValue
+pieces_at params ps face first places = face_patches params (face_seat face first places) (face_points ps places)
+
+-- faces one after another, the first of these being that face of its primitive, and its first corner that one of all corners
+unfoldable pub faces_from : List Param → List Vec3 → ℕ → ℕ → List ℕ → List ℕ → List PatchValue
+faces_from params ps face first [] corners = []
+faces_from params ps face first (n ∷ ns) corners =
+    pieces_at params ps face first (take n corners) ++ faces_from params ps (face + 1) (first + n) ns (drop n corners)
+
+-- as many values of each variable as its class has, room in the frame, and then each point in range, those that no face has too
+abbrev pub faces_patches : List Param → ℕ → List Vec3 → Option FaceValues → Made
+faces_patches params room ps None = Err G5
+faces_patches params room ps (Some f) =
+    if not (are_counted (faces_extent (length ps) f) params) then Err G5
+    else if nat_lt room (sum_by piece_count f.sizes) then Err M3
+    else if are_in_range ps then Ok (faces_from params ps 0 0 f.sizes f.corners)
+    else Err M7
+
+-- ---- primitives by their requests
+
+-- the patches over these points; other requests than those of primitives have none
+abbrev pub patches_over : Req → List Arg → BasisValues → List Param → ℕ → List Vec3 → Made
+patches_over reqs.Patch args bases params room ps = mesh_patches params (patch_shape args bases) room ps
+patches_over reqs.PatchMesh args bases params room ps = mesh_patches params (mesh_shape args bases) room ps
+patches_over reqs.Polygon args bases params room ps = faces_patches params room ps (one_face (length ps))
+patches_over reqs.PointsPolygons args bases params room ps = faces_patches params room ps (faces_in (length ps) args)
+patches_over _ args bases params room ps = Ok []
+
+abbrev pub over_points : Option (List Vec3) → (List Vec3 → Made) → Made
+over_points None form = Err G5
+over_points (Some ps) form = form ps
+
+-- the patches of a primitive under this map, of which its frame may take so many more, or its first fault: of the points, then of the
+-- variables, then of the room, then of the range
+abbrev pub patches_of : Read → BasisValues → Map → ℕ → Made
+patches_of r bases object room =
+    over_points (placed_points object (points_in r.params)) (patches_over r.name r.args bases (variables_in r.params) room)

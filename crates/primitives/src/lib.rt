@@ -1,0 +1,16 @@
+//! The patches of primitives: what a primitive's request, its bases and its map to camera space give
+//! (RenderMan Interface 3.2, sections 5.1 and 5.2).
+#![tactic(auto)]
+
+mod faces;
+mod fault;
+mod meshes;
+mod patch;
+mod points;
+mod requests;
+mod seat;
+mod variables;
+
+pub use fault::PrimitiveFault;
+pub use patch::PrimitivePatch;
+pub use requests::patches_of;

@@ -1,0 +1,53 @@
+// A patch of a primitive.
+ghost use Rattle.std.specs.Prelude.{◌≡◌, All, IfOk};
+ghost use Rattle.scene.specs.Scene.{IsPlace};
+ghost use Rattle.primitives.specs.Variables.{IsThere};
+ghost use Rattle.primitives.specs.Patches.{PatchValue, held_of, patch_with};
+
+use crate::seat::Seat;
+use crate::variables::variables_of;
+use fixed_math::{List, NoMemory, Vec3};
+use patches::Patch;
+use scene::{Param, Variable};
+use std::alloc::Global;
+use std::marker::Model;
+
+/// A patch of a primitive: its surface in camera space, the normal of the flat face that it is a piece of, the column c of m and the
+/// row d of n that it has in its mesh, as [c, m, d, n], and its values of the primitive's variables. Contracts see it as a record.
+#[derive(Drop)]
+pub struct PrimitivePatch {
+    pub patch: Patch,
+    pub flat: Option<Vec3>,
+    pub place: [u32; 4],
+    pub vars: List<Variable>,
+}
+
+impl Model for PrimitivePatch {
+    ghost Value = { PatchValue };
+
+    ghost view = { λ p. record { patch = p.patch; flat = p.flat; place = p.place; vars = p.vars } };
+
+    ghost invariant = { λ p. IsPlace p.place };
+}
+
+/// The patch that stands there in its primitive, with its values of these variables.
+pub(crate) fn patch_with(
+    alloc: Global,
+    params: &[&Param],
+    flat: Option<Vec3>,
+    seat: Seat,
+    patch: Patch,
+) -> Result<PrimitivePatch, NoMemory>
+    requires place { IsPlace seat.place }
+    requires there { All (IsThere seat) (held_of params.now) }
+    ensures { IfOk result (λ p. p ≡ patch_with (held_of params.now) flat seat patch) }
+{
+    let vars = variables_of(alloc, &seat, params)?;
+    let place = seat.place;
+    Ok(PrimitivePatch {
+        patch,
+        flat,
+        place,
+        vars,
+    })
+}

@@ -1,0 +1,81 @@
+// The patches of primitives by their requests.
+ghost use Rattle.std.specs.Prelude.{◌≡◌, ◌≤◌, true, All, IfOk, length};
+ghost use Rattle.rib_reader.specs.Reading.{plain};
+ghost use Rattle.rib_reader.specs.Table.{row_of};
+ghost use Rattle.rib_reader.specs.Lists.{is_geometry};
+ghost use Rattle.scene.specs.Scene.{most_prims};
+ghost use Rattle.primitives.specs.Variables.{IsOfKind};
+ghost use Rattle.primitives.specs.Patches.{held_of, patches_over, patches_of};
+ghost use Rattle.primitives.specs.Answers.{GivesMade};
+
+use crate::faces::faces_patches;
+use crate::fault::PrimitiveFault;
+use crate::meshes::mesh_patches;
+use crate::patch::PrimitivePatch;
+use crate::points::placed_points;
+use crate::variables::variables_in;
+use fixed_math::{List, Vec3};
+use rib_reader::{Req, Request};
+use scene::Param;
+use scene_parts::{Bases, StateCode, faces_in, one_face};
+use std::alloc::Global;
+use transforms::Affine;
+
+// The patches of a request over these points, with these variables.
+fn patches_over(
+    alloc: Global,
+    request: &Request,
+    bases: Bases,
+    params: &[&Param],
+    room: usize,
+    points: &[Vec3],
+) -> Result<List<PrimitivePatch>, PrimitiveFault>
+    requires room { room ≤ most_prims }
+    requires kinds { All IsOfKind (held_of params.now) }
+    ensures { GivesMade result (patches_over request.now.name request.now.args bases (held_of params.now) room points.now) }
+{
+    match request.name {
+        Req::Patch => {
+            let shape = bases.patch_shape(request);
+            mesh_patches(alloc, params, &shape, room, points)
+        }
+        Req::PatchMesh => {
+            let shape = bases.mesh_shape(request);
+            mesh_patches(alloc, params, &shape, room, points)
+        }
+        Req::Polygon => {
+            let faces = one_face(alloc, points.len())?;
+            faces_patches(alloc, params, room, points, faces)
+        }
+        Req::PointsPolygons => {
+            let faces = faces_in(alloc, request, points.len())?;
+            faces_patches(alloc, params, room, points, faces)
+        }
+        _ => Ok(List(Vec::new(alloc))),
+    }
+}
+
+/// All patches of a primitive, in order, whose object space this map takes to camera space, in a frame that may take `room` patches
+/// more; other requests than those of primitives have none.
+///
+/// The first fault that stands is the answer: `G5`, where the points aren't as many as the primitive has, and then where a variable
+/// has another number of values than its class; `M3`, where the patches are more than the room; `M7`, where a raw coordinate of a
+/// point in camera space, or of a control point that is made of them, passes 2^30. Else it is want of memory.
+pub fn patches_of(
+    alloc: Global,
+    request: &Request,
+    bases: Bases,
+    object: &Affine,
+    room: usize,
+) -> Result<List<PrimitivePatch>, PrimitiveFault>
+    requires primitive { is_geometry (row_of request.now.name).tail ≡ true }
+    requires room { room ≤ most_prims }
+    ensures made { GivesMade result (patches_of (plain request.now) bases object.now room) }
+    ensures few { IfOk result (λ patches. length patches ≤ room) }
+{
+    let Some(points) = placed_points(alloc, object, request)? else {
+        return Err(PrimitiveFault::Refused(StateCode::G5));
+    };
+    let params = variables_in(alloc, request)?;
+    patches_over(alloc, request, bases, &params, room, points.as_slice())
+}

@@ -1,6 +1,0 @@
-use Rattle.std.proofs.Common.{◌≡◌, map, take}
-use Rattle.mesh_basis.specs.Polygons.{point}
-use Rattle.scene_state.proofs.points.face_points.Given as goal
-
-abbrev pub invariant-loop-corner : goal.invariant-loop-corner
-invariant-loop-corner l = l.face.items ≡ map (point l.points) (take l.corner-index l.corners)

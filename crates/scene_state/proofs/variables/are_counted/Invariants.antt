@@ -1,6 +1,0 @@
-use Rattle.std.proofs.Common.{◌≡◌, drop, map}
-use Rattle.scene_state.specs.Variables.{are_counted}
-use Rattle.scene_state.proofs.variables.are_counted.Given as goal
-
-abbrev pub invariant-loop-param : goal.invariant-loop-param
-invariant-loop-param l = are_counted l.extent (map (λ p. p.now) (drop l.param-index l.params)) ≡ are_counted l.extent (map (λ p. p.now) l.params)
