@@ -1,4 +1,5 @@
 mod Sums
+mod Bounded
 pub mod Scopes
 mod Lengths
 pub mod Leaves

@@ -1,3 +1,4 @@
+pub mod Counts
 pub mod Gives
 pub mod Leaving
 pub mod Nodes

@@ -1,12 +1,12 @@
 -- The statements that are nodes, and what stands behind the word or the name of a node.
-use Rattle.std.specs.Prelude.{ℕ, Bool, List, [], ◌∷◌, ◌++◌, ◌&&◌}
+use Rattle.std.specs.Prelude.{ℕ, Bool, false, List, [], ◌∷◌, ◌++◌, ◌&&◌}
 use Rattle.sl_ast.specs.declared.kinds.SlType.{SlType}
 use Rattle.sl_ast.specs.declared.kinds.ControlCode.TheVariants.{T3}
 use Rattle.sl_ast.specs.declared.kinds.LightStmt.{LightStmt}
 use Rattle.sl_ast.specs.declared.operations.Operation.{Operation}
 use Rattle.sl_ast.specs.declared.typed.TreeFormal.{TreeFormal}
 use Rattle.sl_ast.specs.Typed.{Expr, Exprs, Stmt, Stmts, group}
-use Rattle.sl_ast.specs.Classes.{classes, classes_stmt, classes_stmts, formal_classes, after_all, is_uniform, is_uniform_loop}
+use Rattle.sl_ast.specs.Classes.{classes, classes_args, classes_stmt, classes_stmts, formal_classes, after_all, is_uniform, stmt_uniform, stmts_uniform, is_uniform_loop}
 use Rattle.sl_ast.specs.Settled.{Spot, Settles, ◌then◌, unless, goes_wrong, settled_formals, in_control, in_loop, in_lights, settled_word, settled_operation, settled_declare, settled_set, settled_expr, settled_args, settled_stmt, settled_stmts}
 
 -- what a statement itself adds to the list of classes: a group is no node
@@ -14,11 +14,31 @@ abbrev pub node_class : Stmt → Bool → List Bool
 node_class (group body) u = []
 node_class _ u = u ∷ []
 
+-- the classes behind that of an `if`, of a `while`, and of a statement over lights
+abbrev pub branch_classes : Expr → Stmt → List Bool → Bool → List Bool
+branch_classes e s us u = classes e us u ++ classes_stmt s us (u && is_uniform e us)
+
+abbrev pub branches_classes : Expr → Stmt → Stmt → List Bool → Bool → List Bool
+branches_classes e s r us u = classes e us u ++ (classes_stmt s us (u && is_uniform e us) ++ classes_stmt r us (u && is_uniform e us))
+
+abbrev pub while_classes : Expr → Stmt → List Bool → Bool → List Bool
+while_classes e s us u = classes e us (is_uniform_loop e s us u) ++ classes_stmt s us (is_uniform_loop e s us u)
+
+abbrev pub lights_classes : Exprs → Stmt → List Bool → Bool → List Bool
+lights_classes args s us u = classes_args args us u ++ classes_stmt s us false
+
 -- the classes behind that of a `for`
 abbrev pub for_classes : Stmts → Expr → Stmts → Stmt → List Bool → Bool → List Bool
 for_classes a e b s us u =
     classes_stmts a us u ++ (classes e us (is_uniform_loop e s us u) ++
     (classes_stmts b us (is_uniform_loop e s us u) ++ classes_stmt s us (is_uniform_loop e s us u)))
+
+-- nothing varying stands in the parts of an `if` with an `else`, and of a `for`
+abbrev pub branches_uniform : Expr → Stmt → Stmt → List Bool → Bool
+branches_uniform e s r us = is_uniform e us && (stmt_uniform s us && stmt_uniform r us)
+
+abbrev pub for_uniform : Stmts → Expr → Stmts → Stmt → List Bool → Bool
+for_uniform a e b s us = stmts_uniform a us && (is_uniform e us && (stmts_uniform b us && stmt_uniform s us))
 
 -- the faults of an operation, a call and its inside
 abbrev pub settled_applied : Operation → Exprs → ℕ → List Bool → Spot → Bool → Settles

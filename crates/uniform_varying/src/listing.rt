@@ -1,9 +1,9 @@
 // The classes of all nodes.
-ghost use Rattle.std.specs.Prelude.{◌≡◌, ◌++◌, ◌&&◌, map, IfOk, OnOk, false};
+ghost use Rattle.std.specs.Prelude.{◌≡◌, ◌++◌, map, IfOk, OnOk};
 ghost use Rattle.sl_ast.specs.Typed.{exprs, stmts};
 ghost use Rattle.sl_ast.specs.TypedView.{tree_expr, tree_stmt, default_of};
 ghost use Rattle.sl_ast.specs.Classes as spec;
-ghost use Rattle.uniform_varying.specs.Nodes.{node_class, for_classes};
+ghost use Rattle.uniform_varying.specs.Nodes.{node_class, branch_classes, branches_classes, while_classes, for_classes, lights_classes};
 
 use crate::leaving::{in_branch, is_uniform_loop};
 use crate::scope::{class_of, enter, enter_all, formal_classes};
@@ -142,7 +142,7 @@ fn list_branch(
     uniform: bool,
     list: &mut Vec<bool>,
 ) -> Result<(), AllocError>
-    ensures list { OnOk result (list.new.items ≡ list.old.items ++ (spec.classes (tree_expr test.now) us.old.items uniform ++ spec.classes_stmt (tree_stmt then.now) us.old.items (uniform && spec.is_uniform (tree_expr test.now) us.old.items))) }
+    ensures list { OnOk result (list.new.items ≡ list.old.items ++ branch_classes (tree_expr test.now) (tree_stmt then.now) us.old.items uniform) }
     ensures same { OnOk result (us.new.items ≡ us.old.items) }
 {
     list_expr(test, alloc, us, uniform, list)?;
@@ -162,7 +162,7 @@ fn list_branches(
     uniform: bool,
     list: &mut Vec<bool>,
 ) -> Result<(), AllocError>
-    ensures list { OnOk result (list.new.items ≡ list.old.items ++ (spec.classes (tree_expr test.now) us.old.items uniform ++ (spec.classes_stmt (tree_stmt then.now) us.old.items (uniform && spec.is_uniform (tree_expr test.now) us.old.items) ++ spec.classes_stmt (tree_stmt otherwise.now) us.old.items (uniform && spec.is_uniform (tree_expr test.now) us.old.items)))) }
+    ensures list { OnOk result (list.new.items ≡ list.old.items ++ branches_classes (tree_expr test.now) (tree_stmt then.now) (tree_stmt otherwise.now) us.old.items uniform) }
     ensures same { OnOk result (us.new.items ≡ us.old.items) }
 {
     list_expr(test, alloc, us, uniform, list)?;
@@ -182,7 +182,7 @@ fn list_while(
     uniform: bool,
     list: &mut Vec<bool>,
 ) -> Result<(), AllocError>
-    ensures list { OnOk result (list.new.items ≡ list.old.items ++ (spec.classes (tree_expr test.now) us.old.items (spec.is_uniform_loop (tree_expr test.now) (tree_stmt body.now) us.old.items uniform) ++ spec.classes_stmt (tree_stmt body.now) us.old.items (spec.is_uniform_loop (tree_expr test.now) (tree_stmt body.now) us.old.items uniform))) }
+    ensures list { OnOk result (list.new.items ≡ list.old.items ++ while_classes (tree_expr test.now) (tree_stmt body.now) us.old.items uniform) }
     ensures same { OnOk result (us.new.items ≡ us.old.items) }
 {
     let inside = is_uniform_loop(test, body, alloc, us, uniform)?;
@@ -224,7 +224,7 @@ fn list_lights(
     uniform: bool,
     list: &mut Vec<bool>,
 ) -> Result<(), AllocError>
-    ensures list { OnOk result (list.new.items ≡ list.old.items ++ (spec.classes_args (exprs (map tree_expr args.now)) us.old.items uniform ++ spec.classes_stmt (tree_stmt body.now) us.old.items false)) }
+    ensures list { OnOk result (list.new.items ≡ list.old.items ++ lights_classes (exprs (map tree_expr args.now)) (tree_stmt body.now) us.old.items uniform) }
     ensures same { OnOk result (us.new.items ≡ us.old.items) }
 {
     list_args(args, alloc, us, uniform, list)?;

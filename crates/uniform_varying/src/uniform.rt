@@ -3,6 +3,7 @@ ghost use Rattle.std.specs.Prelude.{◌≡◌, ◌&&◌, map, IfOk, OnOk};
 ghost use Rattle.sl_ast.specs.Typed.{exprs, stmts};
 ghost use Rattle.sl_ast.specs.TypedView.{tree_expr, tree_stmt};
 ghost use Rattle.sl_ast.specs.Classes as spec;
+ghost use Rattle.uniform_varying.specs.Nodes as nodes;
 
 use crate::scope::{all_uniform, class_of, enter, enter_all, formal_classes};
 use sl_ast::{TreeExpr, TreeStmt};
@@ -138,7 +139,7 @@ fn branches_uniform(
     alloc: Global,
     us: &mut Vec<bool>,
 ) -> Result<bool, AllocError>
-    ensures class { IfOk result (λ u. u ≡ (spec.is_uniform (tree_expr test.now) us.old.items && (spec.stmt_uniform (tree_stmt then.now) us.old.items && spec.stmt_uniform (tree_stmt otherwise.now) us.old.items))) }
+    ensures class { IfOk result (λ u. u ≡ nodes.branches_uniform (tree_expr test.now) (tree_stmt then.now) (tree_stmt otherwise.now) us.old.items) }
     ensures same { OnOk result (us.new.items ≡ us.old.items) }
 {
     if !is_uniform(test, alloc, us)? {
@@ -157,7 +158,7 @@ fn for_uniform(
     alloc: Global,
     us: &mut Vec<bool>,
 ) -> Result<bool, AllocError>
-    ensures class { IfOk result (λ u. u ≡ (spec.stmts_uniform (stmts (map tree_stmt first.now)) us.old.items && (spec.is_uniform (tree_expr test.now) us.old.items && (spec.stmts_uniform (stmts (map tree_stmt step.now)) us.old.items && spec.stmt_uniform (tree_stmt body.now) us.old.items)))) }
+    ensures class { IfOk result (λ u. u ≡ nodes.for_uniform (stmts (map tree_stmt first.now)) (tree_expr test.now) (stmts (map tree_stmt step.now)) (tree_stmt body.now) us.old.items) }
     ensures same { OnOk result (us.new.items ≡ us.old.items) }
 {
     if !stmts_uniform(first, alloc, us)? || !is_uniform(test, alloc, us)? {
