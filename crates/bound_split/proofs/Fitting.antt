@@ -1,3 +1,4 @@
+-- A size is at most 4.
 use Rattle.std.proofs.Common.{◌≡◌, ℕ, ◌<◌, ◌≤◌, arith, refl, Bool, true, false, cond, Option, Some, None, unwrap_or, nat_lt, nat_le, List, ℤ, ◌+ℤ◌, ◌-ℤ◌, int_lt, map, ◌*◌, ◌^◌, ◌&&◌}
 use Rattle.std.proofs.lemmas.Bool.Decides.{nat_tests}
 use Rattle.fixed_math.specs.declared.vec3.Vec3.{Vec3}

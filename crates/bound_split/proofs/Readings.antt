@@ -1,3 +1,4 @@
+-- Places read back from fewer bits.
 use Rattle.std.proofs.Common.{◌≡◌, ◌∙◌, ℕ, ◌+◌, ◌≤◌, ◌<◌, ◌^◌, ap, sym, arith, map, ◌++◌, List, [], ◌∷◌, take, get_or, length, ℤ, unsigned_abs, to_z, of_z, w32, w64}
 use Rattle.std.proofs.lemmas.Int.{ints}
 use Rattle.std.proofs.lemmas.List.{map_more}

@@ -1,3 +1,4 @@
+-- The leaves below a piece that is split.
 use Rattle.std.proofs.Common.{◌≡◌, ℕ, zero, suc, ◌+◌, ◌-◌, ◌<◌, ◌≤◌, arith, refl, sym, List, [], ◌∷◌, ◌++◌, length, append_assoc, append-nil, length-append}
 use Rattle.bound_split.specs.declared.splits.Decision.{Decision}
 use Rattle.bound_split.specs.declared.splits.Decision.TheVariants.{SplitU, SplitV, Dice}

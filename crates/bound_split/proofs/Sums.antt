@@ -1,3 +1,4 @@
+-- Sums and maxima with one more term.
 use Rattle.std.proofs.Common.{◌≡◌, ℕ, zero, suc, ◌+◌, ◌-◌, ◌*◌, ◌/◌, ◌%◌, ◌<◌, ◌≤◌, max, ap, arith, refl, add-one, List}
 use Rattle.std.proofs.Math.Nat.{mul-le-mul_left}
 use Rattle.bound_split.specs.declared.lengths.Place.{Place}

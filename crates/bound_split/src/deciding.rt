@@ -1,3 +1,4 @@
+// The split decision of a piece: its four rules.
 ghost use Rattle.std.specs.Prelude.{◌≡◌, ◌≤◌, ◌<◌, ◌%◌, ◌^◌, pos, ◌+ℤ◌, ◌-ℤ◌, ◌≤ℤ◌, int_lt, length};
 ghost use Rattle.fixed_math.specs.declared.vec3.Axis.TheVariants.{Z};
 ghost use Rattle.fixed_math.specs.Axes.{least, greatest};

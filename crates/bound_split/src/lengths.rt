@@ -1,3 +1,4 @@
+// Lengths of nets on the raster.
 ghost use Rattle.std.specs.Prelude.{◌≡◌, ◌≤◌, ◌<◌, ◌+◌, ◌*◌, ◌%◌, ◌^◌, ◌≤ℤ◌, All, length, map};
 ghost use Rattle.transforms.specs.declared.view.View.{View};
 ghost use Rattle.bound_split.specs.Lengths.{place_of, step_length, line_length, rows_length, columns_length};

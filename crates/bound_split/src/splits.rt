@@ -1,3 +1,4 @@
+// What becomes of a piece, and its halves.
 ghost use Rattle.std.specs.Prelude.{◌≡◌, ◌<◌, MatchBool, [], ◌∷◌, if◌then◌else◌};
 ghost use Rattle.patches.specs.Parts.{low_u, high_u, low_v, high_v};
 

@@ -1,3 +1,4 @@
+// The walk over the tree of splits, leaf after leaf.
 ghost use Rattle.std.specs.Prelude.{◌≡◌, ◌≤◌, ◌<◌, ◌+◌, ℕ, List, [], ◌∷◌, ◌++◌, Bool, true, length, filter, MatchOption, IfSome, OnSome, IfNone, pos, ◌≤ℤ◌};
 ghost use Rattle.patches.specs.Parts.{Part, IsPart};
 ghost use Rattle.bound_split.specs.declared.splits.Decision.{Decision};

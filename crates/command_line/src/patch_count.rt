@@ -1,3 +1,4 @@
+// The number of patches of a demonstration scene.
 ghost use Rattle.std.specs.Prelude.{◌≤◌};
 
 /// How many patches a demonstration scene has, 1 to 1,000.

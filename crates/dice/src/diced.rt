@@ -1,3 +1,4 @@
+// Grids in an arena: diced ones, and shaded ones.
 ghost use Rattle.std.specs.Prelude.{◌≡◌, ◌≤◌, ◌*◌, ◌+◌, ◌^◌, ℕ, List, length, IfOk};
 ghost use Rattle.patches.specs.Boxes.{IsWithin};
 ghost use Rattle.patches.specs.Lists.{Each};

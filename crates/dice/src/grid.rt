@@ -1,3 +1,4 @@
+// The lines of a diced grid and the points on them.
 ghost use Rattle.std.specs.Prelude.{◌≡◌, ◌≤◌, ◌<◌, ◌*◌, ◌+◌, ◌^◌, ℕ, List, ◌++◌, length, map, IfOk};
 ghost use Rattle.std.specs.List.{range_with_len};
 ghost use Rattle.patches.specs.Boxes.{IsWithin};

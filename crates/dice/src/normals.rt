@@ -1,3 +1,4 @@
+// The normals of a diced grid.
 ghost use Rattle.std.specs.Prelude.{◌≡◌, ◌≤◌, ◌<◌, ◌*◌, ◌+◌, ◌^◌, ℕ, pos, ◌*ℤ◌, ◌-ℤ◌, List, ◌++◌, length, map, unsigned_abs, slice_index_or, IfOk};
 ghost use Rattle.std.specs.List.{range_with_len};
 ghost use Rattle.patches.specs.Slopes.{AreBelow};

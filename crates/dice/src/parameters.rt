@@ -1,3 +1,4 @@
+// What a shader reads of its place on a primitive: parameters, steps and derivatives.
 ghost use Rattle.std.specs.Prelude.{◌≡◌, ◌≤◌, ◌<◌, ◌^◌, ℕ, pos, ◌*ℤ◌, List, unsigned_abs};
 ghost use Rattle.fixed_math.specs.Fixed.{sat};
 ghost use Rattle.patches.specs.Slopes.{AreBelow};

@@ -1,3 +1,4 @@
+-- Laws of blossoms.
 use Rattle.std.proofs.Common.{◌≡◌, ℕ, zero, suc, ◌+◌, ◌≤◌, ap, arith, subst, refl, sym, ◌∙◌, List, [], ◌∷◌, ◌++◌, length}
 use Rattle.std.specs.Prelude.{ℤ, ◌≤ℤ◌, replicate}
 use Rattle.fixed_math.specs.Blossom.{mix, denominator, blossom, ends, AllFromTo}

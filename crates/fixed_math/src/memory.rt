@@ -1,3 +1,4 @@
+// Want of memory.
 ghost use Rattle.std.specs.Prelude.{◌≡◌};
 ghost use Rattle.fixed_math.specs.declared.memory.NoMemory.{NoMemory};
 

@@ -1,3 +1,4 @@
+// Names in the order of their declaration, found by a look-up.
 ghost use Rattle.std.specs.Prelude.{◌≡◌, ℕ, List, Option, IsSome};
 ghost use Rattle.std.specs.Map.{update};
 ghost use Rattle.std.specs.Str.{bytes_eq};

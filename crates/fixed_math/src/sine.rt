@@ -1,3 +1,4 @@
+// Sine and cosine.
 ghost use Rattle.std.specs.Prelude.{◌≡◌, ℕ, ◌<◌, ◌≤◌, pos, negsuc, ◌≤ℤ◌, unsigned_abs};
 ghost use Rattle.fixed_math.specs.Fixed.{IsRaw};
 ghost use Rattle.fixed_math.specs.Whole.{floor_by};

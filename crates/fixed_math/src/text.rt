@@ -1,3 +1,4 @@
+// Texts of ASCII bytes.
 ghost use Rattle.std.specs.Prelude.{◌≡◌, ◌↔◌, IfOk, IsTrue, List, ℕ};
 ghost use Rattle.std.specs.Str.{IsAscii};
 ghost use Rattle.std.specs.String.{string_bytes};

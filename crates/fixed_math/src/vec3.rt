@@ -1,3 +1,4 @@
+// Three numbers: points, vectors, normals, colours.
 ghost use Rattle.std.specs.Prelude.{◌≡◌};
 
 use crate::num::Num;

@@ -1,3 +1,4 @@
+-- Products of places fit 64 bits.
 use Rattle.std.proofs.Common.{◌≡◌, ◌^◌, ◌≤◌, ◌<◌, arith, refl, ◌∙◌, unsigned_abs, to_z, of_z, FitsSigned}
 use Rattle.std.specs.Prelude.{ℤ, ◌-ℤ◌, ◌*ℤ◌}
 use Rattle.std.specs.Int.{w64}

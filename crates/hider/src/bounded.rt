@@ -1,3 +1,4 @@
+// A micropolygon on the raster with its bounds.
 ghost use Rattle.std.specs.Prelude.{◌≡◌};
 ghost use Rattle.hider.specs.declared.quad.Quad.{Quad};
 ghost use Rattle.hider.specs.Bounding.{bounds_of};

@@ -1,3 +1,4 @@
+// A micropolygon in camera space.
 use fixed_math::Vec3;
 
 /// A corner of a micropolygon in camera space: its point, its colour and its opacity.

@@ -1,3 +1,4 @@
+// Micropolygons that may move.
 ghost use Rattle.std.specs.Prelude.{◌≡◌, ◌<◌};
 ghost use Rattle.hider.specs.CellValues.{CellValues, MovesBetween};
 

@@ -1,3 +1,4 @@
+// The composite of fragments.
 ghost use Rattle.std.specs.Prelude.{◌≡◌, ℤ, pos, ◌-ℤ◌, ◌==◌};
 ghost use Rattle.fixed_math.specs.Fixed.{mul};
 ghost use Rattle.hider.specs.Composite.{composite_from, composite, is_one, is_opaque, cut};

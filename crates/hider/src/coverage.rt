@@ -1,3 +1,4 @@
+// Whether a micropolygon covers a place, and what it shows there.
 ghost use Rattle.std.specs.Prelude.{◌≡◌, ◌≤◌, ◌^◌, ◌≤ℤ◌, ◌<ℤ◌, ◌*ℤ◌, pos, true, unsigned_abs};
 ghost use Rattle.fixed_math.specs.Edges.{edge};
 ghost use Rattle.hider.specs.Coverage.{is_in_three, areas_at, covers_facing, covers_triangle, covers};

@@ -1,3 +1,4 @@
+// The side of an edge on which a place lies, and which edges own the places on them.
 ghost use Rattle.std.specs.Prelude.{◌≡◌, ◌≤◌, ◌^◌, ◌-ℤ◌, ◌*ℤ◌, unsigned_abs};
 ghost use Rattle.fixed_math.specs.Edges.{edge, owns, by_side, is_inside};
 

@@ -1,3 +1,4 @@
+// The points below and above all corners of a cell at two times.
 ghost use Rattle.std.specs.Prelude.{◌≡◌, ◌≤ℤ◌, IsTrue};
 ghost use Rattle.hider.specs.Extents.{IsBelow, IsBelowCell, IsAboveCell, HaveSamePoints};
 

@@ -1,3 +1,4 @@
+// The least and the greatest of four numbers.
 ghost use Rattle.std.specs.Prelude.{◌≡◌};
 ghost use Rattle.hider.specs.Bounding.{least_of, greatest_of};
 

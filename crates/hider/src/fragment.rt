@@ -1,3 +1,4 @@
+// What a micropolygon shows at a sample.
 use fixed_math::{Num, Vec3};
 
 /// What a micropolygon shows at a sample that it covers: its depth there, its colour and its opacity.

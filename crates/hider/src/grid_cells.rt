@@ -1,3 +1,4 @@
+// The micropolygons of a shaded grid.
 ghost use Rattle.std.specs.Prelude.{◌≡◌, ◌<◌, ◌+◌, ◌*◌, ◌-◌, ◌≤◌, ◌^◌, map, length};
 ghost use Rattle.hider.specs.Cells.{still, first_corner, cells_of};
 ghost use Rattle.hider.specs.CellValues.{CellValues, corner_number, grid_values, micropolygons_of, stays_between};

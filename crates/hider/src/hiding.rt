@@ -1,3 +1,4 @@
+// Cells put on the raster and into the samples that they cover.
 ghost use Rattle.std.specs.Prelude.{◌≡◌, ◌<◌, ◌≤ℤ◌, [], ◌∷◌, OnOk, length};
 ghost use Rattle.std.specs.List.{cons_option};
 ghost use Rattle.hider.specs.Cells.{still};

@@ -1,3 +1,4 @@
+// The fragments of a sample that can show.
 ghost use Rattle.std.specs.Prelude.{◌≡◌, ◌≤◌, ◌++◌, ◌∷◌, [], List, length, take, drop, cond, MatchOption, OnOk, OnErr};
 ghost use Rattle.hider.specs.declared.fragment.Fragment.{Fragment};
 ghost use Rattle.hider.specs.Composite.{is_opaque, cut};

@@ -1,3 +1,4 @@
+// The mean of numbers at the corners of a triangle.
 ghost use Rattle.std.specs.Prelude.{◌≡◌, ◌≤◌, ◌^◌, ◌<ℤ◌, ◌*ℤ◌, pos, true, unsigned_abs};
 ghost use Rattle.fixed_math.specs.Edges.{edge};
 ghost use Rattle.hider.specs.Coverage.{is_in_three, areas_at, mean_at, mean_colour_at, means_at};

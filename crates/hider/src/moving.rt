@@ -1,3 +1,4 @@
+// A micropolygon at the time of a sample.
 ghost use Rattle.std.specs.Prelude.{◌≡◌, ◌<◌};
 ghost use Rattle.hider.specs.CellValues.{cell_when, micropolygon_of};
 ghost use Rattle.hider.specs.Fragments.{fragment_of};

@@ -1,3 +1,4 @@
+// The samples that a box on the raster may hold, row by row.
 ghost use Rattle.std.specs.Prelude.{◌≡◌, ◌≤◌, ◌+◌, ◌-◌, ◌*◌, [], OnOk, length, unsigned_abs};
 ghost use Rattle.std.specs.List.{cons_option};
 ghost use Rattle.hider.specs.Searching.{IsPartOf, StaysIn, StaysInside};

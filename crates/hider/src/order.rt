@@ -1,3 +1,4 @@
+// The law of the order of fragments.
 ghost use Rattle.hider.specs.Fragments.{IsOnlyOrderOf};
 
 use crate::fragment::Fragment;

@@ -1,3 +1,4 @@
+// A micropolygon on the raster.
 use crate::spot::Spot;
 use fixed_math::{Num, Vec3};
 

@@ -1,3 +1,4 @@
+// A sample.
 use crate::spot::Spot;
 
 /// A sample: its place on the raster, and its time in 1/65536 of the shutter's interval.

@@ -1,3 +1,4 @@
+// Which samples a tile has.
 ghost use Rattle.std.specs.Prelude.{◌≡◌, ◌≤◌, ◌<◌, ◌+◌, ◌-◌, ◌*◌, ◌/◌, ◌%◌};
 ghost use Rattle.hider.specs.Tiles.{IsSampleGrid, sample_count, sample_of};
 

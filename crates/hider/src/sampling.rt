@@ -1,3 +1,4 @@
+// The sample of a cell of a pixel.
 ghost use Rattle.std.specs.Prelude.{◌≡◌, ◌≤◌, ◌<◌, ◌*◌};
 ghost use Rattle.hider.specs.Samples.{sample_at};
 

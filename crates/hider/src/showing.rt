@@ -1,3 +1,4 @@
+// What can show at samples.
 ghost use Rattle.std.specs.Prelude.{◌≡◌, Option};
 ghost use Rattle.hider.specs.declared.fragment.Fragment.{Fragment};
 ghost use Rattle.hider.specs.declared.sample.Sample.{Sample};

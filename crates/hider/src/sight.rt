@@ -1,3 +1,4 @@
+// What a camera sees of a micropolygon.
 ghost use Rattle.std.specs.Prelude.{◌≡◌, ◌≤◌, ◌≤ℤ◌, ◌^◌, ◌+ℤ◌, true, unsigned_abs};
 ghost use Rattle.hider.specs.Cells.{corner_of, projected, is_in_depth, is_all_in_depth, turn, is_turned_away, seen, quad_of};
 

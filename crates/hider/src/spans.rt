@@ -1,3 +1,4 @@
+// The pixels that a span of places meets.
 ghost use Rattle.std.specs.Prelude.{ℕ, ◌≡◌, ◌≤◌, ◌<◌, ◌+◌, ◌*◌, ◌^◌, ◌≤ℤ◌, ◌<ℤ◌, pos, unsigned_abs};
 ghost use Rattle.fixed_math.specs.Whole.{floor_by};
 ghost use Rattle.hider.specs.Searching.{IsPartOf, IsNear};

@@ -1,3 +1,4 @@
+// A place on the raster.
 ghost use Rattle.std.specs.Prelude.{◌≡◌, ◌≤◌, unsigned_abs};
 ghost use Rattle.fixed_math.specs.Spots.{Spot, IsOnRaster};
 

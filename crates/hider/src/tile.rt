@@ -1,3 +1,4 @@
+// A tile of samples, in which cells are hidden.
 ghost use Rattle.std.specs.Prelude.{ℕ, ◌≡◌, ◌<◌, ◌↔◌, true, [], ◌∷◌, map, IsTrue, IfOk, OnOk, List, length, slice_index_or};
 ghost use Rattle.hider.specs.declared.fragment.Fragment.{Fragment};
 ghost use Rattle.hider.specs.declared.sample.Sample.{Sample};

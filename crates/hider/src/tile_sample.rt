@@ -1,3 +1,4 @@
+// A sample of a tile with its fragments.
 ghost use Rattle.std.specs.Prelude.{◌≡◌, ◌≤◌, [], OnOk, length};
 ghost use Rattle.std.specs.List.{cons_option};
 ghost use Rattle.hider.specs.Tiles.{HasPut, HavePutBetween, HaveKept, HaveStayed};

@@ -1,3 +1,4 @@
+// The bases of bicubic patches, as weights.
 ghost use Rattle.std.specs.Prelude.{◌≡◌};
 ghost use Rattle.mesh_basis.specs.Bases.{sixths, one_at, weights, AreSmall};
 

@@ -1,3 +1,4 @@
+// A patch of some basis in Bezier form.
 ghost use Rattle.std.specs.Prelude.{◌≡◌, ◌≤◌, ◌<◌, ◌+◌, ◌*◌, ◌^◌, unsigned_abs, IfSome, slice_index_or, option_map, [], ◌++◌};
 ghost use Rattle.fixed_math.specs.Axes.{AreWithin, part_of, origin};
 ghost use Rattle.patches.specs.Boxes.{IsWithin};

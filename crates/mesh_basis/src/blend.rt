@@ -1,3 +1,4 @@
+// Blends of four numbers.
 ghost use Rattle.std.specs.Prelude.{◌≡◌, ◌≤◌, ◌+◌, ◌*◌, ◌^◌, ℕ, ◌*ℤ◌, unsigned_abs};
 ghost use Rattle.mesh_basis.specs.Bases.{blend, AreSmall};
 

@@ -1,3 +1,4 @@
+// How many patches a mesh has.
 ghost use Rattle.std.specs.Prelude.{◌≡◌, ◌≤◌, ◌<◌, ◌*◌, ◌^◌, IfSome};
 ghost use Rattle.mesh_basis.specs.Counts.{linear_count, cubic_count, count_along, counts_of};
 

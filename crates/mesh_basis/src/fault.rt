@@ -1,3 +1,4 @@
+// Why points are no patches.
 ghost use Rattle.std.specs.Prelude.{◌≡◌};
 ghost use Rattle.mesh_basis.specs.declared.fault.MeshFault.TheVariants.{NoMemory as OutOfMemory};
 

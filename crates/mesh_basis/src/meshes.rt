@@ -1,3 +1,4 @@
+// The patches of a mesh.
 ghost use Rattle.std.specs.Prelude.{◌≡◌, ◌≤◌, ◌<◌, ◌*◌, ◌^◌, true, length, Some};
 ghost use Rattle.mesh_basis.specs.Counts.{counts_of};
 ghost use Rattle.mesh_basis.specs.Ranges.{are_in_range};

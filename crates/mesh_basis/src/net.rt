@@ -1,3 +1,4 @@
+// The control points of one patch of a mesh.
 ghost use Rattle.std.specs.Prelude.{◌≡◌, ◌≤◌, ◌<◌, ◌+◌, ◌*◌, ◌^◌, length, [], ◌++◌};
 ghost use Rattle.fixed_math.specs.Axes.{AreWithin};
 ghost use Rattle.patches.specs.Boxes.{IsWithin};

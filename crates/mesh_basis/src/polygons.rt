@@ -1,3 +1,4 @@
+// The pieces of a polygon and its normal.
 ghost use Rattle.std.specs.Prelude.{◌≡◌, ◌≤◌, ◌<◌, ◌+◌, ◌-◌, ◌*◌, ◌^◌, ℕ, ℤ, ◌*ℤ◌, ◌-ℤ◌, true, length, unsigned_abs, IfOk, map, slice_index_or};
 ghost use Rattle.std.specs.List.{range_with_len};
 ghost use Rattle.fixed_math.specs.Axes.{AreWithin, part_of, origin};

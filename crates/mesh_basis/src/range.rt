@@ -1,3 +1,4 @@
+// The range of a primitive's points.
 ghost use Rattle.std.specs.Prelude.{◌≡◌, ◌≤◌, ◌^◌, unsigned_abs, IfSome};
 ghost use Rattle.patches.specs.Boxes.{IsWithin};
 ghost use Rattle.mesh_basis.specs.Ranges.{number_in_range, point_in_range, is_in_range, are_in_range};

@@ -1,3 +1,4 @@
+// The shape of a mesh.
 use crate::basis::Basis;
 
 /// The shape of a mesh (RenderMan Interface 3.2, section 5.2, `PatchMesh`): its kind, the numbers of its points along u and v,

@@ -1,3 +1,4 @@
+// Tests of the adapters over real files and writers.
 ghost use Rattle.std.specs.Prelude.{◌≡◌, false};
 
 use super::*;

@@ -1,3 +1,4 @@
+-- What the laws of boxes are made of.
 use Rattle.std.proofs.Common.{◌≡◌, ℕ, zero, suc, ◌+◌, ◌*◌, ◌^◌, ◌<◌, ◌≤◌, ap, arith, subst, refl, lit<, add-zero, sym, ◌∙◌, List, [], ◌∷◌, length, ⊎_elim}
 use Rattle.std.proofs.Math.Nat.{mul_assoc, pow-succ'}
 use Rattle.std.specs.Prelude.{ℤ, pos, neg_ℤ, unsigned_abs, ◌≤ℤ◌, ◌+ℤ◌, ◌-ℤ◌, ◌*ℤ◌}

@@ -1,3 +1,4 @@
+-- What holds of each item of joined lists.
 use Rattle.std.proofs.Common.{arith, List, [], ◌∷◌, ◌++◌, map}
 use Rattle.std.specs.Prelude.{ℤ, ◌≤ℤ◌}
 use Rattle.std.specs.Int.{int_min, int_max}

@@ -1,3 +1,4 @@
+// Bicubic patches.
 ghost use Rattle.std.specs.Prelude.{◌≡◌, ◌≤◌, ◌<◌, ◌*◌, ◌^◌, ℕ, ℤ, pos, ◌-ℤ◌, ◌*ℤ◌, ◌-◌, List, [], ◌∷◌, length, unsigned_abs, slice_index_or, ◌++◌, ◌+◌, map};
 ghost use Rattle.fixed_math.specs.declared.vec3.Vec3.{Vec3};
 ghost use Rattle.fixed_math.specs.Axes.{AreWithin, part_of, origin};

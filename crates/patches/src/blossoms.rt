@@ -1,3 +1,4 @@
+// Blossoms of cubic control numbers.
 ghost use Rattle.std.specs.Prelude.{◌≡◌, ◌≤◌, ◌*◌, ◌^◌, ◌-◌, ℕ, List, [], ◌∷◌, pos, ◌*ℤ◌, unsigned_abs, slice_index_or, ◌++◌};
 ghost use Rattle.fixed_math.specs.Blossom.{blossom, denominator, ends};
 ghost use Rattle.fixed_math.specs.Whole.{floor_by as floor_of};

@@ -1,3 +1,4 @@
+// The least box of points.
 ghost use Rattle.std.specs.Prelude.{◌≡◌, ◌<◌, length};
 ghost use Rattle.fixed_math.specs.Axes.{least as least_of, greatest as greatest_of};
 ghost use Rattle.patches.specs.Boxes.{least_box, corners};

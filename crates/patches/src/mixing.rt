@@ -1,3 +1,4 @@
+// Exact mixes of whole numbers over 4096.
 ghost use Rattle.std.specs.Prelude.{◌≡◌, ◌≤◌, ◌*◌, ◌^◌, ℕ, ◌-ℤ◌, unsigned_abs};
 ghost use Rattle.fixed_math.specs.Blossom.{denominator, mix as mix_of};
 ghost use Rattle.fixed_math.specs.Whole.{floor_by as floor_of};

@@ -1,3 +1,4 @@
+// A patch of any kind.
 ghost use Rattle.patches.specs.Patches.{patch_point, patch_du, patch_dv, patch_net, patch_width, patch_box, patch_inside, patch_parts, patch_rows};
 
 use crate::bicubic::Bicubic;

@@ -1,3 +1,4 @@
+// Parameters, and pieces of a primitive made by halving.
 ghost use Rattle.std.specs.Prelude.{◌≡◌, ◌≤◌, ◌<◌, ◌*◌, ◌+◌, ◌-◌, ◌^◌, ℕ};
 ghost use Rattle.patches.specs.Parts.{Part, IsPart, whole_of};
 

@@ -1,3 +1,4 @@
+// Parametric surfaces, with their laws.
 ghost use Rattle.std.specs.Prelude.{◌≡◌, ◌≤◌, ◌<◌, ◌%◌, ◌^◌, ℕ, ℤ, List, [], ◌∷◌, length};
 ghost use Rattle.fixed_math.specs.declared.vec3.Vec3.{Vec3};
 ghost use Rattle.fixed_math.specs.Axes.{AreWithin};

@@ -1,3 +1,4 @@
+// A number as it is written, and its values.
 ghost use Rattle.std.specs.Prelude.{◌≡◌, ℕ, ◌+◌, ◌*◌, ◌/◌, ◌^◌, ◌<◌, ◌≤◌, ℤ, pos, negsuc, ◌≤ℤ◌, min, unsigned_abs, IfSome};
 ghost use Rattle.rib_lex.specs.Decimal.{raw_magnitude, whole_magnitude, nearest, quotient, limited};
 

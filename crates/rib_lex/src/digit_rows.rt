@@ -1,3 +1,4 @@
+// Rows of digits.
 ghost use Rattle.std.specs.Prelude.{◌≡◌, ◌<◌, ◌≤◌, ◌^◌, ◌+◌, ◌++◌, List, ℕ, true, length, slice_index};
 ghost use Rattle.rib_lex.specs.Bytes.{is_digit};
 ghost use Rattle.rib_lex.specs.Digits.{IsDigitsOf};

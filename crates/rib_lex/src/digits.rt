@@ -1,3 +1,4 @@
+// The digits of a number that count.
 ghost use Rattle.std.specs.Prelude.{◌≡◌, ◌<◌, ◌≤◌, ◌^◌, ◌+◌, ◌++◌, ◌∷◌, [], List, ℕ, true};
 ghost use Rattle.rib_lex.specs.Bytes.{is_digit};
 

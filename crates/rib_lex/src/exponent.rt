@@ -1,3 +1,4 @@
+// The exponent of a number.
 ghost use Rattle.std.specs.Prelude.{◌≡◌, ◌≤◌, ◌<◌, ◌+◌, ◌-◌, IfOk, length, min, slice_index, true, ℕ, pos, unsigned_abs, neg_ℤ, ◌+ℤ◌, ◌-ℤ◌};
 ghost use Rattle.std.specs.Result.{result_map_both};
 ghost use Rattle.rib_lex.specs.Bytes.{is_digit, is_sign, is_minus, is_point, is_mark};

@@ -1,3 +1,4 @@
+// What stands at the front of a text.
 ghost use Rattle.std.specs.Prelude.{◌≡◌, ◌≤◌, ◌<◌, ◌+◌, IfOk, length, false};
 ghost use Rattle.std.specs.List.{prefix_len, take_while};
 ghost use Rattle.rib_lex.specs.Bytes.{is_name};

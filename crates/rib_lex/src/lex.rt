@@ -1,3 +1,4 @@
+// The tokens of a text.
 ghost use Rattle.std.specs.Prelude.{◌≤◌, length};
 ghost use Rattle.rib_lex.specs.Tokens.{tokens_of, Gives};
 

@@ -1,3 +1,4 @@
+// The number at the front of a text.
 ghost use Rattle.std.specs.Prelude.{◌≡◌, ◌≤◌, ◌<◌, ◌+◌, ◌++◌, IfOk, length, slice_index, true, ℕ};
 ghost use Rattle.std.specs.Result.{result_map_both};
 ghost use Rattle.rib_lex.specs.Bytes.{is_digit, is_point, runs_on};

@@ -1,3 +1,4 @@
+// The string at the front of a text.
 ghost use Rattle.std.specs.Prelude.{◌≡◌, ◌≤◌, IfOk, length, [], false};
 ghost use Rattle.std.specs.Str.{IsAscii};
 ghost use Rattle.rib_lex.specs.Strings.{string_in};

@@ -1,3 +1,4 @@
+// Tokens and the lexical faults.
 ghost use Rattle.std.specs.Prelude.{◌≡◌};
 ghost use Rattle.rib_lex.specs.declared.token.LexFault.TheVariants.{NoMemory as OutOfMemory};
 

@@ -1,3 +1,4 @@
+// The values behind a request's name.
 use fixed_math::{List, Text};
 use rib_lex::Decimal;
 

@@ -1,3 +1,4 @@
+// The kinds of arguments, and what stands at a place among them.
 ghost use Rattle.std.specs.Prelude.{◌≡◌, option_map};
 ghost use Rattle.rib_reader.specs.Rules.{are_whole, fits, fit, word_at, number_at, raw_at, whole_at, numbers_at, is_array_at};
 

@@ -1,3 +1,4 @@
+// The lower of two codes.
 ghost use Rattle.std.specs.Prelude.{◌≡◌};
 ghost use Rattle.rib_reader.specs.Rules.{rank, lower, when};
 

@@ -1,3 +1,4 @@
+// What declarations and tokens say of a variable's class and kind.
 ghost use Rattle.std.specs.Prelude.{◌≡◌, ◌==◌, ◌∷◌, [], ◌++◌, IfOk, if◌then◌else◌, length};
 ghost use Rattle.std.specs.Str.{IsAscii};
 ghost use Rattle.rib_reader.specs.Words.{is_white, words_of, typed, type_of, named_so, inline_of, declared_type, last_type, token_of};

@@ -1,3 +1,4 @@
+// The names that were declared so far.
 ghost use Rattle.std.specs.Prelude.{◌≡◌};
 ghost use Rattle.rib_reader.specs.Declarations.{type_at};
 

@@ -1,3 +1,4 @@
+// The faults of requests.
 ghost use Rattle.std.specs.Prelude.{◌≡◌};
 ghost use Rattle.rib_reader.specs.declared.faults.RibFault.TheVariants.{NoMemory as OutOfMemory};
 

@@ -1,3 +1,4 @@
+// The requests of a scene's tokens.
 ghost use Rattle.std.specs.Prelude.{◌≡◌, ◌≤◌, [], ◌∷◌, IfOk, OnOk, length, take, drop, option_map};
 ghost use Rattle.std.specs.List.{prefix_len};
 ghost use Rattle.rib_reader.specs.Values.{scan_of};

@@ -1,3 +1,4 @@
+// Of several variables of one name the one that holds.
 ghost use Rattle.std.specs.Prelude.{◌≡◌, IfOk, option_map, map};
 ghost use Rattle.rib_reader.specs.Holding.{last_named, holding, is_at};
 ghost use Rattle.fixed_math.specs.Names.{last_place};

@@ -1,3 +1,4 @@
+// The levels of `Quantize`.
 ghost use Rattle.std.specs.Prelude.{◌≡◌, ◌≤◌, ◌≤ℤ◌, pos};
 
 /// The greatest level that is written, and the range that samples are put into.

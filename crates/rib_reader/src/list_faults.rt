@@ -1,3 +1,4 @@
+// What a list says of its variables.
 ghost use Rattle.std.specs.Prelude.{◌≡◌, IfOk, option_map, codes};
 ghost use Rattle.rib_reader.specs.Rules.{follows_of};
 ghost use Rattle.rib_reader.specs.Holding.{is_named};

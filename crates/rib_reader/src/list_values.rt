@@ -1,3 +1,4 @@
+// The values of a list's variables.
 ghost use Rattle.std.specs.Prelude.{◌≡◌, IfOk, ◌∷◌, [], Some, map, option_map};
 ghost use Rattle.rib_lex.specs.Decimal.{num};
 ghost use Rattle.rib_reader.specs.Lists.{numbers_of, strings_of, values_of};

@@ -1,3 +1,4 @@
+// What is read of a list.
 use crate::faults::RibCode;
 use fixed_math::List;
 use scene::Param;

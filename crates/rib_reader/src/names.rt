@@ -1,3 +1,4 @@
+// Names with what they stand for.
 ghost use Rattle.std.specs.Prelude.{◌≡◌, map};
 ghost use Rattle.rib_reader.specs.Names.{entry_of, request_names, class_names, kind_names, variable_names, is_make, named};
 ghost use Rattle.rib_reader.specs.Entries.{plain};

@@ -1,3 +1,4 @@
+// The pairs of a list, a token and its value.
 ghost use Rattle.std.specs.Prelude.{◌≡◌, Ok, IfOk, OnOk, drop, slice_get};
 ghost use Rattle.rib_reader.specs.Lists.{Of, is_sphere, bound, meaning_in, misfit_code, missing_code, judged, given, pair_code, variable_of, nothing, pairs_of, of_pairs, list_of};
 ghost use Rattle.rib_reader.specs.PairSteps.{with_pair};

@@ -1,3 +1,4 @@
+// A request that fits its row of the table.
 ghost use Rattle.std.specs.Prelude.{◌≡◌, ◌≤ℤ◌, ◌<ℤ◌, ℕ, ℤ, Bool, true, false, Some, None, length};
 ghost use Rattle.std.specs.List.{slice_get};
 ghost use Rattle.rib_reader.specs.Table.{row_of, shapes_of, rules_of, words_in};

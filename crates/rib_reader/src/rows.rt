@@ -1,3 +1,4 @@
+// The rows of the table.
 ghost use Rattle.std.specs.Prelude.{◌≡◌};
 ghost use Rattle.rib_reader.specs.Table.{row_of, shapes_of, rules_of};
 

@@ -1,3 +1,4 @@
+// What a row says of arguments.
 ghost use Rattle.std.specs.Prelude.{◌≡◌, IfOk};
 ghost use Rattle.rib_reader.specs.Rules.{is_outside, is_below, is_less, is_not_less, is_one, is_none_of, word_at, levels_code, declare_code, lowest, rule_code, args_code, follows_of};
 

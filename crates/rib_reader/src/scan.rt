@@ -1,3 +1,4 @@
+// The values of a request while they are read.
 ghost use Rattle.std.specs.Prelude.{◌≡◌, ◌||◌, false, [], IfOk, OnOk};
 
 use crate::args::Arg;

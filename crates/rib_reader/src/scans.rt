@@ -1,3 +1,4 @@
+// The values of some tokens.
 ghost use Rattle.std.specs.Prelude.{◌≡◌, IfOk};
 ghost use Rattle.rib_reader.specs.Values.{scan_of};
 

@@ -1,3 +1,4 @@
+// The parts of a row of the table.
 use crate::faults::RibCode;
 
 /// The kind of an argument.

@@ -1,3 +1,4 @@
+// Texts compared with words.
 ghost use Rattle.std.specs.Prelude.{◌≡◌};
 ghost use Rattle.std.specs.Str.{bytes_eq};
 

@@ -1,3 +1,4 @@
+// Sets of words.
 ghost use Rattle.std.specs.Prelude.{◌≡◌, map};
 ghost use Rattle.rib_reader.specs.Entries.{word_of};
 ghost use Rattle.rib_reader.specs.Table.{words_in};

@@ -1,3 +1,4 @@
+// The types of some operands.
 use crate::kinds::NodeType;
 
 /// The types of some operands.

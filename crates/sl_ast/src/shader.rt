@@ -1,3 +1,4 @@
+// The untyped tree of a shader's file.
 ghost use Rattle.std.specs.Prelude.{◌≤◌, map};
 ghost use Rattle.sl_ast.specs.Syntax.{stmts};
 ghost use Rattle.sl_ast.specs.SyntaxView.{stmt_of, group_of, function_of};

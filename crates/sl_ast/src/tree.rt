@@ -1,3 +1,4 @@
+// The typed tree of a shader.
 ghost use Rattle.std.specs.Prelude.{◌≡◌, ◌≤◌, length, true};
 ghost use Rattle.sl_ast.specs.Typed.{numbers_tree, depth_tree, counts_up};
 ghost use Rattle.sl_ast.specs.TypedView.{tree_with};

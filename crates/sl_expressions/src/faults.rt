@@ -1,3 +1,4 @@
+// The faults of types.
 ghost use Rattle.std.specs.Prelude.{◌≡◌, Err};
 ghost use Rattle.sl_expressions.specs.declared.faults.TypeFault.TheVariants.{At, NoMemory as OutOfMemory};
 

@@ -1,3 +1,4 @@
+// Names found among entries.
 ghost use Rattle.std.specs.Prelude.{◌≡◌, map};
 ghost use Rattle.std.specs.Str.{bytes_eq};
 ghost use Rattle.sl_expressions.specs.Names.{entry_of, plain};

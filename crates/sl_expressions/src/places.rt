@@ -1,3 +1,4 @@
+// What is known at a place of a shader's text.
 use crate::faults::TypeCode;
 use crate::scope::Functions;
 use crate::typed::{TypedExpr, TypedStmt};

@@ -1,3 +1,4 @@
+// The laws of tokens and of the grammar.
 ghost use Rattle.sl_grammar.specs.Laws.{FaultStays, ExprAccepted, ExprSpelledOnce, ShaderAccepted, ShaderGrammatical, ShaderSpelledOnce, FaultFirst, TextUnspelled, FaultUnspelled, TokensInTurn};
 
 /// Does nothing: its contract is a law of tokens. Those of a text are what stands at its front, and then the tokens of the

@@ -1,3 +1,4 @@
+// The tree of a shader's text.
 ghost use Rattle.std.specs.Prelude.{◌≡◌, ◌≤◌, IfOk, length};
 ghost use Rattle.sl_ast.specs.ShaderView.{shader_of};
 ghost use Rattle.sl_lexer.specs.Tokens.{tokens_of};

@@ -1,3 +1,4 @@
+// A file with its functions and its shader.
 use sl_expressions::{Functions, Local, TypedExpr, TypedStmt};
 
 /// A parameter with its default.

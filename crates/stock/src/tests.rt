@@ -1,3 +1,4 @@
+// Tests of the stock's names.
 use crate::text;
 use std::test::Fail;
 

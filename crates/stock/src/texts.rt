@@ -1,3 +1,4 @@
+// The stock shaders by name.
 ghost use Rattle.std.specs.Prelude.{◌≡◌, map, option_map};
 ghost use Rattle.stock.specs.Texts.{stock_texts, text_of};
 ghost use Rattle.stock.specs.Entries.{plain};

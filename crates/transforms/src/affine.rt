@@ -1,3 +1,4 @@
+// Affine maps with their inverses.
 ghost use Rattle.std.specs.Prelude.{◌≡◌, ◌≢◌, ◌≤◌, ◌<◌, ◌*◌, ◌^◌, ℕ, ℤ, pos, List, [], ◌∷◌, unsigned_abs, IfOk, IsOkAnd};
 ghost use Rattle.transforms.specs.Map.{Map, point_of, vector_of, normal_of, inverse_of, before_of, differ, identity, translation, scale_map, scaling, coordinate, direction};
 ghost use Rattle.transforms.specs.Laws.{ChangesNothing, Adds, IsAlong, IsQuarterTurn};

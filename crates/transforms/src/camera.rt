@@ -1,3 +1,4 @@
+// Cameras.
 ghost use Rattle.std.specs.Prelude.{◌≡◌, ◌≤◌, ◌<◌, ◌^◌, pos, ◌≤ℤ◌, ◌<ℤ◌, List, [], ◌∷◌, unsigned_abs};
 ghost use Rattle.fixed_math.specs.declared.vec3.Vec3.{Vec3};
 ghost use Rattle.transforms.specs.declared.view.View.{View};

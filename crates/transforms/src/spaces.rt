@@ -1,3 +1,4 @@
+// The spaces that a shader can name.
 use crate::affine::Affine;
 use fixed_math::Num;
 

@@ -1,3 +1,4 @@
+// What a camera sees.
 use fixed_math::Num;
 
 /// What a camera sees: its projection, window, raster and depths.
