@@ -18,7 +18,8 @@ use Rattle.grid_code.specs.Code.{Block, ◌then◌}
 use Rattle.grid_code.proofs.Then.{then_assoc}
 use Rattle.sl_meaning.specs.Core as C
 use Rattle.sl_meaning.specs.Core.{Slot, formals, after_all, is_uniform, are_uniform, all_uniform, args_uniform, stmts_uniform, class_in}
-use Rattle.core_codegen.specs.Compile.{variable, at, all_at, into, expr_code, exprs_code, args_code, behind, stmt_code, all_code, shader_code}
+use Rattle.core_codegen.specs.Compile.{at, all_at, into, expr_code, exprs_code, args_code, behind, stmt_code, all_code, shader_code}
+use Rattle.core_codegen.specs.Variables.{variable}
 use Rattle.grid_code.specs.Shapes.{register_class, register_shape, are_uniform_registers, register_shapes, difference_shape}
 use Rattle.core_codegen.specs.Registers.{like, applied_at, differed_at}
 use Rattle.core_codegen.proofs.ValueRegisters.{class_at, shape_at, classes_at, shapes_at, variable_class, variable_shape, difference_shape_in}

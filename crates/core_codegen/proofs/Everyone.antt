@@ -16,7 +16,7 @@ use Rattle.sl_meaning.specs.Environment.{Env, Around, Signal, Next, Break, Conti
 use Rattle.sl_meaning.specs.Alone as alone
 use Rattle.sl_meaning.specs.Alone.{Gives, Runs, either, with_args}
 use Rattle.sl_meaning.specs.Grid.{Envs, GivesAll, RunsAll, choice_all, loops_all, with_args_all}
-use Rattle.core_codegen.specs.Compile.{variable}
+use Rattle.core_codegen.specs.Variables.{variable}
 use Rattle.core_codegen.specs.Correct.{IsGround}
 use Rattle.core_codegen.specs.Fine.{InScope}
 use Rattle.grid_code.proofs.Dead.{kept_self}

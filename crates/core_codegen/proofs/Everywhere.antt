@@ -18,44 +18,37 @@ use Rattle.sl_meaning.specs.Core.{Slot, Exprs, class_in, are_uniform}
 use Rattle.sl_meaning.specs.Environment.{Around, read_of}
 use Rattle.sl_meaning.specs.Alone.{answers_at}
 use Rattle.sl_meaning.specs.Grid.{Envs, GivesAll, on_all, more_all, summed_all}
-use Rattle.core_codegen.specs.Compile.{variable, all_at}
+use Rattle.core_codegen.specs.Compile.{all_at}
+use Rattle.core_codegen.specs.Variables.{variable}
 use Rattle.core_codegen.specs.Correct.{Holds, IsGround}
 use Rattle.core_codegen.specs.Fine.{InScope}
+use Rattle.core_codegen.specs.UniformRegisters.{AllHold}
 use Rattle.core_codegen.proofs.Relation.{rel_wrote, rel_reads, Wrote, wrote, write_value}
 use Rattle.core_codegen.proofs.Steps.{reads_steady, variable_steady, same_answers}
 use Rattle.core_codegen.proofs.Differences.{same_difference}
-
-abbrev pub AllLive : ℕ → (ℕ → Bool) → Type 0
-AllLive c p = (i : ℕ) → i < c → p i ≡ true
 
 -- what lies below is as it was, but for the predefined variables
 pub record AllLow (c m : ℕ) (g h : State) : Type 0 where
   pub shared : (t : Shape) (k : ℕ) → first_free ≤ k → k < m → h.shared t k ≡ g.shared t k
   pub rows : (t : Shape) (k i : ℕ) → i < c → first_free ≤ k → k < m → h.rows t k i ≡ g.rows t k i
 
--- every place is live and holds its point's values
-pub record Ready (c : ℕ) (ss : List Slot) (b : ℕ) (es : Envs) (g : State) : Type 0 where
-  pub live : AllLive c g.live
-  pub rel : (i : ℕ) → i < c → Holds i ss b (es i) g
-  pub exact : (i : ℕ) → i < c → length (es i).values ≡ length ss
-
 pub record AllValued (c : ℕ) (ss : List Slot) (b : ℕ) (q : Register) (r : (ℕ → Value) × Envs) (g h : State) : Type 0 where
-  pub ready : Ready c ss b r.1 h
+  pub ready : AllHold c ss b r.1 h
   pub staying : (i : ℕ) → i < c → h.staying i ≡ g.staying i
   pub value : (i : ℕ) → i < c → read h q i ≡ r.0 i
 
 pub record AllExpr (c : ℕ) (ss : List Slot) (b m : ℕ) (q : Register) (a : GivesAll Value) (g h : State) : Type 0 where
   pub low : AllLow c m g h
-  pub runs : (es : Envs) → Ready c ss b es g → AllValued c ss b q (a es) g h
+  pub runs : (es : Envs) → AllHold c ss b es g → AllValued c ss b q (a es) g h
 
 pub record AllListed (c : ℕ) (ss : List Slot) (b : ℕ) (qs : List Register) (r : (ℕ → List Value) × Envs) (g h : State) : Type 0 where
-  pub ready : Ready c ss b r.1 h
+  pub ready : AllHold c ss b r.1 h
   pub staying : (i : ℕ) → i < c → h.staying i ≡ g.staying i
   pub values : (i : ℕ) → i < c → reads h qs i ≡ r.0 i
 
 pub record AllExprs (c : ℕ) (ss : List Slot) (b m : ℕ) (qs : List Register) (a : GivesAll (List Value)) (g h : State) : Type 0 where
   pub low : AllLow c m g h
-  pub runs : (es : Envs) → Ready c ss b es g → AllListed c ss b qs (a es) g h
+  pub runs : (es : Envs) → AllHold c ss b es g → AllListed c ss b qs (a es) g h
 
 pub all_low_self : (c m : ℕ) (g : State) → AllLow c m g g
 all_low_self c m g = record { shared = λ t k f h. refl; rows = λ t k i h f l. refl }
@@ -75,10 +68,10 @@ pub all_wrote_low : (c r : ℕ) (g h : State) → ((i : ℕ) → Wrote i r g h) 
 all_wrote_low c r g h w = record { shared = λ t k f l. (w 0).shared t k (λ e. omega arith); rows = λ t k i q f l. (w i).rows t k (λ e. omega arith) }
 
 module _ (c : ℕ) (ss : List Slot) (b : ℕ) (free : first_free ≤ b) where
-  pub ready_wrote : (r : ℕ) (es : Envs) (g h : State) → b + length ss ≤ r → ((i : ℕ) → Wrote i r g h) → Ready c ss b es g → Ready c ss b es h
+  pub ready_wrote : (r : ℕ) (es : Envs) (g h : State) → b + length ss ≤ r → ((i : ℕ) → Wrote i r g h) → AllHold c ss b es g → AllHold c ss b es h
   ready_wrote r es g h fit w y = record { live = λ i l. (w i).live ∙ y.live i l; rel = λ i l. rel_wrote i r ss b (es i) g h free fit (w i) (y.rel i l); exact = y.exact }
 
-  pub all_write : (r : ℕ) (u : Bool) (s : Shape) (f : ℕ → Value) (es : Envs) (v : ℕ → Value) (g0 g : State) → b + length ss ≤ r → Ready c ss b es g → ((i : ℕ) → i < c → g.staying i ≡ g0.staying i) → ((i : ℕ) → i < c → u ≡ true → f 0 ≡ f i) → ((i : ℕ) → i < c → f i ≡ v i) → AllValued c ss b (reg u s r) (v, es) g0 (write c (reg u s r) f g)
+  pub all_write : (r : ℕ) (u : Bool) (s : Shape) (f : ℕ → Value) (es : Envs) (v : ℕ → Value) (g0 g : State) → b + length ss ≤ r → AllHold c ss b es g → ((i : ℕ) → i < c → g.staying i ≡ g0.staying i) → ((i : ℕ) → i < c → u ≡ true → f 0 ≡ f i) → ((i : ℕ) → i < c → f i ≡ v i) → AllValued c ss b (reg u s r) (v, es) g0 (write c (reg u s r) f g)
   all_write r u s f es v g0 g fit y stay steady is =
       record {
         ready = ready_wrote r es g _ fit (λ i. wrote c i r u s f g) y;

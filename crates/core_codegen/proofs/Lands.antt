@@ -21,10 +21,11 @@ use Rattle.core_codegen.proofs.Relation.{rel_wrote, Wrote, wrote, write_value}
 use Rattle.core_codegen.proofs.Steps.{read_steady}
 use Rattle.core_codegen.proofs.Scopes.{Extends, rel_prefix, rel_cut, cut}
 use Rattle.core_codegen.proofs.Stmts.{callee, rel_bare, formals_more, rel_declared}
-use Rattle.core_codegen.proofs.Everywhere.{AllLow, Ready, AllExpr, all_low_self, all_low_on, read_all_low, all_wrote_low, ready_wrote}
+use Rattle.core_codegen.proofs.Everywhere.{AllLow, AllExpr, all_low_self, all_low_on, read_all_low, all_wrote_low, ready_wrote}
+use Rattle.core_codegen.specs.UniformRegisters.{AllHold}
 
 pub record AllWent (c : ℕ) (ss : List Slot) (b : ℕ) (es : Envs) (g h : State) : Type 0 where
-  pub ready : Ready c ss b es h
+  pub ready : AllHold c ss b es h
   pub staying : (i : ℕ) → i < c → h.staying i ≡ g.staying i
 
 -- all places are out, at a break for good
@@ -49,12 +50,12 @@ AllLands c ss' ss b Continue es g h = AllSkipped c ss b es g h
 pub record AllStmt (c : ℕ) (ss' ss : List Slot) (b : ℕ) (s : RunsAll) (g h : State) : Type 0 where
   pub low : AllLow c b g h
   pub asleep : AllDead c g.live → Asleep c g h
-  pub runs : (es : Envs) → Ready c ss b es g → AllLands c ss' ss b (s es).0 (s es).1 g h
+  pub runs : (es : Envs) → AllHold c ss b es g → AllLands c ss' ss b (s es).0 (s es).1 g h
 
 pub record AllBody (c : ℕ) (ss : List Slot) (b : ℕ) (s : RunsAll) (g h : State) : Type 0 where
   pub low : AllLow c b g h
   pub asleep : AllDead c g.live → Asleep c g h
-  pub runs : (es : Envs) → Ready c ss b es g → AllLands c ss ss b (s es).0 (s es).1 g h × ((i : ℕ) → i < c → length ((s es).1 i).values ≡ length ss)
+  pub runs : (es : Envs) → AllHold c ss b es g → AllLands c ss ss b (s es).0 (s es).1 g h × ((i : ℕ) → i < c → length ((s es).1 i).values ≡ length ss)
 
 read_asleep : (c : ℕ) (g h : State) (u : Bool) (t : Shape) (r i : ℕ) → i < c → Asleep c g h → read h (reg u t r) i ≡ read g (reg u t r) i
 read_asleep c g h true t r i l x = x.shared t r
@@ -129,13 +130,13 @@ abbrev pub callees : (ℕ → List Value) × Envs → Envs
 callees r i = callee (r.0 i, r.1 i)
 
 pub record AllPassed (c : ℕ) (ss : List Slot) (b m : ℕ) (fs : List Slot) (r : (ℕ → List Value) × Envs) (g h : State) : Type 0 where
-  pub ready : Ready c ss b r.1 h
-  pub inner : Ready c fs m (callees r) h
+  pub ready : AllHold c ss b r.1 h
+  pub inner : AllHold c fs m (callees r) h
   pub staying : (i : ℕ) → i < c → h.staying i ≡ g.staying i
 
 pub record AllArgs (c : ℕ) (ss : List Slot) (b m : ℕ) (fs : List Slot) (a : GivesAll (List Value)) (g h : State) : Type 0 where
   pub low : AllLow c m g h
-  pub runs : (es : Envs) → Ready c ss b es g → AllPassed c ss b m fs (a es) g h
+  pub runs : (es : Envs) → AllHold c ss b es g → AllPassed c ss b m fs (a es) g h
 
 pub all_no_args : (c : ℕ) (ss : List Slot) (b m : ℕ) (g : State) → AllArgs c ss b m [] (λ es. (λ i. [], es)) g g
 all_no_args c ss b m g =

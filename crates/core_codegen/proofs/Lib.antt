@@ -13,6 +13,7 @@ pub mod Everyone
 pub mod Rounds
 pub mod Uniform
 pub mod Correct
+mod SharedHeld
 pub mod Slots
 pub mod NodeRows
 pub mod Scoped

@@ -17,10 +17,10 @@ use Rattle.grid_code.specs.Names.{reg, first_free}
 use Rattle.grid_code.specs.Masked.{State, any, same_shape, read, write}
 use Rattle.sl_meaning.specs.Core.{Slot, no_slot, class_in, kind_in}
 use Rattle.sl_meaning.specs.Environment.{Env, read_of}
-use Rattle.core_codegen.specs.Compile.{variable}
+use Rattle.core_codegen.specs.Variables.{variable}
 use Rattle.core_codegen.specs.Correct.{Holds}
 use Rattle.core_codegen.specs.Fine.{InScope}
-use Rattle.grid_code.proofs.Dead.{Kept}
+use Rattle.grid_code.specs.Turns.{Unchanged}
 
 pub place_small : (p : Predefined) → place_of p < 21
 place_small names.P = omega arith
@@ -108,11 +108,11 @@ read_low i m l g h true t r f a b x = x.shared t r a
 read_low i m l g h false t r f a b x = x.rows t r f b
 
 -- a uniform register below its bound, and a varying one where the place sleeps
-pub read_still : (i m l : ℕ) (g h : State) (u : Bool) (t : Shape) (r : ℕ) → r < m → Low i m l g h → Kept i g h → read h (reg u t r) i ≡ read g (reg u t r) i
+pub read_still : (i m l : ℕ) (g h : State) (u : Bool) (t : Shape) (r : ℕ) → r < m → Low i m l g h → Unchanged i g h → read h (reg u t r) i ≡ read g (reg u t r) i
 read_still i m l g h true t r a x s = x.shared t r a
 read_still i m l g h false t r a x s = s.rows t r
 
-pub rel_still : (i m l : ℕ) (ss : List Slot) (b : ℕ) (e : Env) (g h : State) → first_free ≤ b → b + length ss ≤ m → Low i m l g h → Kept i g h → Holds i ss b e g → Holds i ss b e h
+pub rel_still : (i m l : ℕ) (ss : List Slot) (b : ℕ) (e : Env) (g h : State) → first_free ≤ b → b + length ss ≤ m → Low i m l g h → Unchanged i g h → Holds i ss b e g → Holds i ss b e h
 rel_still i m l ss b e g h free a x s r =
     record {
       named = λ p. let q = place_small p in read_still i m l g h (is_uniform_name p) (shape_of (name_type p)) (place_of p) (omega arith) x s ∙ r.named p;

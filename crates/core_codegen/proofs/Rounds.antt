@@ -18,8 +18,12 @@ use Rattle.sl_meaning.specs.Grid.{Envs, GivesAll, RunsAll, round_all, loop_all, 
 use Rattle.core_codegen.specs.Correct.{Holds}
 use Rattle.grid_code.proofs.Asleep.{AllDead, Asleep, turns_asleep, any_false}
 use Rattle.core_codegen.proofs.Relation.{any_true, rel_masks}
-use Rattle.core_codegen.proofs.Everywhere.{AllLive, AllLow, Ready, AllExpr, all_low_on}
+use Rattle.core_codegen.proofs.Everywhere.{AllLow, AllExpr, all_low_on}
+use Rattle.core_codegen.specs.UniformRegisters.{AllHold}
 use Rattle.core_codegen.proofs.Lands.{AllWent, AllLands, AllStmt, AllBody, rel_asleep}
+
+abbrev AllLive : ℕ → (ℕ → Bool) → Type 0
+AllLive c p = (i : ℕ) → i < c → p i ≡ true
 
 -- where a uniform loop leaves the grid
 pub record AllEnded (c : ℕ) (ss : List Slot) (b : ℕ) (r : Signal × Envs) (h : State) : Type 0 where
@@ -66,11 +70,11 @@ module _ (c : ℕ) (pos : 0 < c) (ss : List Slot) (b : ℕ) (free : first_free �
       (λ e. test_low g)
 
   abbrev GoesRound : ℕ → Type 0
-  GoesRound k = (es : Envs) (g : State) → Ready c ss b es g → AllEnded c ss b (loop_all k vt vs vb es) (Turns k g)
+  GoesRound k = (es : Envs) (g : State) → AllHold c ss b es g → AllEnded c ss b (loop_all k vt vs vb es) (Turns k g)
 
   stepped : (k : ℕ) → GoesRound k → (es : Envs) (h : State) → AllLive c h.staying → ((i : ℕ) → i < c → Holds i ss b (es i) h) → ((i : ℕ) → i < c → length (es i).values ≡ length ss) → AllEnded c ss b (loop_all k vt vs vb (vs es).1) (Turns k (sf (resumed h)))
   stepped k ih es h stay rel exact =
-      let ready : Ready c ss b es (resumed h) = record { live = stay; rel = λ i l. rel_masks i ss b (es i) h h.staying h.staying free (rel i l); exact = exact } in
+      let ready : AllHold c ss b es (resumed h) = record { live = stay; rel = λ i l. rel_masks i ss b (es i) h h.staying h.staying free (rel i l); exact = exact } in
       let w : AllWent c ss b (vs es).1 (resumed h) (sf (resumed h)) = subst (λ z. AllLands c ss ss b z (vs es).1 (resumed h) (sf (resumed h))) (goes_on es) ((st (resumed h)).runs es ready) in
       ih (vs es).1 (sf (resumed h)) w.ready
 
@@ -83,7 +87,7 @@ module _ (c : ℕ) (pos : 0 < c) (ss : List Slot) (b : ℕ) (free : first_free �
       let z = turns_asleep k c true tf (Uniform t m) sf bf g1 (sleeps g1 x.live) in
       record { next = refl; rel = λ i q. rel_asleep c i ss b (es i) g1 _ q z (rel_asleep c i ss b (es i) (resumed h) g1 q x (rel_masks i ss b (es i) h h.staying h.staying free (l.out.rel i q))); exact = exact }
 
-  stops : (k : ℕ) (es : Envs) (x : State) → Ready c ss b es x → AllDead c (going true (Uniform t m) x) → AllEnded c ss b (Next, es) (cond (any c (going true (Uniform t m) x)) (Turns k (turn true (going true (Uniform t m) x) sf bf x)) x)
+  stops : (k : ℕ) (es : Envs) (x : State) → AllHold c ss b es x → AllDead c (going true (Uniform t m) x) → AllEnded c ss b (Next, es) (cond (any c (going true (Uniform t m) x)) (Turns k (turn true (going true (Uniform t m) x) sf bf x)) x)
   stops k es x ready out =
       subst (λ s. AllEnded c ss b (Next, es) s) (sym (cond-false (any c (going true (Uniform t m) x)) _ x (any_false c (going true (Uniform t m) x) out)))
       record { next = refl; rel = ready.rel; exact = ready.exact }
@@ -104,7 +108,7 @@ module _ (c : ℕ) (pos : 0 < c) (ss : List Slot) (b : ℕ) (free : first_free �
       let live : AllLive c p = λ i l. and_from (x.live i) _ (v.ready.live i l) (and_from (is_true (x.shared t m)) (nat_lt 0 x.turns) (at_test ∙ on) (at_turns ∙ some)) in
       let s0 = start p x in
       let es1 : Envs = λ i. spend true (e1 i) in
-      let begun : Ready c ss b es1 s0 = record { live = live; rel = λ i l. shared_turn i ss b (e1 i) record x { live = p; staying = p } (rel_masks i ss b (e1 i) x p p free (v.ready.rel i l)); exact = v.ready.exact } in
+      let begun : AllHold c ss b es1 s0 = record { live = live; rel = λ i l. shared_turn i ss b (e1 i) record x { live = p; staying = p } (rel_masks i ss b (e1 i) x p p free (v.ready.rel i l)); exact = v.ready.exact } in
       let l = (bs s0).runs es1 begun in
       let o = after_turn k (all_loop_runs k) (vb es1).0 (vb es1).1 s0 (bf s0) live l.0 l.1 in
       subst (λ s. AllEnded c ss b (round_all (vb es1) vs (loop_all k vt vs vb)) s) (sym (cond-true (any c p) _ x (any_true c 0 p pos (live 0 pos)))) o)

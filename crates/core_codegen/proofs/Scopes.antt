@@ -6,7 +6,8 @@ use Rattle.grid_code.specs.Masked.{State, read}
 use Rattle.sl_meaning.specs.Core.{Slot, slot, no_slot, Stmt, declare, assign, block, test, repeat, lights, leave, again, Stmts, done, first, after, after_all}
 use Rattle.sl_meaning.specs.Environment.{Env, Signal, Next, Break, Continue, zero_value}
 use Rattle.sl_meaning.specs.Alone.{Runs, inside, on_next}
-use Rattle.core_codegen.specs.Compile.{slot_at, locals}
+use Rattle.core_codegen.specs.Compile.{locals}
+use Rattle.core_codegen.specs.Variables.{slot_at}
 use Rattle.core_codegen.specs.Correct.{Holds}
 use Rattle.grid_code.proofs.Dead.{Still, still_on}
 use Rattle.core_codegen.proofs.Relation.{Low, low_on, rel_still}

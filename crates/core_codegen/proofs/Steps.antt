@@ -18,7 +18,8 @@ use Rattle.grid_code.specs.Masked.{Asked, Ground, State, read, reads, result_of,
 use Rattle.sl_meaning.specs.Core.{Slot, Exprs, none, more, class_in, kind_in, is_uniform, are_uniform}
 use Rattle.sl_meaning.specs.Environment.{Env, Around, read_of}
 use Rattle.sl_meaning.specs.Alone.{then_more, on_value, summed, answers_at}
-use Rattle.core_codegen.specs.Compile.{variable, at, all_at, shape_in}
+use Rattle.core_codegen.specs.Compile.{at, all_at, shape_in}
+use Rattle.core_codegen.specs.Variables.{variable}
 use Rattle.core_codegen.specs.Correct.{Holds, Answers, IsGround}
 use Rattle.core_codegen.specs.Fine.{InScope}
 use Rattle.core_codegen.proofs.Relation.{Low, low_self, low_on, read_low, rel_wrote, wrote, wrote_low, write_value, index, variable_at, rel_reads}

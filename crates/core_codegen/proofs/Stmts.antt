@@ -21,7 +21,7 @@ use Rattle.grid_code.specs.Masked.{Ground, State, read, result_of, write}
 use Rattle.sl_meaning.specs.Core.{Slot, slot, no_slot, class_in, kind_in}
 use Rattle.sl_meaning.specs.Environment.{Env, Next, zero_value, with_name, with_variable, declared}
 use Rattle.sl_meaning.specs.Alone.{Runs, Gives, on_value, then_more, inlined}
-use Rattle.core_codegen.specs.Compile.{variable, slot_at}
+use Rattle.core_codegen.specs.Variables.{slot_at, variable}
 use Rattle.core_codegen.specs.Correct.{Holds}
 use Rattle.core_codegen.specs.Fine.{InScope}
 use Rattle.grid_code.proofs.Dead.{Still}

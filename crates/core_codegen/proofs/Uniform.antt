@@ -13,7 +13,8 @@ use Rattle.sl_meaning.specs.Core.{Slot, slot, Expr, literal, read, apply, differ
 use Rattle.sl_meaning.specs.Environment.{Around, Signal, Next, Break, Continue, spend}
 use Rattle.sl_meaning.specs.Alone.{Runs, inside, value, run, run_all}
 use Rattle.sl_meaning.specs.Grid.{Envs, GivesAll, RunsAll, next_all, inside_all, choice_all, round_all, loop_all, loops_all, values, all_of, args_of, grid, grid_all}
-use Rattle.core_codegen.specs.Compile.{variable, at, all_at, shape_in, into, expr_code, exprs_code, args_code, locals, all_locals, behind, stmt_code, all_code}
+use Rattle.core_codegen.specs.Compile.{at, all_at, shape_in, into, expr_code, exprs_code, args_code, locals, all_locals, behind, stmt_code, all_code}
+use Rattle.core_codegen.specs.Variables.{variable}
 use Rattle.core_codegen.specs.Correct.{IsGround}
 use Rattle.core_codegen.specs.Fine.{Stays, StaysAll, FineAll, When, GridExpr, GridExprs, GridArgs, GridStmt, GridAll}
 use Rattle.grid_code.proofs.Dead.{dead}

@@ -17,7 +17,8 @@ use Rattle.builtins.specs.Values.{shape_of}
 use Rattle.grid_code.specs.declared.code.Register.{Register}
 use Rattle.grid_code.specs.Names.{reg}
 use Rattle.sl_meaning.specs.Core.{Slot, no_slot, Expr, Exprs, none, more, differ, is_uniform, are_uniform, class_in, kind_in}
-use Rattle.core_codegen.specs.Compile.{variable, at, all_at, shape_in, shapes_in}
+use Rattle.core_codegen.specs.Compile.{at, all_at, shape_in, shapes_in}
+use Rattle.core_codegen.specs.Variables.{variable}
 use Rattle.grid_code.specs.Shapes.{register_class, register_shape, are_uniform_registers, register_shapes, difference_shape}
 
 pub class_reg : (u : Bool) (s : Shape) (r : ℕ) → register_class (reg u s r) ≡ u

@@ -1,30 +1,20 @@
--- The code of a core tree. A frame is the variables in scope, from a register on: variable k of the frame is register b + k of its class and
--- shape. The value of an expression goes into register r, and what it needs on the way into those from r on. What an assignment needs goes into
--- those from register t on, behind all variables of the frame: so a frame's assignments share their registers, however many variables stand
--- in scope. The registers below `first_free` are those of the predefined variables.
-use Rattle.std.specs.Prelude.{ℕ, ◌+◌, List, [], ◌∷◌, length, get_or}
+-- For contracts and laws of the code alone, not the picture's definition: the code of a core tree, as its emission gives it, in a frame of variables from register b on. The value of an expression goes into register r, and
+-- what it needs on the way into those from r on. What an assignment needs goes into those from register t on, behind all variables of the frame: so
+-- a frame's assignments share their registers, however many variables stand in scope.
+use Rattle.std.specs.Prelude.{ℕ, ◌+◌, List, [], ◌∷◌, length}
 use Rattle.sl_ast.specs.declared.kinds.SlType.{SlType}
 use Rattle.sl_ast.specs.declared.operations.Difference.TheVariants as differences
-use Rattle.sl_ast.specs.declared.typed.Variable.{Variable}
-use Rattle.sl_ast.specs.declared.typed.Variable.TheVariants as variables
 use Rattle.builtins.specs.declared.shape.Shape.{Shape}
 use Rattle.builtins.specs.declared.shape.Shape.TheVariants as shapes
 use Rattle.builtins.specs.Values.{shape_of}
 use Rattle.builtins.specs.Shapes.{shape, part_shape, shape_applied}
 use Rattle.grid_code.specs.declared.code.Register.{Register}
 use Rattle.grid_code.specs.declared.code.Source.TheVariants.{Constant, Copy, Into, Apply}
-use Rattle.grid_code.specs.Names.{reg, name_at, first_free}
+use Rattle.grid_code.specs.Names.{reg, first_free}
 use Rattle.grid_code.specs.Code as c
 use Rattle.grid_code.specs.Code.{Block, ◌then◌}
-use Rattle.sl_meaning.specs.Core.{Slot, no_slot, Expr, literal, read, apply, differ, sum, call, Exprs, none, more, Arguments, no_arguments, argument, Stmt, declare, assign, block, test, repeat, lights, leave, again, Stmts, done, first, formals, after, after_all, is_uniform, kind_in}
-
--- the register of a variable
-abbrev pub slot_at : Slot → ℕ → Register
-slot_at s r = reg s.uniform (shape_of s.kind) r
-
-abbrev pub variable : List Slot → ℕ → Variable → Register
-variable ss b (variables.Predefined p) = name_at p
-variable ss b (variables.Level k) = slot_at (get_or ss k no_slot) (b + k)
+use Rattle.core_codegen.specs.Variables.{variable}
+use Rattle.sl_meaning.specs.Core.{Slot, Expr, literal, read, apply, differ, sum, call, Exprs, none, more, Arguments, no_arguments, argument, Stmt, declare, assign, block, test, repeat, lights, leave, again, Stmts, done, first, formals, after, after_all, is_uniform, kind_in}
 
 -- the shape of an expression's value
 abbrev mutual

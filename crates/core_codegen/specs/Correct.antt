@@ -11,7 +11,7 @@ use Rattle.grid_code.specs.Masked.{Asked, Ground, State, read, masked}
 use Rattle.sl_meaning.specs.Core.{Slot, Stmts}
 use Rattle.sl_meaning.specs.Environment.{Env, Around, zero_value}
 use Rattle.sl_meaning.specs.Grid.{Envs, inside_all, grid_all}
-use Rattle.core_codegen.specs.Compile.{variable}
+use Rattle.core_codegen.specs.Variables.{variable}
 
 -- place i of the state holds what the environment says: of the predefined variables, of the variables in scope, whose frame begins at b, and of
 -- the budgets

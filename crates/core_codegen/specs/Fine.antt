@@ -1,5 +1,6 @@
--- What a settled core tree keeps: variables in scope, uniform variables that take uniform values in uniform control alone, differences in uniform
--- control alone, loops marked as their control is, and no break or continue that leaves what it can't leave.
+-- For contracts and laws of the code alone, not the picture's definition: what a settled core tree keeps. Variables are in scope, uniform variables
+-- take uniform values in uniform control alone, differences stand in uniform control alone, loops are marked as their control is, and no break or
+-- continue leaves what it can't leave.
 use Rattle.std.specs.Prelude.{◌<◌, Bool, true, false, List, length, ◌≡◌}
 use Rattle.sl_ast.specs.declared.typed.Variable.{Variable}
 use Rattle.sl_ast.specs.declared.typed.Variable.TheVariants as variables

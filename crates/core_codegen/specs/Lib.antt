@@ -1,7 +1,9 @@
+pub mod Variables
 pub mod Compile
 pub mod Fine
 pub mod Sizes
 pub mod Slots
 pub mod Registers
 pub mod Correct
+pub mod UniformRegisters
 pub mod Room

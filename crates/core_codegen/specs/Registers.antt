@@ -1,4 +1,4 @@
--- The registers of values by those of their operands.
+-- For contracts of the emission alone: the registers of values by those of their operands.
 use Rattle.std.specs.Prelude.{ℕ, false, List}
 use Rattle.sl_ast.specs.declared.operations.ValueOperation.{ValueOperation}
 use Rattle.sl_ast.specs.declared.operations.Difference.{Difference}

@@ -1,4 +1,4 @@
--- How many registers the code of a core tree takes at most, beside those of the variables in scope.
+-- For contracts of the emission alone: how many registers the code of a core tree takes at most, beside those of the variables in scope.
 use Rattle.std.specs.Prelude.{ℕ, ◌+◌}
 use Rattle.sl_meaning.specs.Core.{Expr, literal, read, apply, differ, sum, call, Exprs, none, more, Arguments, no_arguments, argument, Stmt, declare, assign, block, test, repeat, lights, leave, again, Stmts, done, first}
 

@@ -1,4 +1,4 @@
--- Scopes and sizes of a core tree, which the emission of its code needs.
+-- For contracts of the emission alone: scopes and sizes of a core tree.
 use Rattle.std.specs.Prelude.{ℕ, ◌+◌, List}
 use Rattle.sl_meaning.specs.Core.{Slot, Expr, literal, read, apply, differ, sum, call, Exprs, none, more, Arguments, no_arguments, argument, Stmt, declare, assign, block, test, repeat, lights, leave, again, Stmts, done, first, formals, after, after_all}
 use Rattle.core_codegen.specs.Fine.{InScope}

@@ -1,4 +1,4 @@
--- The variables in scope, as the core tree has them.
+-- For contracts of the code alone: the variables in scope, as the core tree has them.
 use Rattle.std.specs.Prelude.{List, map}
 use Rattle.sl_meaning.specs.Core as core
 use Rattle.grid_code.specs.declared.slot.Slot.{Slot}

@@ -2,29 +2,22 @@
 ghost use Rattle.std.specs.Prelude.{◌≡◌, ◌+◌, ◌^◌, ◌<◌, ◌++◌, ◌∷◌, [], length, map, IfOk, OnOk};
 ghost use Rattle.sl_ast.specs.TypedView.{local_of};
 ghost use Rattle.grid_code.specs.Names.{name_at, first_free};
-ghost use Rattle.grid_code.specs.Uses.{kind_registers, registers_from, given_registers};
+ghost use Rattle.grid_code.specs.Uses.{kind_registers, registers_from, given_registers as given_of};
 ghost use Rattle.sl_meaning.specs.Lowered.{slots};
 ghost use Rattle.core_codegen.specs.Slots.{slots_of};
 
-use crate::registers::{place, register};
-use builtins::{Shape, shape_of};
+use builtins::shape_of;
 use fixed_math::NoMemory;
-use grid_code::{Register, Slot};
+use grid_code::named::{FIRST_FREE, LIT};
+use grid_code::{Register, Slot, register, register_of};
 use sl_ast::{ParamDecl, Predefined, SlKind};
 use std::alloc::Global;
-
-// The register of whether a light is lit.
-const LIT: u32 = 21;
-
-// The first register behind those of the predefined variables.
-const FIRST_FREE: u32 = 22;
 
 fn name_variables(seen: &mut Vec<Register>, names: &[Predefined]) -> Result<(), NoMemory>
     ensures { OnOk result (seen.new.items ≡ seen.old.items ++ map name_at names.now) }
 {
     for name in names {
-        let to = register(name.is_uniform(), shape_of(name.kind()), place(*name));
-        seen.push(to)?;
+        seen.push(register_of(*name))?;
     }
     Ok(())
 }
@@ -82,7 +75,7 @@ fn name_kind(seen: &mut Vec<Register>, kind: SlKind) -> Result<(), NoMemory>
             name_variables(seen, &names)
         }
         SlKind::Light => {
-            seen.push(register(false, Shape::Number, LIT))?;
+            seen.push(LIT)?;
             name_variables(seen, &[P::Pi, P::Ps, P::E, P::L, P::Cl])
         }
         SlKind::Volume => name_variables(seen, &[P::Pi, P::P, P::I, P::E, P::Ci, P::Oi]),
@@ -102,9 +95,13 @@ fn name_params(seen: &mut Vec<Register>, params: &[Slot]) -> Result<(), NoMemory
 }
 
 /// The registers of a kind's predefined variables and of the parameters. The one refusal is want of memory.
-pub fn given(alloc: Global, kind: SlKind, params: &[Slot]) -> Result<Vec<Register>, NoMemory>
+pub fn given_registers(
+    alloc: Global,
+    kind: SlKind,
+    params: &[Slot],
+) -> Result<Vec<Register>, NoMemory>
     requires fits { first_free + length params.now < 2 ^ 32 }
-    ensures { IfOk result (λ v. v.items ≡ given_registers kind params.now) }
+    ensures { IfOk result (λ v. v.items ≡ given_of kind params.now) }
 {
     let mut seen = Vec::new(alloc);
     name_kind(&mut seen, kind)?;

@@ -15,16 +15,14 @@ ghost use Rattle.core_codegen.specs.Slots.{slots_of, scope_of};
 use crate::ends::{assigned, begun, both, branched, lit, looped, returned};
 use crate::locals::all_declared;
 use crate::nodes::{again, apply, differ, leave, literal, read, sum};
-use crate::registers::{is_uniform, register};
+use crate::registers::is_uniform;
 use crate::slot::Scope;
 use builtins::shape_of;
 use fixed_math::NoMemory;
-use grid_code::{Node, Register, Slot};
+use grid_code::named::FIRST_FREE;
+use grid_code::{Node, Register, Slot, register};
 use sl_meaning::{Argument, CoreExpr, CoreLoop, CoreStmt};
 use std::alloc::Global;
-
-// The first register behind those of the predefined variables.
-const FIRST_FREE: u32 = 22;
 
 /// The code of a settled tree, whose parameters are in scope, or want of memory.
 pub fn emit(alloc: Global, body: &[CoreStmt], scope: &[Slot]) -> Result<Vec<Node>, NoMemory>

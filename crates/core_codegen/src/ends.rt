@@ -11,11 +11,11 @@ ghost use Rattle.core_codegen.specs.Compile as spec;
 ghost use Rattle.core_codegen.specs.Slots.{scope_of};
 
 use crate::nodes::{branch, into, lights, turns};
-use crate::registers::{are_uniform, is_uniform, register};
+use crate::registers::{are_uniform, is_uniform};
 use crate::slot::Scope;
 use builtins::shape_of;
 use fixed_math::NoMemory;
-use grid_code::{Node, Register};
+use grid_code::{Node, Register, register};
 use sl_ast::{LightStmt, SlType};
 
 // Whether both hold: a call, so that what follows has one case and not two.

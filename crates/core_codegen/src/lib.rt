@@ -4,11 +4,13 @@
 mod beginning;
 mod emission;
 mod ends;
+mod laws;
 mod locals;
 mod nodes;
 mod registers;
 mod scope;
 mod slot;
 
-pub use beginning::{given, param_slots};
+pub use beginning::{given_registers, param_slots};
 pub use emission::emit;
+pub use laws::uniform_register_law;

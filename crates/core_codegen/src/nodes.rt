@@ -10,10 +10,10 @@ ghost use Rattle.grid_code.specs.View.{block_of};
 ghost use Rattle.core_codegen.specs.Compile as spec;
 ghost use Rattle.core_codegen.specs.Registers.{like as like_at, applied_at, differed_at};
 
-use crate::registers::{applied, differed, like, register};
+use crate::registers::{applied, differed, like};
 use builtins::{Shape, copied, shape_of};
 use fixed_math::{List, NoMemory};
-use grid_code::{Node, Register, Source};
+use grid_code::{Node, Register, Source, register};
 use sl_ast::{Difference, LightStmt, LightSum, SlType, Value, ValueOperation};
 use std::alloc::Global;
 

@@ -1,24 +1,12 @@
 // Registers by class and shape.
 ghost use Rattle.std.specs.Prelude.{◌≡◌};
-ghost use Rattle.builtins.specs.Names.{place_of};
 ghost use Rattle.builtins.specs.Shapes as shapes;
-ghost use Rattle.grid_code.specs.Names.{reg};
 ghost use Rattle.grid_code.specs.Shapes as of_registers;
 ghost use Rattle.core_codegen.specs.Registers as spec;
 
 use builtins::{Shape, shape_applied};
-use grid_code::Register;
-use sl_ast::{Difference, Predefined, ValueOperation};
-
-pub(crate) fn register(uniform: bool, shape: Shape, number: u32) -> Register
-    ensures { result ≡ reg uniform shape number }
-{
-    if uniform {
-        Register::Uniform(shape, number)
-    } else {
-        Register::Varying(shape, number)
-    }
-}
+use grid_code::{Register, register};
+use sl_ast::{Difference, ValueOperation};
 
 pub(crate) fn is_uniform(register: Register) -> bool
     ensures { result ≡ of_registers.register_class register }
@@ -83,33 +71,4 @@ pub(crate) fn differed(difference: Difference, of: Register, number: u32) -> Reg
         (_, _) => Shape::Triple,
     };
     register(false, shape, number)
-}
-
-// The number of a predefined variable's register.
-pub(crate) fn place(name: Predefined) -> u32
-    ensures { result ≡ place_of name }
-{
-    match name {
-        Predefined::P => 0,
-        Predefined::N => 1,
-        Predefined::Ng => 2,
-        Predefined::I => 3,
-        Predefined::E => 4,
-        Predefined::U => 5,
-        Predefined::V => 6,
-        Predefined::Du => 7,
-        Predefined::Dv => 8,
-        Predefined::S => 9,
-        Predefined::T => 10,
-        Predefined::Cs => 11,
-        Predefined::Os => 12,
-        Predefined::DPdu => 13,
-        Predefined::DPdv => 14,
-        Predefined::L => 15,
-        Predefined::Cl => 16,
-        Predefined::Ci => 17,
-        Predefined::Oi => 18,
-        Predefined::Ps => 19,
-        Predefined::Pi => 20,
-    }
 }

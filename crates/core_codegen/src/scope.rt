@@ -1,15 +1,14 @@
 // What code is made of the variables in scope.
 ghost use Rattle.std.specs.Prelude.{◌≡◌, ◌+◌, ◌^◌, ◌<◌, ◌++◌, ◌∷◌, [], length, take, IfOk, OnOk};
 ghost use Rattle.sl_meaning.specs.Core.{slot as slot_as};
-ghost use Rattle.core_codegen.specs.Compile as spec;
+ghost use Rattle.core_codegen.specs.Variables as spec;
 ghost use Rattle.core_codegen.specs.Fine.{InScope};
 ghost use Rattle.core_codegen.specs.Slots.{slots_of, scope_of};
 
-use crate::registers::{place, register};
 use crate::slot::Scope;
 use builtins::shape_of;
 use fixed_math::NoMemory;
-use grid_code::{Register, Slot};
+use grid_code::{Register, Slot, register, register_of};
 use sl_ast::{SlType, Variable};
 use std::alloc::Global;
 
@@ -72,11 +71,7 @@ impl Scope {
         ensures { result ≡ spec.variable (scope_of self.now) base variable }
     {
         match variable {
-            Variable::Predefined(name) => register(
-                name.is_uniform(),
-                shape_of(name.kind()),
-                place(name),
-            ),
+            Variable::Predefined(name) => register_of(name),
             Variable::Level(level) => {
                 let slot = self.slots[level as usize];
                 register(slot.uniform, shape_of(slot.kind), base + level)

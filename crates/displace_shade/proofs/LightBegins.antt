@@ -25,7 +25,7 @@ use Rattle.sl_meaning.specs.Environment.{Around, zero_value}
 use Rattle.sl_meaning.specs.Lowered.{slots}
 use Rattle.sl_meaning.specs.Runs.{beginning, asked_at, nothing}
 use Rattle.sl_meaning.specs.Runs as runs
-use Rattle.core_codegen.specs.Compile.{slot_at}
+use Rattle.core_codegen.specs.Variables.{slot_at}
 use Rattle.core_codegen.specs.Correct.{Begins}
 use Rattle.grid_machine.specs.Asked.{begun_at}
 use Rattle.grid_machine.specs.Run.{assigned, fresh}

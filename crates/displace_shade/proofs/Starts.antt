@@ -26,7 +26,7 @@ use Rattle.sl_meaning.specs.Environment.{zero_value}
 use Rattle.sl_meaning.specs.Lowered.{slots}
 use Rattle.sl_meaning.specs.Runs.{Names, nothing}
 use Rattle.sl_meaning.specs.Runs as runs
-use Rattle.core_codegen.specs.Compile.{slot_at}
+use Rattle.core_codegen.specs.Variables.{slot_at}
 use Rattle.core_codegen.proofs.Relation.{place_small}
 use Rattle.shader_binding.specs.Sets.{AreValuesOf}
 use Rattle.place_rows.specs.Layout.{row_length, same_class}
@@ -217,12 +217,12 @@ started_keeps Light c s = record { live = refl; turns = refl; own = refl }
 started_keeps Volume c s = record { live = refl; turns = refl; own = refl }
 
 -- ---- the state that a run begins with
-pub zero_is : (s : Shape) → run.zero_value s ≡ as_shape s zero_value
+pub zero_is : (s : Shape) → run.zero_of s ≡ as_shape s zero_value
 zero_is shapes.Number = refl
 zero_is shapes.Triple = refl
 zero_is shapes.Word = refl
 
-pub fresh_read : (u : Bool) (s : Shape) (k i : ℕ) → read fresh (reg u s k) i ≡ run.zero_value s
+pub fresh_read : (u : Bool) (s : Shape) (k i : ℕ) → read fresh (reg u s k) i ≡ run.zero_of s
 fresh_read true s k i = refl
 fresh_read false s k i = refl
 

@@ -8,7 +8,6 @@ use Rattle.sl_ast.specs.declared.kinds.LightStmt.{LightStmt}
 use Rattle.sl_ast.specs.declared.kinds.LightStmt.TheVariants.{Illuminance, Illuminate, Solar}
 use Rattle.sl_ast.specs.declared.typed.Value.{Value}
 use Rattle.sl_ast.specs.declared.typed.Value.TheVariants.{Triple}
-use Rattle.builtins.specs.declared.shape.Shape.{Shape}
 use Rattle.builtins.specs.Values.{is_true, triple_of, truth}
 use Rattle.builtins.specs.Differences.{difference}
 use Rattle.builtins.specs.Lights.{is_in_cone, sum_of}
@@ -16,21 +15,18 @@ use Rattle.grid_code.specs.declared.code.Register.{Register}
 use Rattle.grid_code.specs.declared.code.Register.TheVariants.{Uniform, Varying}
 use Rattle.grid_code.specs.Names.{name_at, lit_at}
 use Rattle.grid_code.specs.Code.{Block, end, put, differ, sum, branch, loops, lights, breaks, continues}
+use Rattle.grid_code.specs.Turns.{Unchanged}
 use Rattle.grid_code.specs.Masked.{Ground, State, any, same_shape, read, reads, result_of, write, under, both_parts, one_part, take_turn, going, turn, turns_of, looped, all_answers, towards, colour_of, entered, under_lights, views, kindled, from_light, over_lights, masked}
-
-pub record Kept (i : ℕ) (g h : State) : Type 0 where
-  pub rows : (t : Shape) (k : ℕ) → h.rows t k i ≡ g.rows t k i
-  pub own : h.own i ≡ g.own i
 
 pub record Still (i : ℕ) (g h : State) : Type 0 where
   pub live : h.live i ≡ false
   pub staying : h.staying i ≡ g.staying i
-  pub kept : Kept i g h
+  pub kept : Unchanged i g h
 
-pub kept_self : (i : ℕ) (g : State) → Kept i g g
+pub kept_self : (i : ℕ) (g : State) → Unchanged i g g
 kept_self i g = record { rows = λ t k. refl; own = refl }
 
-pub kept_on : (i : ℕ) (g h k : State) → Kept i g h → Kept i h k → Kept i g k
+pub kept_on : (i : ℕ) (g h k : State) → Unchanged i g h → Unchanged i h k → Unchanged i g k
 kept_on i g h k a b = record { rows = λ t r. b.rows t r ∙ a.rows t r; own = b.own ∙ a.own }
 
 pub still_on : (i : ℕ) (g h k : State) → Still i g h → Still i h k → Still i g k
@@ -64,14 +60,14 @@ part_still i p a ha g h =
       kept = record { rows = λ t k. x.kept.rows t k; own = x.kept.own };
     }
 
-pub take_kept : (i : ℕ) (u : Bool) (g : State) → g.live i ≡ false → Kept i g (take_turn u g)
+pub take_kept : (i : ℕ) (u : Bool) (g : State) → g.live i ≡ false → Unchanged i g (take_turn u g)
 take_kept i true g h = record { rows = λ t k. refl; own = refl }
 take_kept i false g h = record { rows = λ t k. refl; own = cond-false _ _ _ h }
 
 -- what a turn of the other places leaves at the place, before the step
 record Passed (i : ℕ) (g h : State) : Type 0 where
   out : h.staying i ≡ false
-  kept : Kept i g h
+  kept : Unchanged i g h
 
 turn_passed : (i : ℕ) (u : Bool) (p : ℕ → Bool) (body : State → State) → Sleeps i body → (g : State) → p i ≡ false → Passed i g (body (take_turn u record g { live = p; staying = p }))
 turn_passed i true p body hb g h =
@@ -82,19 +78,19 @@ turn_passed i false p body hb g h =
     record { out = y.staying ∙ h; kept = record { rows = λ t k. y.kept.rows t k; own = y.kept.own ∙ cond-false _ _ _ h } }
 
 -- a turn of the other places
-pub turn_still : (i : ℕ) (u : Bool) (p : ℕ → Bool) (step body : State → State) → Sleeps i step → Sleeps i body → (g : State) → p i ≡ false → ((turn u p step body g).live i ≡ false) × Kept i g (turn u p step body g)
+pub turn_still : (i : ℕ) (u : Bool) (p : ℕ → Bool) (step body : State → State) → Sleeps i step → Sleeps i body → (g : State) → p i ≡ false → ((turn u p step body g).live i ≡ false) × Unchanged i g (turn u p step body g)
 turn_still i u p step body hs hb g h =
     let y = turn_passed i u p body hb g h in
     let z = hs record (body (take_turn u record g { live = p; staying = p })) { live = (body (take_turn u record g { live = p; staying = p })).staying } y.out in
     (z.live, record { rows = λ t k. z.kept.rows t k ∙ y.kept.rows t k; own = z.kept.own ∙ y.kept.own })
 
-pub turns_still : (n c i : ℕ) (u : Bool) (ask : State → State) (r : Register) (step body : State → State) → Sleeps i ask → Sleeps i step → Sleeps i body → (g : State) → g.live i ≡ false → Kept i g (turns_of n c u ask r step body g)
+pub turns_still : (n c i : ℕ) (u : Bool) (ask : State → State) (r : Register) (step body : State → State) → Sleeps i ask → Sleeps i step → Sleeps i body → (g : State) → g.live i ≡ false → Unchanged i g (turns_of n c u ask r step body g)
 turns_still zero c i u ask r step body ht hs hb g h = (ht g h).kept
 turns_still (suc n) c i u ask r step body ht hs hb g h =
     let x = ht g h in
     let p = going u r (ask g) in
     let y = turn_still i u p step body hs hb (ask g) (and_left ((ask g).live i) _ x.live) in
-    cond_both (any c p) (turns_of n c u ask r step body (turn u p step body (ask g))) (ask g) (λ s. Kept i g s)
+    cond_both (any c p) (turns_of n c u ask r step body (turn u p step body (ask g))) (ask g) (λ s. Unchanged i g s)
     (λ e. kept_on i g (ask g) _ x.kept (kept_on i (ask g) _ _ y.1 (turns_still n c i u ask r step body ht hs hb _ y.0)))
     (λ e. x.kept)
 

@@ -6,3 +6,5 @@ pub mod Both
 pub mod ValidThen
 pub mod Blocks
 pub mod Gathered
+mod Leavers
+mod OwnTurns

@@ -2,6 +2,7 @@ pub mod Texts
 pub mod Names
 pub mod Code
 pub mod Masked
+pub mod Turns
 pub mod View
 pub mod Shapes
 pub mod Uses

@@ -1,4 +1,4 @@
--- The texts of values and of the constants of code.
+-- For contracts of the machine alone: the texts of values and of the constants of code.
 use Rattle.std.specs.Prelude.{ℕ, Bool, true, List, [], ◌∷◌, ◌++◌, ◌≡◌}
 use Rattle.std.specs.Borrow.{Bor}
 use Rattle.std.specs.List.{list_any}
@@ -36,5 +36,5 @@ abbrev pub is_in_texts : List (List ℕ) → List ℕ → Bool
 is_in_texts ts w = list_any (λ t. bytes_eq t w) ts
 
 -- a list of texts holds those of another one
-abbrev pub Holds : List (Bor (List ℕ)) → List (List ℕ) → Type 0
-Holds ts xs = (w : List ℕ) → is_in_texts xs w ≡ true → list_any (λ t. bytes_eq t.now w) ts ≡ true
+abbrev pub HasTexts : List (Bor (List ℕ)) → List (List ℕ) → Type 0
+HasTexts ts xs = (w : List ℕ) → is_in_texts xs w ≡ true → list_any (λ t. bytes_eq t.now w) ts ≡ true

@@ -3,6 +3,8 @@
 
 mod code;
 mod collect;
+mod laws;
+pub mod named;
 mod register_set;
 mod registers;
 mod shader_code;
@@ -10,6 +12,8 @@ mod slot;
 
 pub use code::{Node, Register, Source};
 pub use collect::gather;
+pub use laws::{leaver_law, own_turns_law};
+pub use named::{register, register_of};
 pub use register_set::RegisterSet;
 pub use shader_code::Code;
 pub use slot::Slot;

@@ -13,7 +13,7 @@ use Rattle.grid_machine.specs.declared.frame.Frame.{Frame}
 use Rattle.grid_machine.specs.Fits.{OfCode}
 use Rattle.place_values.specs.Cells.{is_known}
 use Rattle.grid_machine.specs.State.{Ready}
-use Rattle.grid_code.specs.Texts.{Holds, texts_of_all, texts_in}
+use Rattle.grid_code.specs.Texts.{HasTexts, texts_of_all, texts_in}
 use Rattle.grid_machine.proofs.Names.{kind_pass}
 use Rattle.grid_machine.proofs.Validity.{holds_own, values_known, ready_of}
 
@@ -26,7 +26,7 @@ module _ (f g : Frame) (code : Code) (vs : List Value) (e : f ≡ g) (of : OfCod
       (subst (λ u. list_all (has code.varying u) xs ≡ true) (sym of.uniform)
       (subst (λ zs. list_all (has code.varying code.uniform) zs ≡ true) (sym is) h)))
 
-  held : Holds g.setting.texts.now (texts_of_all vs) × Holds g.setting.texts.now (texts_in (block_of code.nodes))
+  held : HasTexts g.setting.texts.now (texts_of_all vs) × HasTexts g.setting.texts.now (texts_in (block_of code.nodes))
   held = holds_own g.setting.texts.now (texts_of_all vs) (texts_in (block_of code.nodes)) of.texts
 
   pub known_by_frame : list_all (is_known f.setting.texts.now) vs ≡ true

@@ -1,5 +1,5 @@
 -- What a run leaves, by its machine.
-use Rattle.std.proofs.Common.{◌≡◌, ℕ, ◌+◌, ◌*◌, ◌<◌, ℤ, true, false, List, [], ◌∷◌, sym, ap, ◌∙◌, subst}
+use Rattle.std.proofs.Common.{◌≡◌, ℕ, ◌+◌, ◌*◌, ◌<◌, ℤ, true, List, [], ◌∷◌, sym, ap, ◌∙◌, subst}
 use Rattle.std.specs.Prelude.{◌&&◌}
 use Rattle.std.specs.List.{list_all}
 use Rattle.sl_ast.specs.declared.kinds.SlKind.{SlKind}
@@ -9,7 +9,7 @@ use Rattle.grid_code.specs.declared.code.Register.{Register}
 use Rattle.grid_code.specs.declared.register_set.RegisterSet.{RegisterSet}
 use Rattle.grid_code.specs.declared.slot.Slot.{Slot}
 use Rattle.grid_code.specs.Code.{Block}
-use Rattle.grid_code.specs.Names.{reg}
+use Rattle.grid_code.specs.Shapes.{register_shape}
 use Rattle.grid_code.specs.Uses.{has}
 use Rattle.grid_code.specs.Masked.{Asked, State, Ground, read, masked}
 use Rattle.grid_code.proofs.Both.{left, right}
@@ -18,9 +18,10 @@ use Rattle.grid_machine.specs.declared.frame.Frame.{Frame}
 use Rattle.grid_machine.specs.declared.inputs.Inputs.{Inputs}
 use Rattle.grid_machine.specs.declared.machine.Machine.{Machine}
 use Rattle.grid_machine.specs.Ended.{ended_under}
-use Rattle.place_rows.specs.Layout.{row_length}
+use Rattle.place_rows.specs.Layout.{row_length, height}
 use Rattle.grid_machine.specs.Run.{value_in, written_names, begun, HoldRows, Leaves}
 use Rattle.grid_machine.specs.State.{state_of, lit_ground, Near, NearIn, Kept}
+use Rattle.grid_machine.proofs.Near.{read_near}
 
 module _ (ls : List Asked) (f0 : Frame) (m k : Machine) (kind : SlKind) (params : List Slot) (vs : List Value) (rows : List ℤ) (x : Block) (w0 : Ground) (c : ℕ)
     (me : m.registers.frame.now ≡ f0) (kept : Kept m k) (ground_is : lit_ground ls f0 ≡ w0) (places_are : f0.places ≡ c) where
@@ -43,14 +44,16 @@ two_registers v u p q rs is h =
     let all = subst (λ xs. list_all (has v u) xs ≡ true) is h in
     (left (has v u p) (has v u q && true) all, left (has v u q) true (right (has v u p) (has v u q && true) all))
 
-pub left_rows : (k : Machine) (kind : SlKind) (g : State) (c : ℕ) (out : List ℤ) (a b w : ℕ) → k.registers.frame.now.places ≡ c → NearIn k g (state_of k) → written_names kind ≡ reg false shapes.Triple a ∷ reg false shapes.Triple b ∷ [] → list_all (has k.registers.frame.now.varying.now k.registers.frame.now.uniform.now) (written_names kind) ≡ true → w ≡ row_length c → ((i : ℕ) → i < k.registers.frame.now.places → value_in shapes.Triple out w (0 + i) ≡ read (state_of k) (reg false shapes.Triple a) i) → ((i : ℕ) → i < k.registers.frame.now.places → value_in shapes.Triple out w (0 + 3 * w + i) ≡ read (state_of k) (reg false shapes.Triple b) i) → Leaves kind c out g
-left_rows k kind g c out a b w same near names all width first second i l =
+pub left_rows : (k : Machine) (kind : SlKind) (g : State) (c : ℕ) (out : List ℤ) (p q : Register) (w : ℕ) → k.registers.frame.now.places ≡ c → NearIn k g (state_of k) → written_names kind ≡ p ∷ q ∷ [] → (register_shape p ≡ shapes.Triple) × (register_shape q ≡ shapes.Triple) → list_all (has k.registers.frame.now.varying.now k.registers.frame.now.uniform.now) (written_names kind) ≡ true → w ≡ row_length c → ((i : ℕ) → i < k.registers.frame.now.places → value_in shapes.Triple out w (0 + i) ≡ read (state_of k) p i) → ((i : ℕ) → i < k.registers.frame.now.places → value_in shapes.Triple out w (0 + 3 * w + i) ≡ read (state_of k) q i) → Leaves kind c out g
+left_rows k kind g c out p q w same near names triples all width first second i l =
     let f = k.registers.frame.now in
-    let two = two_registers f.varying.now f.uniform.now (reg false shapes.Triple a) (reg false shapes.Triple b) (written_names kind) names all in
-    let lk = subst (λ p. i < p) (sym same) l in
-    subst (λ q. HoldRows q out i (written_names kind) 0 g) width
+    let two = two_registers f.varying.now f.uniform.now p q (written_names kind) names all in
+    let lk = subst (λ n. i < n) (sym same) l in
+    let one : value_in (register_shape p) out w (0 + i) ≡ read g p i = subst (λ s. value_in s out w (0 + i) ≡ read g p i) (sym triples.0) (first i lk ∙ sym (read_near f.places f.varying.now f.uniform.now g (state_of k) p i near two.0 lk)) in
+    let other : value_in (register_shape q) out w (0 + 3 * w + i) ≡ read g q i = subst (λ s. value_in s out w (0 + 3 * w + i) ≡ read g q i) (sym triples.1) (second i lk ∙ sym (read_near f.places f.varying.now f.uniform.now g (state_of k) q i near two.1 lk)) in
+    subst (λ n. HoldRows n out i (written_names kind) 0 g) width
     (subst (λ rs. HoldRows w out i rs 0 g) (sym names)
-    (first i lk ∙ sym (near.rows shapes.Triple a i two.0 lk), (second i lk ∙ sym (near.rows shapes.Triple b i two.1 lk), tt)))
+    (one, (subst (λ s. value_in (register_shape q) out w (0 + height s * w + i) ≡ read g q i) (sym triples.0) other, tt)))
 
 -- the same for an equal number of places, and for equal lights
 pub leaves_by : (kind : SlKind) (out : List ℤ) (code : Code) (inputs : Inputs) (p c : ℕ) (ls ms : List Asked) → p ≡ c → ls ≡ ms → Leaves kind p out (ended_under ls code inputs) → Leaves kind c out (ended_under ms code inputs)

@@ -9,7 +9,7 @@ use Rattle.place_rows.specs.declared.mask.Mask.{Mask}
 use Rattle.grid_machine.specs.declared.machine.Machine.{Machine}
 use Rattle.grid_machine.specs.declared.frame.Frame.{Frame}
 use Rattle.place_rows.specs.Seen.{Lighting}
-use Rattle.grid_machine.specs.State.{state_of, lit_ground, Steps, ReadyIn, HasRegister, Runs, Kept, Ready, Near}
+use Rattle.grid_machine.specs.State.{state_of, lit_ground, Performs, ReadyIn, HasRegister, Runs, Kept, Ready, Near}
 use Rattle.grid_machine.proofs.Near.{any_same}
 use Rattle.std.specs.Borrow.{Bor}
 
@@ -17,7 +17,7 @@ pub kept_on : (a b d : Machine) → Kept a b → Kept b d → Kept a d
 kept_on a b d x y = record { frame = y.frame ∙ x.frame; whole = y.whole }
 
 abbrev pub StepsBy : List Asked → Bor Frame → ℕ → Block → State → State → Type 0
-StepsBy ls f n x s s' = Steps (lit_ground ls f.now) f.now.places f.now.varying.now f.now.uniform.now n x s s'
+StepsBy ls f n x s s' = Performs (lit_ground ls f.now) f.now.places f.now.varying.now f.now.uniform.now n x s s'
 
 pub places_kept : (a b : Machine) (x y : Lighting) → Kept a b → y ≡ x → x.places ≡ a.registers.frame.now.places → y.places ≡ b.registers.frame.now.places
 places_kept a b x y k e h = ap (λ s. s.places) e ∙ h ∙ sym (ap (λ f. f.now.places) k.frame)

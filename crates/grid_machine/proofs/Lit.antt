@@ -18,7 +18,7 @@ use Rattle.grid_code.specs.Masked.{Asked, State, Ground, read, reads, under, one
 use Rattle.grid_code.specs.Names.{name_at}
 use Rattle.grid_code.specs.Uses.{has}
 use Rattle.place_rows.specs.Seen.{unasked, shown_by}
-use Rattle.grid_machine.specs.State.{Near, Steps}
+use Rattle.grid_machine.specs.State.{Near, Performs}
 use Rattle.grid_machine.proofs.Masks.{near_live}
 use Rattle.grid_machine.proofs.Near.{read_near, reads_near}
 use Rattle.place_rows.proofs.Totals.{none_left}
@@ -34,7 +34,7 @@ view_from fs i place cone g j = shown (reads g cone j) (answers (get_or fs i una
 
 module _ (w : Ground) (c : ℕ) (v z : RegisterSet) (n : ℕ) where
   -- a block under a part of the places, begun by e
-  pub part_steps : (p p' : ℕ → Bool) (e : State → State) (a : Block) (h m0 m2 m3 : State) (l1 l4 : ℕ → Bool) → Near c v z h m0 → ((i : ℕ) → i < c → p i ≡ p' i) → ((i : ℕ) → i < c → l1 i ≡ (m0.live i && p' i)) → ((k : State) → Near c v z k record m0 { live = l1 } → Near c v z (e k) m2) → Steps w c v z n a m2 m3 → ((i : ℕ) → i < c → l4 i ≡ (m3.live i || (m0.live i && not (p' i)))) → Near c v z (one_part p (λ x. masked a w c n (e x)) h) record m3 { live = l4 }
+  pub part_steps : (p p' : ℕ → Bool) (e : State → State) (a : Block) (h m0 m2 m3 : State) (l1 l4 : ℕ → Bool) → Near c v z h m0 → ((i : ℕ) → i < c → p i ≡ p' i) → ((i : ℕ) → i < c → l1 i ≡ (m0.live i && p' i)) → ((k : State) → Near c v z k record m0 { live = l1 } → Near c v z (e k) m2) → Performs w c v z n a m2 m3 → ((i : ℕ) → i < c → l4 i ≡ (m3.live i || (m0.live i && not (p' i)))) → Near c v z (one_part p (λ x. masked a w c n (e x)) h) record m3 { live = l4 }
   part_steps p p' e a h m0 m2 m3 l1 l4 near same e1 enter ha e4 =
       let x = masked a w c n (e (under p h)) in
       let nx = ha (e (under p h)) (enter (under p h) (near_live c v z h m0 (λ i. h.live i && p i) l1 near (λ i l. ap (λ k. k && p i) (near.live i l) ∙ ap (λ k. m0.live i && k) (same i l) ∙ sym (e1 i l)))) in
@@ -65,7 +65,7 @@ module _ (w : Ground) (c : ℕ) (v z : RegisterSet) (n : ℕ) where
               );
         }
 
-    pub showing_end : (i : ℕ) (m0 m : State) → i ≡ length w.lights → Showing i m0 m → Steps w c v z n (lights Illuminance (place ∷ cone) a end) m0 m
+    pub showing_end : (i : ℕ) (m0 m : State) → i ≡ length w.lights → Showing i m0 m → Performs w c v z n (lights Illuminance (place ∷ cone) a end) m0 m
     showing_end i m0 m e s g near =
         let y = s.ahead g near in
         subst (λ k. Near c v z k m) (ap (λ fs. under_lights c (views fs g place cone) (masked a w c n) y.0) (sym (none_left w.lights i e)) ∙ y.1.1) y.1.0

@@ -15,7 +15,7 @@ use Rattle.grid_code.specs.Uses.{has}
 use Rattle.grid_code.specs.Masked.{State, Ground, read, reads, result_of, write, masked}
 use Rattle.grid_code.proofs.Then.{then_runs}
 use Rattle.grid_code.proofs.Blocks.{block_size, node_size, next_node, none_left}
-use Rattle.grid_machine.specs.State.{Near, Steps, Ready, SourceReady}
+use Rattle.grid_machine.specs.State.{Near, Performs, Ready, SourceReady}
 use Rattle.grid_machine.proofs.Near.{near_on, read_near, result_near, difference_near, write_near}
 
 node_then : (x : Node) (y : Block) → with_node x end then y ≡ with_node x y
@@ -52,7 +52,7 @@ module _ (w : Ground) (c : ℕ) (v z : RegisterSet) (ts : List (Bor (List ℕ)))
   pub running_init : (m : State) → Ready v z ts (block_of block) → Running 0 m m
   running_init m h = record { ahead = λ g near. (g, (near, refl)); ready = h; small = omega arith }
 
-  pub running_end : (i : ℕ) (m0 m : State) → Running i m0 m → i ≡ length block → Steps w c v z n (block_of block) m0 m
+  pub running_end : (i : ℕ) (m0 m : State) → Running i m0 m → i ≡ length block → Performs w c v z n (block_of block) m0 m
   running_end i m0 m e h g near =
       let a = e.ahead g near in
       let q = ap block_of (none_left block i h) in
@@ -65,7 +65,7 @@ module _ (w : Ground) (c : ℕ) (v z : RegisterSet) (ts : List (Bor (List ℕ)))
     pub running_small : block_size (with_node x end) ≤ block_size (block_of block)
     running_small = let q = ap block_size (next_node block i x h is) in let f = e.small in omega (arith, node_size x (block_of (drop (i + 1) block)))
 
-    pub running_next : (m' : State) → Steps w c v z n (with_node x end) m m' → Running (i + 1) m0 m'
+    pub running_next : (m' : State) → Performs w c v z n (with_node x end) m m' → Running (i + 1) m0 m'
     running_next m' st =
         let q = next_node block i x h is in
         let rest = block_of (drop (i + 1) block) in
@@ -83,10 +83,10 @@ result_dark w w0 (Into sh q) s i e = refl
 result_dark w w0 (Apply op qs) s i e = ap (λ sp. applied op sp (reads s qs i)) e
 
 -- an instruction doesn't hang on lights
-pub put_steps : (w w0 : Ground) (c : ℕ) (v z : RegisterSet) (n : ℕ) (ts : List (Bor (List ℕ))) (t : Register) (o : Source) (s s' : State) → w.spaces ≡ w0.spaces → 0 < c → SourceReady v z ts o → Near c v z (write c t (result_of o w0 s) s) s' → Steps w c v z n (put t o end) s s'
+pub put_steps : (w w0 : Ground) (c : ℕ) (v z : RegisterSet) (n : ℕ) (ts : List (Bor (List ℕ))) (t : Register) (o : Source) (s s' : State) → w.spaces ≡ w0.spaces → 0 < c → SourceReady v z ts o → Near c v z (write c t (result_of o w0 s) s) s' → Performs w c v z n (put t o end) s s'
 put_steps w w0 c v z n ts t o s s' e pos x near g ng =
     near_on c v z _ _ _ (write_near c v z t (result_of o w g) (result_of o w0 s) g s pos ng (λ i l. result_near c v z w g s o i ng x.within l ∙ result_dark w w0 o s i e)) near
 
-pub differ_steps : (w : Ground) (c : ℕ) (v z : RegisterSet) (n : ℕ) (t : Register) (d : Difference) (q : Register) (s s' : State) → 0 < c → c ≡ w.lines.columns * w.lines.rows → 2 ≤ w.lines.columns → 2 ≤ w.lines.rows → has v z q ≡ true → Near c v z (write c t (difference d w.lines w.spaces.flip (read s q)) s) s' → Steps w c v z n (differ t d q end) s s'
+pub differ_steps : (w : Ground) (c : ℕ) (v z : RegisterSet) (n : ℕ) (t : Register) (d : Difference) (q : Register) (s s' : State) → 0 < c → c ≡ w.lines.columns * w.lines.rows → 2 ≤ w.lines.columns → 2 ≤ w.lines.rows → has v z q ≡ true → Near c v z (write c t (difference d w.lines w.spaces.flip (read s q)) s) s' → Performs w c v z n (differ t d q end) s s'
 differ_steps w c v z n t d q s s' pos shape wide tall x near g ng =
     near_on c v z _ _ _ (write_near c v z t _ _ g s pos ng (λ i l. difference_near w.lines c (read g q) (read s q) shape wide tall (λ j b. read_near c v z g s q j ng x b) i l d w.spaces.flip)) near

@@ -24,7 +24,7 @@ use Rattle.grid_code.specs.Shapes.{register_class, register_shape, difference_sh
 use Rattle.grid_code.specs.Uses.{has, within, source_within, names_at, kind_registers}
 use Rattle.grid_code.specs.Valid.{is_placed, has_operands, at_most_three}
 use Rattle.grid_code.proofs.Both.{both, left, right}
-use Rattle.grid_code.specs.Texts.{texts_of, texts_of_all, texts_of_source, texts_in, is_in_texts, Holds}
+use Rattle.grid_code.specs.Texts.{texts_of, texts_of_all, texts_of_source, texts_in, is_in_texts, HasTexts}
 use Rattle.place_values.specs.Cells.{is_known}
 use Rattle.grid_machine.specs.State.{Ready, source_known, lights_registers}
 use Rattle.grid_machine.proofs.Writes.{shape_eq}
@@ -55,31 +55,31 @@ in_right : (xs ys : List (List ℕ)) (w : List ℕ) → is_in_texts ys w ≡ tru
 in_right [] ys w h = h
 in_right (x ∷ xs) ys w h = or_right (bytes_eq x w) _ (in_right xs ys w h)
 
-holds_left : (ts : List (Bor (List ℕ))) (xs ys : List (List ℕ)) → Holds ts (xs ++ ys) → Holds ts xs
+holds_left : (ts : List (Bor (List ℕ))) (xs ys : List (List ℕ)) → HasTexts ts (xs ++ ys) → HasTexts ts xs
 holds_left ts xs ys h w k = h w (in_left xs ys w k)
 
-holds_right : (ts : List (Bor (List ℕ))) (xs ys : List (List ℕ)) → Holds ts (xs ++ ys) → Holds ts ys
+holds_right : (ts : List (Bor (List ℕ))) (xs ys : List (List ℕ)) → HasTexts ts (xs ++ ys) → HasTexts ts ys
 holds_right ts xs ys h w k = h w (in_right xs ys w k)
 
 -- a list holds its own texts, those of values before those of code
-pub holds_own : (ts : List (Bor (List ℕ))) (xs ys : List (List ℕ)) → map (λ t. t.now) ts ≡ xs ++ ys → Holds ts xs × Holds ts ys
+pub holds_own : (ts : List (Bor (List ℕ))) (xs ys : List (List ℕ)) → map (λ t. t.now) ts ≡ xs ++ ys → HasTexts ts xs × HasTexts ts ys
 holds_own ts xs ys e =
-    let all : Holds ts (xs ++ ys) = λ w k. sym (in_now ts w) ∙ ap (λ zs. is_in_texts zs w) e ∙ k in
+    let all : HasTexts ts (xs ++ ys) = λ w k. sym (in_now ts w) ∙ ap (λ zs. is_in_texts zs w) e ∙ k in
     (holds_left ts xs ys all, holds_right ts xs ys all)
 
 itself : (w : List ℕ) → bytes_eq w w ≡ true
 itself w = sym (same_bytes w w true ((λ t. refl), (λ e. refl)))
 
-value_known : (ts : List (Bor (List ℕ))) (v : Value) → Holds ts (texts_of v) → is_known ts v ≡ true
+value_known : (ts : List (Bor (List ℕ))) (v : Value) → HasTexts ts (texts_of v) → is_known ts v ≡ true
 value_known ts (values.Number x) h = refl
 value_known ts (values.Triple t) h = refl
 value_known ts (values.Word w) h = h w (or_left (bytes_eq w w) _ (itself w))
 
-pub values_known : (ts : List (Bor (List ℕ))) (vs : List Value) → Holds ts (texts_of_all vs) → list_all (is_known ts) vs ≡ true
+pub values_known : (ts : List (Bor (List ℕ))) (vs : List Value) → HasTexts ts (texts_of_all vs) → list_all (is_known ts) vs ≡ true
 values_known ts [] h = refl
 values_known ts (v ∷ vs) h = both (is_known ts v) _ (value_known ts v (holds_left ts (texts_of v) (texts_of_all vs) h)) (values_known ts vs (holds_right ts (texts_of v) (texts_of_all vs) h))
 
-source_is_known : (ts : List (Bor (List ℕ))) (o : Source) → Holds ts (texts_of_source o) → source_known ts o ≡ true
+source_is_known : (ts : List (Bor (List ℕ))) (o : Source) → HasTexts ts (texts_of_source o) → source_known ts o ≡ true
 source_is_known ts (Constant v) h = value_known ts v h
 source_is_known ts (Copy q) h = refl
 source_is_known ts (Into s q) h = refl
@@ -123,7 +123,7 @@ light_registers_pass p kinds.Displacement e h = absurd (true≢false (sym e))
 light_registers_pass p kinds.Volume e h = absurd (true≢false (sym e))
 
 module _ (v u : RegisterSet) (ts : List (Bor (List ℕ))) (k : SlKind) (all : list_all (has v u) (kind_registers k) ≡ true) where
-  pub ready_of : (l c : Bool) (x : Block) → within (has v u) x ≡ true → is_placed k l c x ≡ true → Holds ts (texts_in x) → Ready v u ts x
+  pub ready_of : (l c : Bool) (x : Block) → within (has v u) x ≡ true → is_placed k l c x ≡ true → HasTexts ts (texts_in x) → Ready v u ts x
   ready_of l c end w p h = tt
   ready_of l c (put r q x) w p h =
       let w2 = right (has v u r) _ w in

@@ -1,4 +1,4 @@
--- A light with a machine of its own: its places, and what it answers.
+-- For private contracts alone: a light with a machine of its own: its places, and what it answers.
 use Rattle.std.specs.Prelude.{ℕ}
 use Rattle.grid_code.specs.Masked.{Asked}
 use Rattle.grid_machine.specs.Asked.{asked}

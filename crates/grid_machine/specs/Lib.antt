@@ -1,4 +1,5 @@
 pub mod State
+pub mod Writes
 pub mod Operands
 pub mod Run
 pub mod Asked

@@ -1,4 +1,4 @@
--- What instructions work on, where each operand has been found.
+-- For private contracts alone: what instructions work on, where each operand has been found.
 use Rattle.std.specs.Prelude.{ℕ, ◌+◌, ◌<◌, ◌≤◌, pos, List, [], ◌∷◌}
 use Rattle.transforms.specs.declared.spaces.Spaces.{Spaces}
 use Rattle.sl_ast.specs.declared.operations.ValueOperation.{ValueOperation}

@@ -84,14 +84,14 @@ started c (row ∷ rest) s = started c rest (by_start row.start)
     by_start zero = s
     by_start (copied other) = write c (name_at row.name) (λ i. read s (name_at other) i) s
 
-abbrev pub zero_value : Shape → Value
-zero_value shapes.Number = Number (pos 0)
-zero_value shapes.Triple = Triple origin
-zero_value shapes.Word = Word []
+abbrev pub zero_of : Shape → Value
+zero_of shapes.Number = Number (pos 0)
+zero_of shapes.Triple = Triple origin
+zero_of shapes.Word = Word []
 
 -- everything 0, both budgets whole, and all places live
 abbrev pub fresh : State
-fresh = record { rows = λ s k i. zero_value s; shared = λ s k. zero_value s; turns = 65536; own = λ i. 65536; live = λ i. true; staying = λ i. true }
+fresh = record { rows = λ s k i. zero_of s; shared = λ s k. zero_of s; turns = 65536; own = λ i. 65536; live = λ i. true; staying = λ i. true }
 
 -- the state of a run's beginning
 abbrev pub begun : SlKind → List Slot → ℕ → List Value → List ℤ → State

@@ -1,4 +1,4 @@
--- The machine's state as that of the code, and when two states are the same on a grid.
+-- For private contracts alone: the machine's state as that of the code, and when two states are the same on a grid.
 use Rattle.std.specs.Prelude.{◌≡◌, ℕ, ◌+◌, ◌*◌, ◌<◌, ◌==◌, suc, Bool, true, false, List, [], ◌∷◌, length, get_or, cond}
 use Rattle.std.specs.List.{list_all}
 use Rattle.std.specs.Borrow.{Bor}
@@ -116,12 +116,12 @@ Ready v u ts (breaks x) = Ready v u ts x
 Ready v u ts (continues x) = Ready v u ts x
 
 -- a step of the machine is a step of the code's meaning
-abbrev pub Steps : Ground → ℕ → RegisterSet → RegisterSet → ℕ → Block → State → State → Type 0
-Steps w c v u n x m m' = (g : State) → Near c v u g m → Near c v u (masked x w c n g) m'
+abbrev pub Performs : Ground → ℕ → RegisterSet → RegisterSet → ℕ → Block → State → State → Type 0
+Performs w c v u n x m m' = (g : State) → Near c v u g m → Near c v u (masked x w c n g) m'
 
 -- the same of the turns of a loop
-abbrev pub Turns : Ground → ℕ → RegisterSet → RegisterSet → ℕ → Bool → Block → Register → Block → Block → State → State → Type 0
-Turns w c v u n uniform ask test step body m m' = (g : State) → Near c v u g m → Near c v u (turns_of n c uniform (masked ask w c n) test (masked step w c n) (masked body w c n) g) m'
+abbrev pub PerformsTurns : Ground → ℕ → RegisterSet → RegisterSet → ℕ → Bool → Block → Register → Block → Block → State → State → Type 0
+PerformsTurns w c v u n uniform ask test step body m m' = (g : State) → Near c v u g m → Near c v u (turns_of n c uniform (masked ask w c n) test (masked step w c n) (masked body w c n) g) m'
 
 abbrev pub ReadyIn : Machine → Block → Type 0
 ReadyIn m x = Ready m.registers.frame.now.varying.now m.registers.frame.now.uniform.now (texts_of m.registers) x
@@ -133,7 +133,7 @@ abbrev pub NearIn : Machine → State → State → Type 0
 NearIn m g h = Near m.registers.frame.now.places m.registers.frame.now.varying.now m.registers.frame.now.uniform.now g h
 
 abbrev pub Runs : List Asked → ℕ → Block → Machine → Machine → Type 0
-Runs ls n x m k = Steps (lit_ground ls m.registers.frame.now) m.registers.frame.now.places m.registers.frame.now.varying.now m.registers.frame.now.uniform.now n x (state_of m) (state_of k)
+Runs ls n x m k = Performs (lit_ground ls m.registers.frame.now) m.registers.frame.now.places m.registers.frame.now.varying.now m.registers.frame.now.uniform.now n x (state_of m) (state_of k)
 
 abbrev pub RunsTurns : List Asked → ℕ → Bool → Block → Register → Block → Block → Machine → Machine → Type 0
-RunsTurns ls n uniform ask test step body m k = Turns (lit_ground ls m.registers.frame.now) m.registers.frame.now.places m.registers.frame.now.varying.now m.registers.frame.now.uniform.now n uniform ask test step body (state_of m) (state_of k)
+RunsTurns ls n uniform ask test step body m k = PerformsTurns (lit_ground ls m.registers.frame.now) m.registers.frame.now.places m.registers.frame.now.varying.now m.registers.frame.now.uniform.now n uniform ask test step body (state_of m) (state_of k)

@@ -1,23 +1,21 @@
 // Lights asked at points.
 ghost use Rattle.std.specs.Prelude.{◌≡◌, ℕ, ◌<◌, true, false, not, length, get_or};
 ghost use Rattle.std.specs.List.{list_all};
-ghost use Rattle.fixed_math.specs.Axes.{origin};
-ghost use Rattle.fixed_math.specs.declared.vec3.Vec3.{Vec3 as AnyVec3};
 ghost use Rattle.sl_ast.specs.declared.kinds.Predefined.TheVariants as names;
 ghost use Rattle.grid_code.specs.Names.{name_at, lit_at, first_free};
 ghost use Rattle.grid_code.specs.Uses.{has, registers_from, kind_registers};
 ghost use Rattle.grid_code.specs.View.{block_of};
 ghost use Rattle.place_rows.specs.declared.answers.Answer.TheVariants as answered;
-ghost use Rattle.grid_machine.specs.Asked.{IsLight, answer_at, asked};
+ghost use Rattle.grid_machine.specs.Asked.{IsLight, answer_at};
 ghost use Rattle.place_rows.specs.Seen.{light_of, answered_by};
 ghost use Rattle.place_values.specs.Cells.{is_known};
-ghost use Rattle.grid_machine.specs.State.{state_of, lines_of, texts_of, HasRegister, ReadyIn, Whole, Kept};
+ghost use Rattle.grid_machine.specs.State.{state_of, texts_of, HasRegister, ReadyIn, Whole, Kept};
+ghost use Rattle.grid_machine.specs.Writes.{AnswersAsked};
 
 use crate::blocks::run_block;
 use crate::machine::Machine;
-use builtins::Shape;
 use fixed_math::Vec3;
-use grid_code::{Code, Register};
+use grid_code::{Code, Register, named};
 use place_rows::{Answer, Answers, Dark, Points};
 use sl_ast::Value;
 
@@ -43,9 +41,9 @@ impl Machine<'_> {
         requires lit { HasRegister self.now lit_at }
         ensures { (i : ℕ) → i < self.now.registers.frame.now.places → light_of (get_or result.at i answered.Unlit) ≡ answer_at (not ambient) (state_of self.now) i }
     {
-        let directions = self.points(Register::Varying(Shape::Triple, 15));
-        let colours = self.points(Register::Varying(Shape::Triple, 16));
-        let lit = self.tests(Register::Varying(Shape::Number, 21));
+        let directions = self.points(named::L);
+        let colours = self.points(named::CL);
+        let lit = self.tests(named::LIT);
         let mut answers = Answers::none();
         for place in 0..self.registers.frame.places {
             let (direction, colour) = (directions.get(place), colours.get(place));
@@ -70,11 +68,11 @@ impl Machine<'_> {
         requires known { list_all (is_known (texts_of self.old.registers)) values.now ≡ true }
         requires ready { ReadyIn self.old (block_of code.now.nodes) }
         ensures kept { Kept self.old self.new }
-        ensures each { (q : ℕ → AnyVec3) → ((i : ℕ) → i < self.old.registers.frame.now.places → q i ≡ get_or points.now.at i origin) → (i : ℕ) → i < self.old.registers.frame.now.places → light_of (get_or result.at i answered.Unlit) ≡ asked (lines_of self.old.registers.frame.now) self.old.registers.frame.now.places self.old.registers.frame.now.setting.spaces.now code.now values.now q i }
+        ensures each { AnswersAsked self.old code.now values.now points.now.at result.at }
     {
         self.reset();
         self.assign_all(registers, values);
-        self.set_triples(19, points);
+        self.set_triples(named::PS, points);
         let places = self.registers.frame.places;
         let mut dark = Dark { places, many: 0 };
         run_block(code.nodes.as_slice(), self, &mut dark, 65536);

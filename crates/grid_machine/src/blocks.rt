@@ -1,17 +1,15 @@
 // Runs blocks of grid code.
-ghost use Rattle.std.specs.Prelude.{◌≡◌, ℕ, ◌<◌, Bool, true, false, ◌∷◌, get_or};
+ghost use Rattle.std.specs.Prelude.{◌≡◌, true, ◌∷◌};
 ghost use Rattle.std.specs.List.{list_all};
-ghost use Rattle.fixed_math.specs.Axes.{origin};
-ghost use Rattle.fixed_math.specs.declared.vec3.Vec3.{Vec3 as AnyVec3};
 ghost use Rattle.sl_ast.specs.declared.kinds.LightStmt.TheVariants.{Illuminance};
 ghost use Rattle.sl_ast.specs.declared.kinds.Predefined.TheVariants as names;
 ghost use Rattle.grid_code.specs.Code as code;
 ghost use Rattle.grid_code.specs.Code.{end, branch};
-ghost use Rattle.grid_code.specs.Masked.{illuminated, masked, State as Grid};
 ghost use Rattle.grid_code.specs.Names.{name_at, lit_at};
 ghost use Rattle.grid_code.specs.Uses.{has};
 ghost use Rattle.grid_code.specs.View.{with_node, block_of};
-ghost use Rattle.grid_machine.specs.State.{state_of, lit_ground, lights_registers, NearIn, HasRegister, ReadyIn, Runs, RunsTurns, Whole, Kept};
+ghost use Rattle.grid_machine.specs.State.{lights_registers, HasRegister, ReadyIn, Runs, RunsTurns, Whole, Kept};
+ghost use Rattle.grid_machine.specs.Writes.{RunsLit};
 
 use crate::machine::Machine;
 use grid_code::{Node, Register};
@@ -250,7 +248,7 @@ fn run_lit<L: Illumination>(
     requires places { (L.lighting lights.old).places ≡ m.old.registers.frame.now.places }
     ensures kept { Kept m.old m.new }
     ensures same { L.lighting lights.new ≡ L.lighting lights.old }
-    ensures near { (g : Grid) (p : ℕ → Bool) (f : ℕ → AnyVec3) → NearIn m.old g (state_of m.old) → ((i : ℕ) → i < m.old.registers.frame.now.places → p i ≡ get_or seen.now.places i false) → ((i : ℕ) → i < m.old.registers.frame.now.places → f i ≡ get_or directions.now.at i origin) → NearIn m.old (illuminated m.old.registers.frame.now.places p f (masked (block_of body.now) (lit_ground (L.lighting lights.old).lights m.old.registers.frame.now) m.old.registers.frame.now.places most) g) (state_of m.new) }
+    ensures near { RunsLit (L.lighting lights.old).lights most (block_of body.now) seen.now.places directions.now.at m.old m.new }
 {
     let count = m.registers.frame.places;
     let live = m.live;

@@ -1,9 +1,10 @@
 // Tests, turns of loops and their price.
-ghost use Rattle.std.specs.Prelude.{◌≡◌, ℕ, ◌-◌, ◌<◌, ◌≤◌, Bool, List, false, cond, length, get_or, nat_lt};
+ghost use Rattle.std.specs.Prelude.{◌≡◌, ℕ, ◌-◌, ◌<◌, ◌≤◌, List, false, cond, length, get_or, nat_lt};
 ghost use Rattle.builtins.specs.Values.{is_true as holds};
 ghost use Rattle.grid_code.specs.Code.{end, breaks, continues};
-ghost use Rattle.grid_code.specs.Masked.{read, budgets, take_turn, State as Grid, Asked, going as going_of};
-ghost use Rattle.grid_machine.specs.State.{state_of, Runs, NearIn, HasRegister, Whole, Kept};
+ghost use Rattle.grid_code.specs.Masked.{read, budgets, Asked, going as going_of};
+ghost use Rattle.grid_machine.specs.State.{state_of, Runs, HasRegister, Whole, Kept};
+ghost use Rattle.grid_machine.specs.Writes.{BeginsTurn};
 
 use crate::machine::Machine;
 use grid_code::Register;
@@ -107,7 +108,7 @@ impl Machine<'_> {
     pub fn begin_turn(&mut self, uniform: bool, going: &Mask)
         requires whole { Whole self.old }
         ensures kept { Kept self.old self.new }
-        ensures near { (g : Grid) (p : ℕ → Bool) → NearIn self.old g (state_of self.old) → ((i : ℕ) → i < self.old.registers.frame.now.places → p i ≡ get_or going.now.places i false) → NearIn self.old (take_turn uniform record g { live = p; staying = p }) (state_of self.new) }
+        ensures near { BeginsTurn uniform going.now.places self.old self.new }
     {
         self.live = *going;
         self.staying = *going;

@@ -1,12 +1,12 @@
 // Differences between the neighbours of a grid.
-ghost use Rattle.std.specs.Prelude.{◌≡◌, ℕ, ◌<◌, ◌≤◌};
+ghost use Rattle.std.specs.Prelude.{◌≡◌, ◌<◌, ◌≤◌};
 ghost use Rattle.builtins.specs.Differences as spec;
-ghost use Rattle.builtins.specs.Shapes.{shape as shape_of_value};
 ghost use Rattle.builtins.specs.declared.shape.Shape.{Shape as AnyShape};
-ghost use Rattle.place_rows.specs.Banks.{size, held};
+ghost use Rattle.place_rows.specs.Banks.{size};
 ghost use Rattle.place_values.specs.Cells.{value_of};
 ghost use Rattle.grid_machine.specs.State.{texts_of, lines_of};
 ghost use Rattle.grid_machine.specs.Operands.{operand_at, OperandIn};
+ghost use Rattle.grid_machine.specs.Writes.{HoldsEach};
 
 use crate::machine::Registers;
 use crate::operand::Operand;
@@ -89,7 +89,7 @@ impl Registers<'_> {
         requires count { count ≤ self.now.frame.now.places }
         requires room { (s : AnyShape) → count ≤ size row.old s }
         ensures size { (s : AnyShape) → size row.new s ≡ size row.old s }
-        ensures each { (j : ℕ) → j < count → value_of (texts_of self.now) (held row.new (shape_of_value (spec.difference difference (lines_of self.now.frame.now) self.now.frame.now.setting.spaces.now.flip (operand_at self.now of) j)) j) ≡ spec.difference difference (lines_of self.now.frame.now) self.now.frame.now.setting.spaces.now.flip (operand_at self.now of) j }
+        ensures each { HoldsEach (texts_of self.now) row.new count (spec.difference difference (lines_of self.now.frame.now) self.now.frame.now.setting.spaces.now.flip (operand_at self.now of)) }
     {
         for place in 0..count {
             row.set(place, &self.difference(difference, of, place));

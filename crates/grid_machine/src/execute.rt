@@ -6,21 +6,21 @@ ghost use Rattle.sl_ast.specs.Variables.{variables};
 ghost use Rattle.sl_ast.specs.declared.kinds.Predefined.TheVariants as names;
 ghost use Rattle.sl_ast.specs.declared.typed.Value.TheVariants as values;
 ghost use Rattle.builtins.specs.Shapes.{shape as shape_of_value};
-ghost use Rattle.grid_code.specs.Masked.{read, write, masked, State as Grid};
+ghost use Rattle.grid_code.specs.Masked.{read};
 ghost use Rattle.grid_code.specs.Names.{name_at};
 ghost use Rattle.grid_code.specs.Shapes.{register_shape};
 ghost use Rattle.grid_code.specs.Uses.{has, names_at};
 ghost use Rattle.grid_code.specs.View.{block_of};
 ghost use Rattle.place_rows.specs.Layout.{row_length};
-ghost use Rattle.grid_machine.specs.Run.{rows_of, uniform_inputs, varying_inputs, started, fresh, begun};
+ghost use Rattle.grid_machine.specs.Run.{rows_of, uniform_inputs, varying_inputs, started, fresh};
 ghost use Rattle.place_values.specs.Cells.{is_known};
-ghost use Rattle.grid_machine.specs.State.{state_of, lit_ground, texts_of, NearIn, HasRegister, ReadyIn, Whole, Kept};
+ghost use Rattle.grid_machine.specs.State.{state_of, texts_of, NearIn, HasRegister, ReadyIn, Whole, Kept};
+ghost use Rattle.grid_machine.specs.Writes.{Writes, Leads, RunsWhole};
 
 use crate::blocks::run_block;
 use crate::machine::Machine;
-use builtins::Shape;
 use fixed_math::Num;
-use grid_code::{Code, Register, Source};
+use grid_code::{Code, Register, Source, named};
 use place_rows::Illumination;
 use sl_ast::{SlKind, Value};
 
@@ -32,7 +32,7 @@ impl Machine<'_> {
         requires from { HasRegister self.old from }
         requires shape { register_shape from ≡ register_shape to }
         ensures kept { Kept self.old self.new }
-        ensures near { NearIn self.old (write self.old.registers.frame.now.places to (λ i. read (state_of self.old) from i) (state_of self.old)) (state_of self.new) }
+        ensures near { Writes self.old to (λ i. read (state_of self.old) from i) self.new }
     {
         self.put(to, &Source::Copy(from));
     }
@@ -42,18 +42,12 @@ impl Machine<'_> {
         requires whole { Whole self.old }
         requires has { list_all (has self.old.registers.frame.now.varying.now self.old.registers.frame.now.uniform.now) (names_at kind) ≡ true }
         ensures kept { Kept self.old self.new }
-        ensures near { (g : Grid) → NearIn self.old g (state_of self.old) → NearIn self.old (started self.old.registers.frame.now.places (variables kind) g) (state_of self.new) }
+        ensures near { Leads self.old (started self.old.registers.frame.now.places (variables kind)) self.new }
     {
         match kind {
             SlKind::Surface => {
-                self.copy(
-                    Register::Varying(Shape::Triple, 17),
-                    Register::Varying(Shape::Triple, 11),
-                );
-                self.copy(
-                    Register::Varying(Shape::Triple, 18),
-                    Register::Varying(Shape::Triple, 12),
-                );
+                self.copy(named::CI, named::CS);
+                self.copy(named::OI, named::OS);
             }
             SlKind::Displacement | SlKind::Light | SlKind::Volume => (),
         }
@@ -85,7 +79,7 @@ impl Machine<'_> {
         requires ready { ReadyIn self.old (block_of code.now.nodes) }
         requires places { (L.lighting lights.old).places ≡ self.old.registers.frame.now.places }
         ensures kept { Kept self.old self.new }
-        ensures near { NearIn self.old (masked (block_of code.now.nodes) (lit_ground (L.lighting lights.old).lights self.old.registers.frame.now) self.old.registers.frame.now.places 65536 (begun code.now.kind code.now.params self.old.registers.frame.now.places values.now rows.now)) (state_of self.new) }
+        ensures near { RunsWhole (L.lighting lights.old).lights code.now.kind code.now.params (block_of code.now.nodes) values.now rows.now self.old self.new }
     {
         self.assign_all(uniforms, values);
         self.load_all(varyings, rows, width);

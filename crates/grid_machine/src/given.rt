@@ -6,11 +6,12 @@ ghost use Rattle.grid_code.specs.Uses.{registers_from};
 ghost use Rattle.place_rows.specs.Layout.{same_class};
 ghost use Rattle.grid_machine.specs.Run as spec;
 
-use builtins::{Shape, shape_of};
+use builtins::shape_of;
 use bumpalo::Bump;
 use bumpalo::collections::into_bump_slice;
 use fixed_math::NoMemory;
-use grid_code::{Register, Slot};
+use grid_code::named::{self, FIRST_FREE};
+use grid_code::{Register, Slot, register};
 use sl_ast::SlKind;
 
 /// The varying variables that a kind is given: those that it reads alone, and then those that it writes.
@@ -19,40 +20,35 @@ pub fn given(kind: SlKind) -> &'static [Register]
 {
     match kind {
         SlKind::Surface => &[
-            Register::Varying(Shape::Triple, 0),
-            Register::Varying(Shape::Triple, 1),
-            Register::Varying(Shape::Triple, 2),
-            Register::Varying(Shape::Triple, 3),
-            Register::Varying(Shape::Number, 5),
-            Register::Varying(Shape::Number, 6),
-            Register::Varying(Shape::Number, 9),
-            Register::Varying(Shape::Number, 10),
-            Register::Varying(Shape::Triple, 11),
-            Register::Varying(Shape::Triple, 12),
-            Register::Varying(Shape::Triple, 13),
-            Register::Varying(Shape::Triple, 14),
+            named::P,
+            named::N,
+            named::NG,
+            named::I,
+            named::U,
+            named::V,
+            named::S,
+            named::T,
+            named::CS,
+            named::OS,
+            named::DPDU,
+            named::DPDV,
         ],
         SlKind::Displacement => &[
-            Register::Varying(Shape::Triple, 2),
-            Register::Varying(Shape::Triple, 3),
-            Register::Varying(Shape::Number, 5),
-            Register::Varying(Shape::Number, 6),
-            Register::Varying(Shape::Number, 9),
-            Register::Varying(Shape::Number, 10),
-            Register::Varying(Shape::Triple, 11),
-            Register::Varying(Shape::Triple, 12),
-            Register::Varying(Shape::Triple, 13),
-            Register::Varying(Shape::Triple, 14),
-            Register::Varying(Shape::Triple, 0),
-            Register::Varying(Shape::Triple, 1),
+            named::NG,
+            named::I,
+            named::U,
+            named::V,
+            named::S,
+            named::T,
+            named::CS,
+            named::OS,
+            named::DPDU,
+            named::DPDV,
+            named::P,
+            named::N,
         ],
-        SlKind::Volume => &[
-            Register::Varying(Shape::Triple, 0),
-            Register::Varying(Shape::Triple, 3),
-            Register::Varying(Shape::Triple, 17),
-            Register::Varying(Shape::Triple, 18),
-        ],
-        SlKind::Light => &[Register::Varying(Shape::Triple, 19)],
+        SlKind::Volume => &[named::P, named::I, named::CI, named::OI],
+        SlKind::Light => &[named::PS],
     }
 }
 
@@ -61,21 +57,8 @@ pub fn steps(kind: SlKind) -> &'static [Register]
     ensures { result.now ≡ spec.step_names kind }
 {
     match kind {
-        SlKind::Surface | SlKind::Displacement => &[
-            Register::Uniform(Shape::Number, 7),
-            Register::Uniform(Shape::Number, 8),
-        ],
+        SlKind::Surface | SlKind::Displacement => &[named::DU, named::DV],
         SlKind::Volume | SlKind::Light => &[],
-    }
-}
-
-fn register(uniform: bool, shape: Shape, number: u32) -> Register
-    ensures { result ≡ reg uniform shape number }
-{
-    if uniform {
-        Register::Uniform(shape, number)
-    } else {
-        Register::Varying(shape, number)
     }
 }
 
@@ -86,11 +69,11 @@ fn is_same(a: bool, b: bool) -> bool
 }
 
 // The register of a parameter by its place; no place too far to be numbered.
-fn register_of(n: usize, slot: &Slot) -> Result<Register, NoMemory>
-    requires { n + 22 < usize.MAX }
-    ensures { IfOk result (λ r. r ≡ reg slot.now.uniform (shape_of slot.now.kind) (n + 22)) }
+fn parameter(n: usize, slot: &Slot) -> Result<Register, NoMemory>
+    requires { n + first_free < usize.MAX }
+    ensures { IfOk result (λ r. r ≡ reg slot.now.uniform (shape_of slot.now.kind) (n + first_free)) }
 {
-    match u32::try_from(n + 22) {
+    match u32::try_from(n + FIRST_FREE as usize) {
         Ok(number) => Ok(register(slot.uniform, shape_of(slot.kind), number)),
         Err(_) => Err(NoMemory),
     }
@@ -106,7 +89,7 @@ fn add_inputs(
 {
     for n in 0..params.len() {
         if is_same(params[n].uniform, uniform) {
-            registers.push(register_of(n, &params[n])?)?;
+            registers.push(parameter(n, &params[n])?)?;
         }
     }
     Ok(())
@@ -117,7 +100,7 @@ fn add_parameters(registers: &mut Vec<Register, &Bump>, params: &[Slot]) -> Resu
     ensures { OnOk result (registers.new.items ≡ registers.old.items ++ registers_from first_free params.now) }
 {
     for n in 0..params.len() {
-        registers.push(register_of(n, &params[n])?)?;
+        registers.push(parameter(n, &params[n])?)?;
     }
     Ok(())
 }

@@ -1,14 +1,13 @@
 // Instructions computed at the places of a row.
-ghost use Rattle.std.specs.Prelude.{◌≡◌, ℕ, ◌<◌, ◌≤◌, true};
+ghost use Rattle.std.specs.Prelude.{◌≡◌, ℕ, ◌≤◌, true};
 ghost use Rattle.std.specs.List.{list_all};
-ghost use Rattle.builtins.specs.Shapes.{shape as shape_of_value};
 ghost use Rattle.builtins.specs.declared.shape.Shape.{Shape as AnyShape};
 ghost use Rattle.grid_code.specs.Masked.{read, result_of};
 ghost use Rattle.grid_code.specs.Uses.{has};
-ghost use Rattle.place_rows.specs.Banks.{size, held};
-ghost use Rattle.place_values.specs.Cells.{value_of};
+ghost use Rattle.place_rows.specs.Banks.{size};
 ghost use Rattle.grid_machine.specs.State.{held_by, ground_of, texts_of, Full, SourceReady};
 ghost use Rattle.grid_machine.specs.Operands.{work_at, applied_to, WorkIn};
+ghost use Rattle.grid_machine.specs.Writes.{HoldsEach};
 
 use crate::machine::Registers;
 use crate::operand::Work;
@@ -56,7 +55,7 @@ impl Registers<'_> {
         requires count { count ≤ self.now.frame.now.places }
         requires room { (s : AnyShape) → count ≤ size row.old s }
         ensures size { (s : AnyShape) → size row.new s ≡ size row.old s }
-        ensures each { (j : ℕ) → j < count → value_of (texts_of self.now) (held row.new (shape_of_value (work_at self.now work.now j)) j) ≡ work_at self.now work.now j }
+        ensures each { HoldsEach (texts_of self.now) row.new count (work_at self.now work.now) }
     {
         for place in 0..count {
             row.set(place, &self.value(work, place));

@@ -6,22 +6,24 @@ ghost use Rattle.sl_ast.specs.declared.typed.Value.TheVariants as values;
 ghost use Rattle.builtins.specs.Values.{number_of};
 ghost use Rattle.builtins.specs.declared.shape.Shape.TheVariants as shapes;
 ghost use Rattle.grid_code.specs.Masked.{read};
-ghost use Rattle.grid_code.specs.Names.{reg};
+ghost use Rattle.grid_code.specs.Shapes.{register_shape};
 ghost use Rattle.grid_machine.specs.Run.{value_in, written_names};
 ghost use Rattle.grid_machine.specs.State.{state_of, HasRegister, Whole};
 
 use crate::machine::Machine;
 use builtins::number;
 use fixed_math::Num;
+use grid_code::{Register, named};
 use sl_ast::{SlKind, Value};
 
-/// The numbers of the two registers that a kind of shader other than a light writes.
-pub fn written(kind: SlKind) -> (u32, u32)
-    ensures { is_light kind ≡ false → written_names kind ≡ reg false shapes.Triple result.0 ∷ reg false shapes.Triple result.1 ∷ [] }
+/// The two registers of triples that a kind of shader other than a light writes.
+pub fn written(kind: SlKind) -> (Register, Register)
+    ensures names { is_light kind ≡ false → written_names kind ≡ result.0 ∷ result.1 ∷ [] }
+    ensures triples { (register_shape result.0 ≡ shapes.Triple) × (register_shape result.1 ≡ shapes.Triple) }
 {
     match kind {
-        SlKind::Displacement => (0, 1),
-        SlKind::Surface | SlKind::Volume | SlKind::Light => (17, 18),
+        SlKind::Displacement => (named::P, named::N),
+        SlKind::Surface | SlKind::Volume | SlKind::Light => (named::CI, named::OI),
     }
 }
 
@@ -50,15 +52,16 @@ pub fn places(columns: usize, rows: usize) -> usize
 
 impl Machine<'_> {
     /// Writes the values of two registers of triples into six rows.
-    pub fn unload_two(&self, first: u32, second: u32, rows: &mut [i64], width: usize)
+    pub fn unload_two(&self, first: Register, second: Register, rows: &mut [i64], width: usize)
         requires whole { Whole self.now }
-        requires first { HasRegister self.now (reg false shapes.Triple first) }
-        requires second { HasRegister self.now (reg false shapes.Triple second) }
+        requires first { HasRegister self.now first }
+        requires second { HasRegister self.now second }
+        requires triples { (register_shape first ≡ shapes.Triple) × (register_shape second ≡ shapes.Triple) }
         requires room { 6 * width ≤ length rows.old }
         requires wide { self.now.registers.frame.now.places ≤ width }
         ensures long { length rows.new ≡ length rows.old }
-        ensures first { (i : ℕ) → i < self.now.registers.frame.now.places → value_in shapes.Triple rows.new width (0 + i) ≡ read (state_of self.now) (reg false shapes.Triple first) i }
-        ensures second { (i : ℕ) → i < self.now.registers.frame.now.places → value_in shapes.Triple rows.new width (0 + 3 * width + i) ≡ read (state_of self.now) (reg false shapes.Triple second) i }
+        ensures first { (i : ℕ) → i < self.now.registers.frame.now.places → value_in shapes.Triple rows.new width (0 + i) ≡ read (state_of self.now) first i }
+        ensures second { (i : ℕ) → i < self.now.registers.frame.now.places → value_in shapes.Triple rows.new width (0 + 3 * width + i) ≡ read (state_of self.now) second i }
         ensures raws { ((k : ℕ) → IsRaw (get_or rows.old k (pos 0))) → (k : ℕ) → IsRaw (get_or rows.new k (pos 0)) }
     {
         self.unload(first, rows, width, 0);

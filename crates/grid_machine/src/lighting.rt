@@ -1,24 +1,23 @@
 // What code over lights reads of registers, and writes into them.
-ghost use Rattle.std.specs.Prelude.{◌≡◌, ℕ, ◌<◌, ◌≤◌, Option, true, false, pos, get_or};
+ghost use Rattle.std.specs.Prelude.{◌≡◌, ℕ, ◌<◌, ◌≤◌, true, false, pos, get_or};
 ghost use Rattle.std.specs.List.{list_all};
 ghost use Rattle.fixed_math.specs.Axes.{origin};
 ghost use Rattle.fixed_math.specs.declared.vec3.Vec3.{Vec3 as AnyVec3};
 ghost use Rattle.sl_ast.specs.declared.kinds.Predefined.TheVariants as names;
-ghost use Rattle.sl_ast.specs.declared.typed.Value.{Value as AnyValue};
-ghost use Rattle.sl_ast.specs.declared.typed.Value.TheVariants as values;
 ghost use Rattle.builtins.specs.Lights.{is_in_cone};
 ghost use Rattle.builtins.specs.Values.{number_of, triple_of};
 ghost use Rattle.builtins.specs.declared.shape.Shape.TheVariants as shapes;
-ghost use Rattle.grid_code.specs.Masked.{read, reads, write, entered, kindled, from_light as direction_of, State as Grid};
-ghost use Rattle.grid_code.specs.Names.{reg, name_at, lit_at};
+ghost use Rattle.grid_code.specs.Masked.{read, reads, from_light as direction_of};
+ghost use Rattle.grid_code.specs.Names.{name_at, lit_at};
+ghost use Rattle.grid_code.specs.Shapes.{register_shape};
 ghost use Rattle.grid_code.specs.Uses.{has};
-ghost use Rattle.place_rows.specs.Seen.{cone_at, Views};
-ghost use Rattle.grid_machine.specs.State.{state_of, NearIn, HasRegister, Whole, Kept};
+ghost use Rattle.place_rows.specs.Seen.{cone_at};
+ghost use Rattle.grid_machine.specs.State.{state_of, HasRegister, Whole, Kept};
+ghost use Rattle.grid_machine.specs.Writes.{TakesTriples, Enters, Kindles};
 
 use crate::machine::Machine;
-use builtins::Shape;
 use fixed_math::Num;
-use grid_code::Register;
+use grid_code::{Register, named};
 use place_rows::{Cone, Numbers, Points, View};
 use sl_ast::Value;
 
@@ -81,19 +80,20 @@ impl Machine<'_> {
         requires points { HasRegister self.now (name_at names.Ps) }
         ensures { (i : ℕ) → i < self.now.registers.frame.now.places → get_or result.at i origin ≡ direction_of (state_of self.now) place i }
     {
-        let points = self.points(Register::Varying(Shape::Triple, 19));
+        let points = self.points(named::PS);
         points.minus(&self.points(place), self.registers.frame.places)
     }
 
-    /// A varying register takes triples.
-    pub(crate) fn set_triples(&mut self, number: u32, row: &Points)
+    /// A register takes triples.
+    pub(crate) fn set_triples(&mut self, to: Register, row: &Points)
         requires whole { Whole self.old }
-        requires has { HasRegister self.old (reg false shapes.Triple number) }
+        requires has { HasRegister self.old to }
+        requires triple { shapes.Triple ≡ register_shape to }
         ensures kept { Kept self.old self.new }
-        ensures near { (g : Grid) (f : ℕ → AnyValue) → NearIn self.old g (state_of self.old) → ((i : ℕ) → i < self.old.registers.frame.now.places → f i ≡ values.Triple (get_or row.now.at i origin)) → NearIn self.old (write self.old.registers.frame.now.places (reg false shapes.Triple number) f g) (state_of self.new) }
+        ensures near { TakesTriples self.old to row.now.at self.new }
     {
         row.fill(self.registers.frame.places, &mut self.scratch);
-        self.commit(Register::Varying(Shape::Triple, number));
+        self.commit(to);
     }
 
     /// L and Cl take the direction to a light and its colour, where it is seen.
@@ -102,10 +102,10 @@ impl Machine<'_> {
         requires direction { HasRegister self.old (name_at names.L) }
         requires colour { HasRegister self.old (name_at names.Cl) }
         ensures kept { Kept self.old self.new }
-        ensures near { (g : Grid) (f : ℕ → Option (AnyVec3 × AnyVec3)) → NearIn self.old g (state_of self.old) → ((i : ℕ) → i < self.old.registers.frame.now.places → Views view.now i (f i)) → NearIn self.old (entered self.old.registers.frame.now.places f g) (state_of self.new) }
+        ensures near { Enters self.old view.now self.new }
     {
-        self.set_triples(15, &view.towards);
-        self.set_triples(16, &view.colours);
+        self.set_triples(named::L, &view.towards);
+        self.set_triples(named::CL, &view.colours);
     }
 
     /// L takes directions, and the light is lit.
@@ -114,12 +114,9 @@ impl Machine<'_> {
         requires direction { HasRegister self.old (name_at names.L) }
         requires lit { HasRegister self.old lit_at }
         ensures kept { Kept self.old self.new }
-        ensures near { (g : Grid) (f : ℕ → AnyVec3) → NearIn self.old g (state_of self.old) → ((i : ℕ) → i < self.old.registers.frame.now.places → f i ≡ get_or directions.now.at i origin) → NearIn self.old (kindled self.old.registers.frame.now.places f g) (state_of self.new) }
+        ensures near { Kindles self.old directions.now.at self.new }
     {
-        self.set_triples(15, directions);
-        self.assign(
-            Register::Varying(Shape::Number, 21),
-            &Value::Number(Num::sat(65536)),
-        );
+        self.set_triples(named::L, directions);
+        self.assign(named::LIT, &Value::Number(Num::sat(65536)));
     }
 }

@@ -7,14 +7,14 @@ ghost use Rattle.builtins.specs.Shapes.{shape as shape_of_value};
 ghost use Rattle.builtins.specs.declared.shape.Shape.{Shape as AnyShape};
 ghost use Rattle.builtins.specs.declared.shape.Shape.TheVariants as shapes;
 ghost use Rattle.sl_ast.specs.declared.typed.Value.TheVariants as values;
-ghost use Rattle.grid_code.specs.Masked.{write, State as Grid};
 ghost use Rattle.grid_code.specs.Shapes.{register_shape};
 ghost use Rattle.place_rows.specs.Banks.{size, held};
 ghost use Rattle.place_values.specs.Cells.{value_of, is_known};
 ghost use Rattle.grid_code.specs.Uses.{has};
 ghost use Rattle.place_rows.specs.Layout.{height};
 ghost use Rattle.grid_machine.specs.Run.{rows_of, value_in, assigned, loaded};
-ghost use Rattle.grid_machine.specs.State.{state_of, texts_of, NearIn, HasRegister, Whole, Kept};
+ghost use Rattle.grid_machine.specs.State.{texts_of, HasRegister, Whole, Kept};
+ghost use Rattle.grid_machine.specs.Writes.{Writes, Leads};
 
 use crate::machine::Machine;
 use crate::operand::Work;
@@ -102,7 +102,7 @@ impl Machine<'_> {
         requires known { is_known (texts_of self.old.registers) value.now ≡ true }
         requires shape { shape_of_value value.now ≡ register_shape to }
         ensures kept { Kept self.old self.new }
-        ensures near { NearIn self.old (write self.old.registers.frame.now.places to (λ i. value.now) (state_of self.old)) (state_of self.new) }
+        ensures near { Writes self.old to (λ i. value.now) self.new }
     {
         let work = Work::Constant(self.registers.frame.setting.cell(value));
         let count = self.reach(to);
@@ -118,7 +118,7 @@ impl Machine<'_> {
         requires room { start + height (register_shape to) * width ≤ length rows.now }
         requires wide { self.old.registers.frame.now.places ≤ width }
         ensures kept { Kept self.old self.new }
-        ensures near { NearIn self.old (write self.old.registers.frame.now.places to (λ i. value_in (register_shape to) rows.now width (start + i)) (state_of self.old)) (state_of self.new) }
+        ensures near { Writes self.old to (λ i. value_in (register_shape to) rows.now width (start + i)) self.new }
     {
         let count = self.reach(to);
         fill(shape_of(to), rows, width, start, count, &mut self.scratch);
@@ -132,7 +132,7 @@ impl Machine<'_> {
         requires known { list_all (is_known (texts_of self.old.registers)) values.now ≡ true }
         requires shapes { map shape_of_value values.now ≡ map register_shape to.now }
         ensures kept { Kept self.old self.new }
-        ensures near { (g : Grid) → NearIn self.old g (state_of self.old) → NearIn self.old (assigned self.old.registers.frame.now.places to.now values.now g) (state_of self.new) }
+        ensures near { Leads self.old (assigned self.old.registers.frame.now.places to.now values.now) self.new }
     {
         for k in 0..to.len() {
             self.assign(to[k], &values[k]);
@@ -147,7 +147,7 @@ impl Machine<'_> {
         requires long { length rows.now ≡ rows_of to.now * width }
         requires wide { self.old.registers.frame.now.places ≤ width }
         ensures kept { Kept self.old self.new }
-        ensures near { (g : Grid) → NearIn self.old g (state_of self.old) → NearIn self.old (loaded self.old.registers.frame.now.places width rows.now to.now 0 g) (state_of self.new) }
+        ensures near { Leads self.old (loaded self.old.registers.frame.now.places width rows.now to.now 0) self.new }
     {
         let mut start = 0;
         for k in 0..to.len() {

@@ -1,14 +1,15 @@
 // Instructions and differences written into registers under a mask.
-ghost use Rattle.std.specs.Prelude.{◌≡◌, ℕ, ◌<◌, true, false};
+ghost use Rattle.std.specs.Prelude.{◌≡◌, ℕ, true, false};
 ghost use Rattle.sl_ast.specs.declared.typed.Value.{Value as AnyValue};
 ghost use Rattle.builtins.specs.Differences.{difference as difference_of};
-ghost use Rattle.grid_code.specs.Masked.{read, result_of, write};
+ghost use Rattle.grid_code.specs.Masked.{read, result_of};
 ghost use Rattle.grid_code.specs.Names.{reg};
 ghost use Rattle.grid_code.specs.Shapes.{register_shape, source_shape, difference_shape};
 ghost use Rattle.grid_code.specs.Uses.{is_in};
 ghost use Rattle.place_rows.specs.Banks.{held};
 ghost use Rattle.place_values.specs.Cells.{value_of};
-ghost use Rattle.grid_machine.specs.State.{state_of, ground_of, lines_of, texts_of, NearIn, HasRegister, Whole, Kept, SourceReady};
+ghost use Rattle.grid_machine.specs.State.{state_of, ground_of, lines_of, texts_of, HasRegister, Whole, Kept, SourceReady};
+ghost use Rattle.grid_machine.specs.Writes.{Writes, HoldsRow};
 ghost use Rattle.grid_machine.specs.Operands.{reach};
 
 use crate::machine::Machine;
@@ -23,7 +24,7 @@ impl Machine<'_> {
         requires whole { Whole self.old }
         requires has { is_in self.old.registers.frame.now.uniform.now shape number ≡ true }
         ensures kept { Kept self.old self.new }
-        ensures near { (f : ℕ → AnyValue) → value_of (texts_of self.old.registers) (held self.old.scratch shape 0) ≡ f 0 → NearIn self.old (write self.old.registers.frame.now.places (reg true shape number) f (state_of self.old)) (state_of self.new) }
+        ensures near { (f : ℕ → AnyValue) → value_of (texts_of self.old.registers) (held self.old.scratch shape 0) ≡ f 0 → Writes self.old (reg true shape number) f self.new }
     {
         if self.live.any(self.registers.frame.places) {
             let at = row_of(self.registers.frame.uniform, shape, number);
@@ -37,7 +38,7 @@ impl Machine<'_> {
         requires whole { Whole self.old }
         requires has { is_in self.old.registers.frame.now.varying.now shape number ≡ true }
         ensures kept { Kept self.old self.new }
-        ensures near { (f : ℕ → AnyValue) → ((j : ℕ) → j < self.old.registers.frame.now.places → value_of (texts_of self.old.registers) (held self.old.scratch shape j) ≡ f j) → NearIn self.old (write self.old.registers.frame.now.places (reg false shape number) f (state_of self.old)) (state_of self.new) }
+        ensures near { (f : ℕ → AnyValue) → HoldsRow (texts_of self.old.registers) self.old.scratch shape self.old.registers.frame.now.places f → Writes self.old (reg false shape number) f self.new }
     {
         let row = row_of(self.registers.frame.varying, shape, number);
         self.registers
@@ -50,7 +51,7 @@ impl Machine<'_> {
         requires whole { Whole self.old }
         requires has { HasRegister self.old to }
         ensures kept { Kept self.old self.new }
-        ensures near { (f : ℕ → AnyValue) → ((j : ℕ) → j < reach to self.old.registers.frame.now.places → value_of (texts_of self.old.registers) (held self.old.scratch (register_shape to) j) ≡ f j) → NearIn self.old (write self.old.registers.frame.now.places to f (state_of self.old)) (state_of self.new) }
+        ensures near { (f : ℕ → AnyValue) → HoldsRow (texts_of self.old.registers) self.old.scratch (register_shape to) (reach to self.old.registers.frame.now.places) f → Writes self.old to f self.new }
     {
         match to {
             Register::Uniform(shape, number) => self.commit_shared(shape, number),
@@ -75,7 +76,7 @@ impl Machine<'_> {
         requires ready { SourceReady self.old.registers.frame.now.varying.now self.old.registers.frame.now.uniform.now (texts_of self.old.registers) source.now }
         requires shape { source_shape source.now ≡ register_shape to }
         ensures kept { Kept self.old self.new }
-        ensures near { NearIn self.old (write self.old.registers.frame.now.places to (result_of source.now (ground_of self.old.registers.frame.now) (state_of self.old)) (state_of self.old)) (state_of self.new) }
+        ensures near { Writes self.old to (result_of source.now (ground_of self.old.registers.frame.now) (state_of self.old)) self.new }
     {
         let work = self.registers.work(source);
         let count = self.reach(to);
@@ -90,7 +91,7 @@ impl Machine<'_> {
         requires of { HasRegister self.old of }
         requires shape { difference_shape difference (register_shape of) ≡ register_shape to }
         ensures kept { Kept self.old self.new }
-        ensures near { NearIn self.old (write self.old.registers.frame.now.places to (difference_of difference (lines_of self.old.registers.frame.now) self.old.registers.frame.now.setting.spaces.now.flip (read (state_of self.old) of)) (state_of self.old)) (state_of self.new) }
+        ensures near { let frame = self.old.registers.frame.now in Writes self.old to (difference_of difference (lines_of frame) frame.setting.spaces.now.flip (read (state_of self.old) of)) self.new }
     {
         let operand = self.registers.operand(of);
         let count = self.reach(to);

@@ -6,16 +6,16 @@ ghost use Rattle.sl_ast.specs.declared.operations.LightSum.TheVariants as sums;
 ghost use Rattle.builtins.specs.Lights as spec;
 ghost use Rattle.builtins.specs.Lights.{Light};
 ghost use Rattle.builtins.specs.declared.shape.Shape.TheVariants as shapes;
-ghost use Rattle.grid_code.specs.Masked.{reads, write, all_answers, State as Grid};
+ghost use Rattle.grid_code.specs.Masked.{reads, write, all_answers};
 ghost use Rattle.grid_code.specs.Names.{name_at};
 ghost use Rattle.grid_code.specs.Shapes.{register_shape};
 ghost use Rattle.grid_code.specs.Uses.{has};
 ghost use Rattle.place_rows.specs.Seen.{gain, gain_at};
-ghost use Rattle.grid_machine.specs.State.{state_of, NearIn, HasRegister, Whole, Kept};
+ghost use Rattle.grid_machine.specs.State.{state_of, HasRegister, Whole, Kept};
+ghost use Rattle.grid_machine.specs.Writes.{Leads};
 
 use crate::machine::Machine;
-use builtins::Shape;
-use grid_code::Register;
+use grid_code::{Register, named};
 use place_rows::{Illumination, Sum};
 use sl_ast::LightSum;
 
@@ -72,10 +72,10 @@ impl Machine<'_> {
         requires places { (L.lighting lights.old).places ≡ self.old.registers.frame.now.places }
         ensures kept { Kept self.old self.new }
         ensures same { L.lighting lights.new ≡ L.lighting lights.old }
-        ensures near { (g : Grid) → NearIn self.old g (state_of self.old) → NearIn self.old (write self.old.registers.frame.now.places to (λ i. spec.sum_of sum (reads g args.now i) (all_answers (L.lighting lights.old).lights g (name_at names.P) i)) g) (state_of self.new) }
+        ensures near { Leads self.old (λ g. write self.old.registers.frame.now.places to (λ i. spec.sum_of sum (reads g args.now i) (all_answers (L.lighting lights.old).lights g (name_at names.P) i)) g) self.new }
     {
         let count = self.registers.frame.places;
-        let points = self.points(Register::Varying(Shape::Triple, 0));
+        let points = self.points(named::P);
         let totals = self.sum_of(sum, args).totals(lights, &points, count);
         totals.fill(count, &mut self.scratch);
         self.commit(to);

@@ -1,14 +1,13 @@
 // Rows that take the values of registers.
-ghost use Rattle.std.specs.Prelude.{◌≡◌, ℕ, ℤ, ◌+◌, ◌*◌, ◌<◌, ◌≤◌, pos, false, length, get_or, slice_set};
+ghost use Rattle.std.specs.Prelude.{◌≡◌, ℕ, ℤ, ◌+◌, ◌*◌, ◌<◌, ◌≤◌, pos, length, get_or, slice_set};
 ghost use Rattle.fixed_math.specs.Fixed.{IsRaw};
 ghost use Rattle.builtins.specs.declared.shape.Shape.TheVariants as shapes;
 ghost use Rattle.grid_code.specs.Masked.{read};
-ghost use Rattle.grid_code.specs.Names.{reg};
+ghost use Rattle.grid_code.specs.Shapes.{register_shape};
 ghost use Rattle.grid_machine.specs.Run.{value_in};
 ghost use Rattle.grid_machine.specs.State.{state_of, HasRegister, Whole};
 
 use crate::machine::Machine;
-use builtins::Shape;
 use fixed_math::{Num, Vec3};
 use grid_code::Register;
 
@@ -43,19 +42,18 @@ fn set_triple(rows: &mut [i64], width: usize, at: usize, t: Vec3)
 
 impl Machine<'_> {
     /// Writes the values of a register of triples into three rows from an element on.
-    pub fn unload(&self, from: u32, rows: &mut [i64], width: usize, start: usize)
+    pub fn unload(&self, from: Register, rows: &mut [i64], width: usize, start: usize)
         requires whole { Whole self.now }
-        requires has { HasRegister self.now (reg false shapes.Triple from) }
+        requires has { HasRegister self.now from }
+        requires triple { register_shape from ≡ shapes.Triple }
         requires room { start + 3 * width ≤ length rows.old }
         requires wide { self.now.registers.frame.now.places ≤ width }
         ensures long { length rows.new ≡ length rows.old }
-        ensures values { (i : ℕ) → i < self.now.registers.frame.now.places → value_in shapes.Triple rows.new width (start + i) ≡ read (state_of self.now) (reg false shapes.Triple from) i }
+        ensures values { (i : ℕ) → i < self.now.registers.frame.now.places → value_in shapes.Triple rows.new width (start + i) ≡ read (state_of self.now) from i }
         ensures before { (k : ℕ) → k < start → get_or rows.new k (pos 0) ≡ get_or rows.old k (pos 0) }
         ensures raws { ((k : ℕ) → IsRaw (get_or rows.old k (pos 0))) → (k : ℕ) → IsRaw (get_or rows.new k (pos 0)) }
     {
-        let operand = self
-            .registers
-            .operand(Register::Varying(Shape::Triple, from));
+        let operand = self.registers.operand(from);
         for place in 0..self.registers.frame.places {
             let cell = self.registers.get(operand, place);
             set_triple(

@@ -20,7 +20,8 @@ use Rattle.grid_code.specs.Shapes.{register_shape, register_shapes, difference_s
 use Rattle.grid_code.specs.Valid.{at_most_three, one_to_three, is_placed}
 use Rattle.grid_code.proofs.Both.{both}
 use Rattle.sl_meaning.specs.Core.{Slot, Expr, literal, read, apply, differ, sum, Exprs, none, more}
-use Rattle.core_codegen.specs.Compile.{variable, at, all_at, into}
+use Rattle.core_codegen.specs.Compile.{at, all_at, into}
+use Rattle.core_codegen.specs.Variables.{variable}
 use Rattle.mask_codegen.proofs.CorePlaced.{are_few, are_some}
 use Rattle.core_codegen.proofs.ValueRegisters.{shape_at, shapes_at, variable_shape, difference_shape_in}
 

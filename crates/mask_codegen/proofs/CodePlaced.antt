@@ -10,7 +10,8 @@ use Rattle.grid_code.specs.Valid.{is_placed}
 use Rattle.grid_code.proofs.Both.{both}
 use Rattle.grid_code.proofs.ValidThen.{placed_then}
 use Rattle.sl_meaning.specs.Core.{Slot, Expr, literal, read, apply, differ, sum, call, Exprs, none, more, Arguments, no_arguments, argument, Stmt, declare, assign, block, test, repeat, lights, leave, again, Stmts, done, first, formals, after, after_all, is_uniform}
-use Rattle.core_codegen.specs.Compile.{variable, at, shape_in, into, behind, expr_code, exprs_code, args_code, stmt_code, all_code}
+use Rattle.core_codegen.specs.Compile.{at, shape_in, into, behind, expr_code, exprs_code, args_code, stmt_code, all_code}
+use Rattle.core_codegen.specs.Variables.{variable}
 use Rattle.core_codegen.specs.Fine.{StaysAll, FineExpr, FineExprs, FineArgs, FineStmt, FineAll, When, GridExpr, GridExprs, GridArgs, GridStmt, GridAll}
 use Rattle.mask_codegen.proofs.CorePlaced.{PlacedExpr, PlacedExprs, PlacedArgs, PlacedStmt, PlacedAll}
 use Rattle.mask_codegen.proofs.CodeNodes.{into_placed, literal_placed, read_placed, apply_placed, sum_placed, differ_placed, few_at}

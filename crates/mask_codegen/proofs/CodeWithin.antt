@@ -20,7 +20,8 @@ use Rattle.grid_code.specs.Uses.{within}
 use Rattle.grid_code.proofs.Both.{both, left, right}
 use Rattle.grid_code.proofs.ValidThen.{within_then}
 use Rattle.sl_meaning.specs.Core.{Slot, slot, no_slot, Expr, literal, read, apply, differ, sum, call, Exprs, none, more, Arguments, no_arguments, argument, Stmt, declare, assign, block, test, repeat, lights, leave, again, Stmts, done, first, formals, after, after_all, class_in, is_uniform, stmt_uniform, stmts_uniform}
-use Rattle.core_codegen.specs.Compile.{slot_at, variable, at, all_at, into, behind, expr_code, exprs_code, args_code, stmt_code, all_code}
+use Rattle.core_codegen.specs.Compile.{at, all_at, into, behind, expr_code, exprs_code, args_code, stmt_code, all_code}
+use Rattle.core_codegen.specs.Variables.{slot_at, variable}
 use Rattle.core_codegen.specs.Fine.{InScope}
 use Rattle.core_codegen.specs.Sizes.{ScopedExpr, ScopedExprs, ScopedArgs, ScopedStmt, ScopedAll}
 use Rattle.mask_codegen.proofs.CorePlaced.{Reads, PlacedExpr, PlacedExprs, PlacedArgs, PlacedStmt, PlacedAll}

@@ -6,7 +6,8 @@ use Rattle.grid_code.specs.declared.code.Register.{Register}
 use Rattle.grid_code.specs.declared.code.Register.TheVariants.{Uniform, Varying}
 use Rattle.grid_code.specs.Names.{reg}
 use Rattle.sl_meaning.specs.Core.{Slot, Expr, literal, read, apply, differ, sum, call, Exprs, none, more, Arguments, no_arguments, argument, Stmt, declare, assign, block, test, repeat, lights, leave, again, Stmts, done, first, formals, after, after_all, is_uniform, stmts_uniform}
-use Rattle.core_codegen.specs.Compile.{slot_at, at, behind}
+use Rattle.core_codegen.specs.Compile.{at, behind}
+use Rattle.core_codegen.specs.Variables.{slot_at}
 
 -- the registers of a frame's variables, from a register on
 abbrev pub frame : ℕ → List Slot → List Register

@@ -1,4 +1,4 @@
--- The registers that code names, in order, and those of one class and shape among some.
+-- For private contracts alone: the registers that code names, in order, and those of one class and shape among some.
 use Rattle.std.specs.Prelude.{ℕ, Bool, true, false, cond, List, [], ◌∷◌, ◌++◌}
 use Rattle.std.specs.List.{Contains}
 use Rattle.builtins.specs.declared.shape.Shape.{Shape}

@@ -9,7 +9,7 @@ use crate::fault::CodeFault;
 use crate::lit::is_ambient;
 use crate::named::name_all;
 use crate::sets::set_of;
-use core_codegen::{emit, given, param_slots};
+use core_codegen::{emit, given_registers, param_slots};
 use fixed_math::{List, NoMemory};
 use grid_code::Code;
 use sl_ast::{ParamDecl, Tree};
@@ -30,7 +30,7 @@ fn code_of(alloc: Global, tree: &Tree) -> Result<Code, NoMemory>
     let params = param_slots(alloc, tree.params.as_slice())?;
     let body = lower_body(alloc, tree)?;
     let nodes = emit(alloc, &body, &params)?;
-    let mut seen = given(alloc, tree.kind, &params)?;
+    let mut seen = given_registers(alloc, tree.kind, &params)?;
     name_all(&nodes, &mut seen)?;
     let varying = set_of(alloc, &seen, false)?;
     let uniform = set_of(alloc, &seen, true)?;

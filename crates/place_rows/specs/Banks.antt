@@ -1,8 +1,9 @@
--- What banks hold, by shape and place.
-use Rattle.std.specs.Prelude.{ℕ, pos, length, get_or}
+-- For the machine's own contracts alone: what banks hold, by shape and place, and a row stored under a mask.
+use Rattle.std.specs.Prelude.{◌≡◌, ℕ, ◌+◌, ◌*◌, ◌<◌, ◌==◌, ◌&&◌, Bool, false, cond, List, pos, length, get_or}
 use Rattle.fixed_math.specs.Axes.{origin}
 use Rattle.builtins.specs.declared.shape.Shape.{Shape}
 use Rattle.builtins.specs.declared.shape.Shape.TheVariants as shapes
+use Rattle.grid_code.specs.Masked.{same_shape}
 use Rattle.place_values.specs.declared.cell.Cell.{Cell}
 use Rattle.place_values.specs.declared.cell.Cell.TheVariants.{Number, Triple, Word}
 use Rattle.place_rows.specs.declared.bank.Bank.{Bank}
@@ -27,3 +28,13 @@ abbrev pub held : Bank → Shape → ℕ → Cell
 held b shapes.Number k = Number (get_or b.numbers.items k (pos 0))
 held b shapes.Triple k = Triple (get_or b.triples.items k origin)
 held b shapes.Word k = Word (get_or b.words.items k 0)
+
+-- rows of c elements after one of them took another row's elements at the places that are live
+abbrev pub IsStored : ℕ → Shape → ℕ → List Bool → Bank → Bank → Bank → Type 0
+IsStored c shape register live row before now =
+    (t : Shape) (r j : ℕ) → j < c → held now t (r * c + j) ≡ cond (same_shape t shape && (r == register && get_or live j false)) (held row shape j) (held before t (r * c + j))
+
+-- the same of rows of elements of one type
+abbrev pub IsRowStored : (T : Type 0) → ℕ → List Bool → List T → List T → List T → Type 0
+IsRowStored T register live row before now =
+    (d : T) (r j : ℕ) → j < length row → get_or now (r * length row + j) d ≡ cond (r == register && get_or live j false) (get_or row j d) (get_or before (r * length row + j) d)

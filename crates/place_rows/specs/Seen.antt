@@ -1,5 +1,5 @@
 -- What lights answer at the places of a row, what is seen of it, and sums over lights as they grow.
-use Rattle.std.specs.Prelude.{◌≡◌, ℕ, ℤ, pos, Bool, true, false, int_le, cond, List, [], ◌∷◌, get_or, Option, Some, None, is_some}
+use Rattle.std.specs.Prelude.{◌≡◌, ℕ, ◌<◌, ℤ, pos, Bool, true, false, int_le, cond, List, [], ◌∷◌, get_or, Option, Some, None, is_some}
 use Rattle.fixed_math.specs.Axes.{origin}
 use Rattle.fixed_math.specs.Sine.{cos}
 use Rattle.fixed_math.specs.declared.vec3.Vec3.{Vec3}
@@ -85,6 +85,10 @@ abbrev pub answers_at : List Asked → (ℕ → Vec3) → ℕ → List Light
 answers_at [] q i = []
 answers_at (f ∷ fs) q i = f q i ∷ answers_at fs q i
 
+-- an array holds a function's values at the first places
+abbrev pub AtPlaces : {A : Type 0} → ℕ → (ℕ → A) → List A → A → Type 0
+AtPlaces c f xs none = (i : ℕ) → i < c → f i ≡ get_or xs i none
+
 -- lights on a grid of so many places
 pub record Lighting : Type 0 where
   pub places : ℕ
@@ -93,3 +97,11 @@ pub record Lighting : Type 0 where
 -- no light is asked behind the last one
 abbrev pub unasked : Asked
 unasked q i = lights.unlit
+
+-- what light n answers at points
+abbrev pub IsAnswerOf : Lighting → ℕ → List Vec3 → List Answer → Type 0
+IsAnswerOf w n points out = (q : ℕ → Vec3) → AtPlaces w.places q points origin → (i : ℕ) → i < w.places → light_of (get_or out i answers.Unlit) ≡ get_or w.lights n unasked q i
+
+-- the sums over lights at points
+abbrev pub IsSumOf : Sum → List Asked → ℕ → List Vec3 → List Vec3 → Type 0
+IsSumOf s lights c points out = (q : ℕ → Vec3) → AtPlaces c q points origin → (i : ℕ) → i < c → get_or out i origin ≡ gained (gain_at s i) origin (answers_at lights q i)

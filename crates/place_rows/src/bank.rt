@@ -3,7 +3,7 @@ ghost use Rattle.std.specs.Prelude.{◌≡◌, ℕ, ◌+◌, ◌*◌, ◌&&◌, 
 ghost use Rattle.builtins.specs.declared.shape.Shape.{Shape as AnyShape};
 ghost use Rattle.builtins.specs.declared.shape.Shape.TheVariants as shapes;
 ghost use Rattle.grid_code.specs.Masked.{same_shape};
-ghost use Rattle.place_rows.specs.Banks.{size, held, shape_of_cell, zero_cell};
+ghost use Rattle.place_rows.specs.Banks.{size, held, shape_of_cell, zero_cell, IsStored, IsRowStored};
 
 use builtins::Shape;
 use bumpalo::Bump;
@@ -23,7 +23,7 @@ fn store_row<T: Copy>(rows: &mut [T], register: usize, live: &[bool], row: &[T])
     requires live { length row.now ≤ length live.now }
     requires fits { register * length row.now + length row.now ≤ length rows.old }
     ensures long { length rows.new ≡ length rows.old }
-    ensures each { (d : T) (r j : ℕ) → j < length row.now → get_or rows.new (r * length row.now + j) d ≡ cond (r == register && get_or live.now j false) (get_or row.now j d) (get_or rows.old (r * length row.now + j) d) }
+    ensures each { IsRowStored T register live.now row.now rows.old rows.new }
 {
     for i in 0..row.len() {
         if live[i] {
@@ -94,7 +94,7 @@ impl Bank<'_> {
         requires live { size row.now shape ≤ length live.now }
         requires fits { register * size row.now shape + size row.now shape ≤ size self.old shape }
         ensures size { (t : AnyShape) → size self.new t ≡ size self.old t }
-        ensures value { (t : AnyShape) (r j : ℕ) → j < size row.now shape → held self.new t (r * size row.now shape + j) ≡ cond (same_shape t shape && (r == register && get_or live.now j false)) (held row.now shape j) (held self.old t (r * size row.now shape + j)) }
+        ensures value { IsStored (size row.now shape) shape register live.now row.now self.old self.new }
     {
         match shape {
             Shape::Number => store_row(&mut self.numbers, register, live, &row.numbers),

@@ -1,9 +1,7 @@
 // Lights as code asks them.
-ghost use Rattle.std.specs.Prelude.{◌≡◌, ℕ, ◌<◌, length, get_or, replicate};
-ghost use Rattle.fixed_math.specs.Axes.{origin};
-ghost use Rattle.fixed_math.specs.declared.vec3.Vec3.{Vec3};
-ghost use Rattle.place_rows.specs.declared.answers.Answer.TheVariants as answers;
-ghost use Rattle.place_rows.specs.Seen.{Lighting, unasked, light_of};
+ghost use Rattle.std.specs.Prelude.{◌≡◌, ◌<◌, length, replicate};
+ghost use Rattle.place_rows.specs.Seen as spec;
+ghost use Rattle.place_rows.specs.Seen.{Lighting, unasked};
 
 use crate::answers::Answers;
 use crate::points::Points;
@@ -20,7 +18,7 @@ pub trait Illumination {
     fn ask(&mut self, n: usize, points: &Points) -> Answers
         requires { n < length (lighting self.old).lights }
         ensures same { lighting self.new ≡ lighting self.old }
-        ensures each { (q : ℕ → Vec3) → ((i : ℕ) → i < (lighting self.old).places → q i ≡ get_or points.now.at i origin) → (i : ℕ) → i < (lighting self.old).places → light_of (get_or result.at i answers.Unlit) ≡ get_or (lighting self.old).lights n unasked q i };
+        ensures each { spec.IsAnswerOf (lighting self.old) n points.now.at result.at };
 }
 
 /// So many lights, none of which is lit anywhere: with none at all, the lights of code that no light reaches.

@@ -2,11 +2,10 @@
 ghost use Rattle.std.specs.Prelude.{◌≡◌, ℕ, ◌<◌, ◌≤◌, get_or};
 ghost use Rattle.fixed_math.specs.Axes.{origin};
 ghost use Rattle.fixed_math.specs.Fixed.{add};
-ghost use Rattle.fixed_math.specs.declared.vec3.Vec3.{Vec3 as AnyVec3};
 ghost use Rattle.builtins.specs.Lights as spec;
 ghost use Rattle.builtins.specs.Triples.{each_two};
 ghost use Rattle.place_rows.specs.declared.answers.Answer.TheVariants as answered;
-ghost use Rattle.place_rows.specs.Seen.{light_of, reflected, gain_at, with_gain, gained, answers_at};
+ghost use Rattle.place_rows.specs.Seen.{light_of, reflected, gain_at, with_gain, IsSumOf};
 
 use crate::answers::{Answer, Answers};
 use crate::illumination::Illumination;
@@ -95,7 +94,7 @@ impl Sum {
         requires few { count ≤ 289 }
         requires places { (L.lighting lights.old).places ≡ count }
         ensures same { L.lighting lights.new ≡ L.lighting lights.old }
-        ensures each { (q : ℕ → AnyVec3) → ((i : ℕ) → i < count → q i ≡ get_or points.now.at i origin) → (i : ℕ) → i < count → get_or result.at i origin ≡ gained (gain_at self.now i) origin (answers_at (L.lighting lights.old).lights q i) }
+        ensures each { IsSumOf self.now (L.lighting lights.old).lights count points.now.at result.at }
     {
         let mut totals = Points::zero();
         for n in 0..lights.count() {

@@ -1,4 +1,4 @@
--- The values that cells stand for, by the texts of a run.
+-- For contracts of the machine alone: the values that cells stand for, by the texts of a run.
 use Rattle.std.specs.Prelude.{ℕ, zero, suc, Bool, true, List, [], Option, Some, None}
 use Rattle.std.specs.Borrow.{Bor}
 use Rattle.std.specs.List.{slice_get, list_any}
@@ -8,14 +8,15 @@ use Rattle.sl_ast.specs.declared.typed.Value.TheVariants as values
 use Rattle.place_values.specs.declared.cell.Cell.{Cell}
 use Rattle.place_values.specs.declared.cell.Cell.TheVariants.{Number, Triple, Word}
 
-abbrev pub text_of : Option (Bor (List ℕ)) → List ℕ
-text_of None = []
-text_of (Some t) = t.now
+-- the text that there is, and else the empty one
+abbrev pub text_or_empty : Option (Bor (List ℕ)) → List ℕ
+text_or_empty None = []
+text_or_empty (Some t) = t.now
 
 -- the empty text is text 0
 abbrev pub text_at : List (Bor (List ℕ)) → ℕ → List ℕ
 text_at ts zero = []
-text_at ts (suc k) = text_of (slice_get ts k)
+text_at ts (suc k) = text_or_empty (slice_get ts k)
 
 abbrev pub value_of : List (Bor (List ℕ)) → Cell → Value
 value_of ts (Number x) = values.Number x

@@ -1,7 +1,7 @@
 // Values at one place, without memory of their own.
 ghost use Rattle.std.specs.Prelude.{◌≡◌};
 ghost use Rattle.builtins.specs.Values as spec;
-ghost use Rattle.place_values.specs.Cells.{value_of, text_at, text_of};
+ghost use Rattle.place_values.specs.Cells.{value_of, text_at, text_or_empty};
 
 use builtins::Shape;
 use fixed_math::{Num, Text, Vec3};
@@ -65,7 +65,7 @@ impl<'a> Setting<'a> {
 
     /// The text of that place; none is the empty one.
     pub(crate) fn text(&self, place: usize) -> Option<&Text>
-        ensures { text_of result ≡ text_at self.now.texts.now place }
+        ensures { text_or_empty result ≡ text_at self.now.texts.now place }
     {
         if place == 0 {
             return None;

@@ -36,7 +36,7 @@ impl Setting<'_> {
     }
 
     pub(crate) fn by_three_parts(&self, op: Op, u: &Cell, v: &Cell, w: &Cell) -> Cell
-        ensures { value_of self.now.texts.now result ≡ spec.by_three_parts (formulas.three_parts op) (value_of self.now.texts.now u.now) (value_of self.now.texts.now v.now) (value_of self.now.texts.now w.now) }
+        ensures { let value = value_of self.now.texts.now in value result ≡ spec.by_three_parts (formulas.three_parts op) (value u.now) (value v.now) (value w.now) }
     {
         match (u, v, w) {
             (Cell::Number(x), Cell::Number(y), Cell::Number(z)) => Cell::Number(three_parts(

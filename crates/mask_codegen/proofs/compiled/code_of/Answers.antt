@@ -29,8 +29,8 @@ emit-requires-clause-fits c =
     emits_fits (tree_of c.args.tree.now) c.args.tree.now.typed c.requires.settled c.in_ok-params.params.items (c.in_ok-params.ensures ∙ ap (λ l. slots (map local_of l)) c.as_slice.ensures)
     (stmts_of c.deref.result.now) c.deref-2.result.now (ap stmts_of c.deref.ensures.value ∙ c.in_ok-body.ensures) c.deref-2.ensures.value (omega arith)
 
-pub given-requires : goal.given-requires
-given-requires c =
+pub given_registers-requires : goal.given_registers-requires
+given_registers-requires c =
     let counted = c.args.tree.now.counted in
     let few = c.args.tree.now.few in
     record {

@@ -34,7 +34,7 @@ set_triples-requires c =
     let m0 = c.args.self.now in
     let m2 = c.assign_all.new.self in
     let k2 = kept_on m0 c.reset.new.self m2 c.reset.ensures.kept c.assign_all.ensures.kept in
-    record { whole = k2.whole; has = has_kept m0 m2 (name_at names.Ps) k2 (light_registers_pass _ c.args.code.now.kind c.requires.light.kind c.requires.names).1.1.1 }
+    record { whole = k2.whole; has = has_kept m0 m2 (name_at names.Ps) k2 (light_registers_pass _ c.args.code.now.kind c.requires.light.kind c.requires.names).1.1.1; triple = refl }
 
 pub run_block-requires-clause-ready : goal.run_block-requires-clause-ready
 run_block-requires-clause-ready c =

@@ -1,14 +1,14 @@
-use Rattle.std.proofs.Common.{◌≡◌, ℕ, ◌+◌, ◌*◌, ◌<◌, ◌≤◌, pos, false, length, get_or, sym, ap, ◌∙◌, arith, subst}
+use Rattle.std.proofs.Common.{◌≡◌, ℕ, ◌+◌, ◌*◌, ◌<◌, ◌≤◌, pos, length, get_or, sym, ap, ◌∙◌, arith, subst}
 use Rattle.sl_ast.specs.declared.typed.Value.TheVariants as values
 use Rattle.builtins.specs.declared.shape.Shape.TheVariants as shapes
 use Rattle.builtins.specs.Values.{triple_of}
 use Rattle.fixed_math.specs.Fixed.{IsRaw}
 use Rattle.grid_code.specs.Masked.{read}
-use Rattle.grid_code.specs.Names.{reg}
 use Rattle.place_values.specs.Cells.{value_of}
 use Rattle.grid_machine.specs.State.{state_of, texts_of}
 use Rattle.grid_machine.specs.Run.{value_in}
 use Rattle.grid_machine.proofs.Elements.{unloaded_next, others_set, long_set, SetAt, raws_set}
+use Rattle.grid_machine.proofs.Shapes.{read_shape, read_held, triple_back}
 use Rattle.grid_machine.proofs.machine.Machine.unload.Goals as goal
 
 pub loop-place-preserved : goal.loop-place-preserved
@@ -21,13 +21,13 @@ loop-place-preserved c =
     let new = c.set_triple.new.rows in
     let inv = c.loop-place.invariant in
     let t = c.triple.result in
-    let f = read (state_of m) (reg false shapes.Triple c.args.from) in
+    let f = read (state_of m) c.args.from in
     let l : n < w = let a = c.loop-place-test.true in let b = c.requires.wide in omega arith in
     let room : start + 3 * w ≤ length old = let a = inv.long in let b = c.requires.room in omega arith in
     let here : start + n + 2 * w < length old = omega arith in
     let some : 0 < w = omega arith in
     let is : new ≡ SetAt old w (start + n) t = c.set_triple.ensures.value in
-    let e : values.Triple t ≡ f n = ap values.Triple (c.triple.ensures ∙ ap triple_of (ap (value_of (texts_of m.registers)) c.get-cell.ensures ∙ c.operand-operand.ensures.same n)) in
+    let e : values.Triple t ≡ f n = ap values.Triple (c.triple.ensures ∙ ap triple_of (ap (value_of (texts_of m.registers)) c.get-cell.ensures ∙ c.operand-operand.ensures.same n ∙ read_held m c.args.from n)) ∙ triple_back (f n) (read_shape m c.args.from n ∙ c.requires.triple) in
     let q = c.set_triple.ensures.raws in
     record {
       long = ap length is ∙ long_set old w (start + n) t ∙ inv.long;
