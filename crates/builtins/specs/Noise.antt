@@ -1,6 +1,6 @@
 -- Noise: values that a hash gives to the points of the whole-number lattice, blended between them (RenderMan Interface 3.2, Shading
 -- Language, section 15.1; the hash is this program's own).
-use Rattle.std.specs.Prelude.{ℕ, ℤ, pos, ◌/◌, ◌^◌, ◌+ℤ◌, unsigned_abs, [], ◌∷◌, ◌≡◌, refl}
+use Rattle.std.specs.Prelude.{ℕ, ℤ, pos, neg_ℤ, ◌/◌, ◌^◌, ◌+ℤ◌, unsigned_abs, [], ◌∷◌, ◌≡◌, refl}
 use Rattle.std.specs.Int.{int_rem_euclid}
 use Rattle.fixed_math.specs.Whole.{floor_by}
 use Rattle.fixed_math.specs.Hash.{hash32, with_word}
@@ -44,3 +44,15 @@ of_row row z = pos (with_word row z / 2 ^ 16)
 noise_at_origin : noise (record { x = pos 0; y = pos 0; z = pos 0 }) ≡ lattice (pos 0) (pos 0) (pos 0)
 unfolding noise along_x along_y along_z lattice mix hermite
 noise_at_origin = refl
+
+-- halfway to the next point of the lattice the weight is 3/4 - 2/8 = 1/2; the values there are 34683 and 40708 (three steps of the hash from
+-- 0 over 0 0 0 and over 1 0 0, without their lower 16 bits), and the floors of their halves 17341 + 20354
+noise_at_half : noise (record { x = pos 32768; y = pos 0; z = pos 0 }) ≡ pos 37695
+unfolding noise along_x along_y along_z lattice mix hermite
+noise_at_half = refl
+
+-- a quarter before the origin it is three quarters behind the point -1, where the value is 41608: the weight is 27/16 - 54/64 = 27/32, and
+-- the floors of 41608 * 5/32 and 34683 * 27/32 are 6501 + 29263
+noise_before_origin : noise (record { x = neg_ℤ (pos 16384); y = pos 0; z = pos 0 }) ≡ pos 35764
+unfolding noise along_x along_y along_z lattice mix hermite
+noise_before_origin = refl

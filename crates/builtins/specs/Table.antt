@@ -76,72 +76,101 @@ abbrev pub noise_of : Value → Value
 noise_of (Number x) = Number (noise (record { x = x; y = pos 0; z = pos 0 }))
 noise_of v = Number (noise (triple_of v))
 
+-- what an operation makes of its operands, by how many of them it takes
+pub data Formula : Type 0 where
+  one : (Spaces → Value → Value) → Formula
+  two : (Value → Value → Value) → Formula
+  three : (Spaces → Value → Value → Value → Value) → Formula
+  one_or_two : (Value → Value) → (Value → Value → Value) → Formula
+  two_or_three : (Value → Value → Value) → (Value → Value → Value → Value) → Formula
+
+abbrev pub formula_of : ValueOperation → Formula
+formula_of ops.Negate = one (λ sp v. by_part neg_ℤ v)
+formula_of ops.Not = one (λ sp v. truth (not (is_true v)))
+formula_of ops.Or = two (λ v w. truth (is_true v || is_true w))
+formula_of ops.And = two (λ v w. truth (is_true v && is_true w))
+formula_of ops.Equal = two (λ v w. truth (is_same v w))
+formula_of ops.NotEqual = two (λ v w. truth (not (is_same v w)))
+formula_of ops.Less = two (λ v w. compare int_lt v w)
+formula_of ops.LessEqual = two (λ v w. compare int_le v w)
+formula_of ops.Greater = two (λ v w. compare int_lt w v)
+formula_of ops.GreaterEqual = two (λ v w. compare int_le w v)
+formula_of ops.Add = two (λ v w. by_parts add v w)
+formula_of ops.Subtract = two (λ v w. by_parts sub v w)
+formula_of ops.Cross = two (λ v w. Triple (t.cross (triple_of v) (triple_of w)))
+formula_of ops.Multiply = two (λ v w. by_parts mul v w)
+formula_of ops.Divide = two (λ v w. by_parts div v w)
+formula_of ops.Dot = two (λ v w. on_triples t.dot v w)
+formula_of ops.Select = three (λ sp u v w. chosen (is_true u) v w)
+formula_of (ops.Triple kind from) = three (λ sp u v w. placed kind sp from (Triple (record { x = number_of u; y = number_of v; z = number_of w })))
+formula_of (ops.Convert kind from) = one (λ sp v. placed kind sp from v)
+formula_of ops.Abs = one (λ sp v. by_part n.abs v)
+formula_of ops.Sign = one (λ sp v. by_part n.sign v)
+formula_of ops.Floor = one (λ sp v. by_part n.floor v)
+formula_of ops.Ceil = one (λ sp v. by_part n.ceil v)
+formula_of ops.Round = one (λ sp v. by_part n.round v)
+formula_of ops.Min = two_or_three (λ v w. by_parts n.min v w) (λ u v w. by_parts n.min (by_parts n.min u v) w)
+formula_of ops.Max = two_or_three (λ v w. by_parts n.max v w) (λ u v w. by_parts n.max (by_parts n.max u v) w)
+formula_of ops.Clamp = three (λ sp u v w. by_three_parts n.clamp u v w)
+formula_of ops.Mod = two (λ v w. by_parts n.modulo v w)
+formula_of ops.Mix = three (λ sp u v w. by_three_parts n.mix u v w)
+formula_of ops.Sin = one (λ sp v. on_number sin v)
+formula_of ops.Cos = one (λ sp v. on_number cos v)
+formula_of ops.Tan = one (λ sp v. on_number n.tan v)
+formula_of ops.Sqrt = one (λ sp v. on_number sqrt v)
+formula_of ops.InverseSqrt = one (λ sp v. on_number n.inversesqrt v)
+formula_of ops.Pow = two (λ v w. on_numbers pow v w)
+formula_of ops.Exp = one (λ sp v. on_number exp v)
+formula_of ops.Log = one (λ sp v. on_number n.log v)
+formula_of ops.Radians = one (λ sp v. on_number n.radians v)
+formula_of ops.Degrees = one (λ sp v. on_number n.degrees v)
+formula_of ops.Step = two (λ v w. on_numbers n.step v w)
+formula_of ops.SmoothStep = three (λ sp u v w. Number (n.smoothstep (number_of u) (number_of v) (number_of w)))
+formula_of ops.XComp = one (λ sp v. on_triple (λ p. p.x) v)
+formula_of ops.YComp = one (λ sp v. on_triple (λ p. p.y) v)
+formula_of ops.ZComp = one (λ sp v. on_triple (λ p. p.z) v)
+formula_of ops.Comp = two (λ v w. Number (t.comp (triple_of v) (number_of w)))
+formula_of ops.Length = one (λ sp v. on_triple t.length v)
+formula_of ops.Distance = two (λ v w. on_triples t.distance v w)
+formula_of ops.Normalize = one (λ sp v. Triple (t.normalize (triple_of v)))
+formula_of ops.Reflect = two (λ v w. Triple (t.reflect (triple_of v) (triple_of w)))
+formula_of ops.FaceForward = three (λ sp u v w. Triple (t.faceforward (triple_of u) (triple_of v) (triple_of w)))
+formula_of (ops.Transform from into) = one (λ sp v. through types.Point sp from into v)
+formula_of (ops.VTransform from into) = one (λ sp v. through types.Vector sp from into v)
+formula_of (ops.NTransform from into) = one (λ sp v. through types.Normal sp from into v)
+formula_of ops.Depth = one (λ sp v. on_triple (λ p. t.depth p sp.near sp.far) v)
+formula_of ops.Noise = one_or_two (λ v. noise_of v) (λ v w. Number (noise (record { x = number_of v; y = number_of w; z = pos 0 })))
+
+-- a formula on so many operands. Well-typed trees give each operation as many as it takes; of another number of them it gives the first.
+abbrev pub taking_one : Formula → Spaces → Value → Value
+taking_one (one f) sp v = f sp v
+taking_one (one_or_two f g) sp v = f v
+taking_one (two f) sp v = v
+taking_one (three f) sp v = v
+taking_one (two_or_three f g) sp v = v
+
+abbrev pub taking_two : Formula → Value → Value → Value
+taking_two (two f) v w = f v w
+taking_two (one_or_two f g) v w = g v w
+taking_two (two_or_three f g) v w = f v w
+taking_two (one f) v w = v
+taking_two (three f) v w = v
+
+abbrev pub taking_three : Formula → Spaces → Value → Value → Value → Value
+taking_three (three f) sp u v w = f sp u v w
+taking_three (two_or_three f g) sp u v w = g u v w
+taking_three (one f) sp u v w = u
+taking_three (two f) sp u v w = u
+taking_three (one_or_two f g) sp u v w = u
+
 unfoldable pub of_one : ValueOperation → Spaces → Value → Value
-of_one ops.Negate sp v = by_part neg_ℤ v
-of_one ops.Not sp v = truth (not (is_true v))
-of_one (ops.Convert kind from) sp v = placed kind sp from v
-of_one ops.Abs sp v = by_part n.abs v
-of_one ops.Sign sp v = by_part n.sign v
-of_one ops.Floor sp v = by_part n.floor v
-of_one ops.Ceil sp v = by_part n.ceil v
-of_one ops.Round sp v = by_part n.round v
-of_one ops.Sin sp v = on_number sin v
-of_one ops.Cos sp v = on_number cos v
-of_one ops.Tan sp v = on_number n.tan v
-of_one ops.Sqrt sp v = on_number sqrt v
-of_one ops.InverseSqrt sp v = on_number n.inversesqrt v
-of_one ops.Exp sp v = on_number exp v
-of_one ops.Log sp v = on_number n.log v
-of_one ops.Radians sp v = on_number n.radians v
-of_one ops.Degrees sp v = on_number n.degrees v
-of_one ops.XComp sp v = on_triple (λ p. p.x) v
-of_one ops.YComp sp v = on_triple (λ p. p.y) v
-of_one ops.ZComp sp v = on_triple (λ p. p.z) v
-of_one ops.Length sp v = on_triple t.length v
-of_one ops.Normalize sp v = Triple (t.normalize (triple_of v))
-of_one (ops.Transform from into) sp v = through types.Point sp from into v
-of_one (ops.VTransform from into) sp v = through types.Vector sp from into v
-of_one (ops.NTransform from into) sp v = through types.Normal sp from into v
-of_one ops.Depth sp v = on_triple (λ p. t.depth p sp.near sp.far) v
-of_one ops.Noise sp v = noise_of v
-of_one _ sp v = v
+of_one op sp v = taking_one (formula_of op) sp v
 
 unfoldable pub of_two : ValueOperation → Value → Value → Value
-of_two ops.Or v w = truth (is_true v || is_true w)
-of_two ops.And v w = truth (is_true v && is_true w)
-of_two ops.Equal v w = truth (is_same v w)
-of_two ops.NotEqual v w = truth (not (is_same v w))
-of_two ops.Less v w = compare int_lt v w
-of_two ops.LessEqual v w = compare int_le v w
-of_two ops.Greater v w = compare int_lt w v
-of_two ops.GreaterEqual v w = compare int_le w v
-of_two ops.Add v w = by_parts add v w
-of_two ops.Subtract v w = by_parts sub v w
-of_two ops.Cross v w = Triple (t.cross (triple_of v) (triple_of w))
-of_two ops.Multiply v w = by_parts mul v w
-of_two ops.Divide v w = by_parts div v w
-of_two ops.Dot v w = on_triples t.dot v w
-of_two ops.Min v w = by_parts n.min v w
-of_two ops.Max v w = by_parts n.max v w
-of_two ops.Mod v w = by_parts n.modulo v w
-of_two ops.Pow v w = on_numbers pow v w
-of_two ops.Step v w = on_numbers n.step v w
-of_two ops.Comp v w = Number (t.comp (triple_of v) (number_of w))
-of_two ops.Distance v w = on_triples t.distance v w
-of_two ops.Reflect v w = Triple (t.reflect (triple_of v) (triple_of w))
-of_two ops.Noise v w = Number (noise (record { x = number_of v; y = number_of w; z = pos 0 }))
-of_two _ v w = v
+of_two op v w = taking_two (formula_of op) v w
 
 unfoldable pub of_three : ValueOperation → Spaces → Value → Value → Value → Value
-of_three ops.Select sp u v w = chosen (is_true u) v w
-of_three (ops.Triple kind from) sp u v w = placed kind sp from (Triple (record { x = number_of u; y = number_of v; z = number_of w }))
-of_three ops.Min sp u v w = by_parts n.min (by_parts n.min u v) w
-of_three ops.Max sp u v w = by_parts n.max (by_parts n.max u v) w
-of_three ops.Clamp sp u v w = by_three_parts n.clamp u v w
-of_three ops.Mix sp u v w = by_three_parts n.mix u v w
-of_three ops.SmoothStep sp u v w = Number (n.smoothstep (number_of u) (number_of v) (number_of w))
-of_three ops.FaceForward sp u v w = Triple (t.faceforward (triple_of u) (triple_of v) (triple_of w))
-of_three _ sp u v w = u
+of_three op sp u v w = taking_three (formula_of op) sp u v w
 
 -- the value of an operation on its operands' values
 abbrev pub applied : ValueOperation → Spaces → List Value → Value

@@ -8,4 +8,5 @@ pub mod Lowered
 pub mod Runs
 pub mod Examples
 pub mod LoweredExamples
+pub mod GridExamples
 pub mod Defaults

@@ -64,10 +64,10 @@ counted_apart : stmt counting (false ∷ []) true ≡
 counted_apart = refl
 
 -- transform("world", P): the string is no operand
-moved : expr (T.apply (operations.Value (ops.Transform spaces.Current spaces.World))
+transformed : expr (T.apply (operations.Value (ops.Transform spaces.Current spaces.World))
     (T.more (T.word (codes "world") (at 1)) (T.more (T.variable (Predefined names.P) nodes.Point (at 2)) T.none)) nodes.Point (at 0)) [] true ≡
     C.apply (ops.Transform spaces.Current spaces.World) (C.more (C.read (Predefined names.P)) C.none)
-moved = refl
+transformed = refl
 
 -- faceforward(N, I)
 abbrev normal : T.Expr
@@ -76,9 +76,9 @@ normal = T.variable (Predefined names.N) nodes.Normal (at 1)
 abbrev incident : T.Expr
 incident = T.variable (Predefined names.I) nodes.Vector (at 2)
 
-turned : expr (T.apply operations.FaceForwardNg (T.more normal (T.more incident T.none)) nodes.Vector (at 0)) [] true ≡
+faced : expr (T.apply operations.FaceForwardNg (T.more normal (T.more incident T.none)) nodes.Vector (at 0)) [] true ≡
     C.apply ops.FaceForward (C.more (C.read (Predefined names.N)) (C.more (C.read (Predefined names.I)) (C.more (C.read (Predefined names.Ng)) C.none)))
-turned = refl
+faced = refl
 
 -- a call of `float next(uniform float k) { k += 1; return k; }` on `PI`
 abbrev next_of_pi : T.Expr
