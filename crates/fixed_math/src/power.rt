@@ -48,6 +48,7 @@ fn factor(f: u64, k: u32, m: u64, s: u64) -> u64
     }
 }
 
+// The factors of the eight low bits: the ninth to the sixteenth root of two, each the root of the one before, in 30 fraction bits.
 fn with_low(f: u64, m: u64) -> u64
     requires { m ≤ 2 ^ 31 }
     ensures value { result ≡ with_low f m }
@@ -64,6 +65,7 @@ fn with_low(f: u64, m: u64) -> u64
     factor(f, 0, h, 1073753179)
 }
 
+// The power of an entry, of a table that is checked entry by entry when this is proved.
 fn lookup(table: &[u32], j: u64) -> u64
     requires checked { IsTrue (checked table.now 0) }
     requires place { j < length table.now }
@@ -74,6 +76,7 @@ fn lookup(table: &[u32], j: u64) -> u64
     table[j as usize] as u64
 }
 
+// The product of the roots that the eight high bits name.
 fn high_power(j: u64) -> u64
     requires { j < 256 }
     ensures value { result ≡ high_power j }
@@ -93,6 +96,7 @@ fn exp_bits(f: u64) -> u64
     with_low(f, high_power(f / 256))
 }
 
+// Whether a square passes 2, and what is left of it.
 fn bit_of(square: u64) -> u64
     requires { square < 2 ^ 32 }
     ensures value { result ≡ cond (nat_le 2147483648 square) 1 0 }
