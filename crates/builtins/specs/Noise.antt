@@ -3,7 +3,7 @@
 use Rattle.std.specs.Prelude.{ℕ, ℤ, pos, ◌/◌, ◌^◌, ◌+ℤ◌, unsigned_abs, [], ◌∷◌, ◌≡◌, refl}
 use Rattle.std.specs.Int.{int_rem_euclid}
 use Rattle.fixed_math.specs.Whole.{floor_by}
-use Rattle.fixed_math.specs.Hash.{hash32}
+use Rattle.fixed_math.specs.Hash.{hash32, with_word}
 use Rattle.fixed_math.specs.declared.vec3.Vec3.{Vec3}
 use Rattle.builtins.specs.Numbers.{mix, hermite}
 
@@ -32,6 +32,13 @@ along_z u v w x y z = mix (along_y u v x y z) (along_y u v x y (z +ℤ pos 1)) w
 -- the blend of the eight points about p, by how far behind the first of them it lies
 unfoldable pub noise : Vec3 → ℤ
 noise p = along_z (hermite (rest p.x)) (hermite (rest p.y)) (hermite (rest p.z)) (floor_by p.x 65536) (floor_by p.y 65536) (floor_by p.z 65536)
+
+-- for private contracts alone: the hash of the first two words of a point, and a value of the lattice by that
+abbrev pub row_of : ℤ → ℤ → ℕ
+row_of x y = with_word (with_word 0 (word x)) (word y)
+
+abbrev pub of_row : ℕ → ℕ → ℤ
+of_row row z = pos (with_word row z / 2 ^ 16)
 
 -- at a point of the lattice it is the value there
 noise_at_origin : noise (record { x = pos 0; y = pos 0; z = pos 0 }) ≡ lattice (pos 0) (pos 0) (pos 0)

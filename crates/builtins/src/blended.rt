@@ -2,9 +2,10 @@
 ghost use Rattle.std.specs.Prelude.{◌≡◌, ◌<◌, ◌≤◌, ◌^◌, pos, ◌+ℤ◌, unsigned_abs};
 ghost use Rattle.fixed_math.specs.Whole.{floor_by};
 ghost use Rattle.builtins.specs.Noise as spec;
+ghost use Rattle.builtins.specs.Noise.{row_of, of_row};
 
 use crate::numbers::{hermite, mix};
-use fixed_math::{Num, Vec3, hash32};
+use fixed_math::{Num, Vec3, with_word};
 
 /// A whole number as a word of 32 bits.
 fn word(n: i64) -> u32
@@ -13,11 +14,11 @@ fn word(n: i64) -> u32
     n.rem_euclid(1 << 32) as u32
 }
 
-#[tactic(auto, unfolding(crate::specs::Noise::lattice))]
-fn lattice(x: i64, y: i64, z: i64) -> Num
-    ensures { result ≡ spec.lattice x y z }
+// The value at a point of the lattice, by the hash of its first two words.
+fn lattice(row: u32, z: u32) -> Num
+    ensures { result ≡ of_row row z }
 {
-    Num::sat((hash32(&[word(x), word(y), word(z)]) >> 16) as i128)
+    Num::sat((with_word(row, z) >> 16) as i128)
 }
 
 /// The next whole number.
@@ -28,21 +29,50 @@ fn next(n: i64) -> i64
     n + 1
 }
 
-#[tactic(auto, unfolding(crate::specs::Noise::along_x))]
-fn along_x(w: Num, x: i64, y: i64, z: i64) -> Num
-    requires { unsigned_abs x < 2 ^ 32 }
-    ensures { result ≡ spec.along_x w x y z }
-{
-    mix(lattice(x, y, z), lattice(next(x), y, z), w)
+// The hashes of the first two words of the points about a point: those of its own first word and of the next, with its own second word and
+// with the next.
+#[derive(Clone, Copy)]
+struct Rows {
+    near: u32,
+    next: u32,
+    far_near: u32,
+    far_next: u32,
 }
 
-#[tactic(auto, unfolding(crate::specs::Noise::along_y))]
-fn along_y(u: Num, v: Num, x: i64, y: i64, z: i64) -> Num
+fn rows_at(x: i64, y: i64) -> Rows
     requires x { unsigned_abs x < 2 ^ 32 }
     requires y { unsigned_abs y < 2 ^ 32 }
+    ensures near { result.near ≡ row_of x y }
+    ensures next { result.next ≡ row_of (x +ℤ pos 1) y }
+    ensures far_near { result.far_near ≡ row_of x (y +ℤ pos 1) }
+    ensures far_next { result.far_next ≡ row_of (x +ℤ pos 1) (y +ℤ pos 1) }
+{
+    let (near, next_x) = (with_word(0, word(x)), with_word(0, word(next(x))));
+    let (low, high) = (word(y), word(next(y)));
+    Rows {
+        near: with_word(near, low),
+        next: with_word(next_x, low),
+        far_near: with_word(near, high),
+        far_next: with_word(next_x, high),
+    }
+}
+
+// The blend of the four points about a point that have its third word.
+fn along_y(u: Num, v: Num, rows: &Rows, x: i64, y: i64, z: i64) -> Num
+    requires near { rows.now.near ≡ row_of x y }
+    requires next { rows.now.next ≡ row_of (x +ℤ pos 1) y }
+    requires far_near { rows.now.far_near ≡ row_of x (y +ℤ pos 1) }
+    requires far_next { rows.now.far_next ≡ row_of (x +ℤ pos 1) (y +ℤ pos 1) }
     ensures { result ≡ spec.along_y u v x y z }
 {
-    mix(along_x(u, x, y, z), along_x(u, x, next(y), z), v)
+    let third = word(z);
+    let low = mix(lattice(rows.near, third), lattice(rows.next, third), u);
+    let high = mix(
+        lattice(rows.far_near, third),
+        lattice(rows.far_next, third),
+        u,
+    );
+    mix(low, high, v)
 }
 
 #[tactic(auto, unfolding(crate::specs::Noise::along_z))]
@@ -52,7 +82,12 @@ fn along_z(u: Num, v: Num, w: Num, x: i64, y: i64, z: i64) -> Num
     requires z { unsigned_abs z < 2 ^ 32 }
     ensures { result ≡ spec.along_z u v w x y z }
 {
-    mix(along_y(u, v, x, y, z), along_y(u, v, x, y, next(z)), w)
+    let rows = rows_at(x, y);
+    mix(
+        along_y(u, v, &rows, x, y, z),
+        along_y(u, v, &rows, x, y, next(z)),
+        w,
+    )
 }
 
 /// The greatest whole number not above `x`.

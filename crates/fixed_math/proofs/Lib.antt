@@ -3,6 +3,8 @@ pub mod Floor
 pub mod Weights
 pub mod Sat
 pub mod Root
+mod PowerTable
+mod LogBits
 pub mod Bounds
 pub mod Logs
 pub mod Exps

@@ -1,10 +1,8 @@
 -- Laws of logarithms and powers of two.
 use Rattle.std.proofs.Common.{◌≡◌, refl, ap, sym, ◌∙◌, ℕ, zero, suc, ◌+◌, ◌-◌, ◌*◌, ◌/◌, ◌%◌, ◌^◌, ◌≤◌, ◌<◌, Bool, true, false, cond, arith, nat_le, nat_lt}
-use borrow.Author.Tests.{leb-true, leb-false, lt-ltb, le-ltb, le-leb}
-use Rattle.std.proofs.lemmas.Bool.{lt-leb}
-use Rattle.std.proofs.Common.{zero-add}
-use Rattle.std.proofs.Math.Pow.{pow_mono, pow-lt, pow-add, pow_pos}
-use Rattle.std.proofs.Math.Nat.{one-mul, mod-eq_of_lt, mul-lt-mul_of_pos_right}
+use borrow.Author.Tests.{leb-true, leb-false, lt-ltb, le-ltb}
+use Rattle.std.proofs.Math.Pow.{pow_mono, pow-add, pow_pos}
+use Rattle.std.proofs.Math.Nat.{mod-eq_of_lt, mul-lt-mul_of_pos_right}
 use Rattle.fixed_math.specs.Whole.{first_passing}
 use Rattle.std.proofs.Common.{ℤ, pos, negsuc, ◌≤ℤ◌, ◌<ℤ◌}
 use Rattle.std.proofs.lemmas.Int.{ints}
@@ -32,9 +30,6 @@ unfolding log_bits
 log_step zero m h = absurd (omega arith)
 log_step (suc k) m h = let e : suc k - 1 ≡ k = omega arith in rw e
 
-pub shifted_one : (k : ℕ) → k < 64 → 1 * 2 ^ k % 18446744073709551616 ≡ 2 ^ k
-shifted_one k h = let small : 2 ^ k < 2 ^ 64 = pow-lt h in rw one-mul (mod-eq_of_lt small)
-
 pub doubled : (k : ℕ) → 0 < k → 2 ^ k ≡ 2 ^ (k - 1) + 2 ^ (k - 1)
 doubled zero h = absurd (omega arith)
 doubled (suc k) h = let e : suc k - 1 ≡ k = omega arith in rw e (omega arith)
@@ -42,10 +37,6 @@ doubled (suc k) h = let e : suc k - 1 ≡ k = omega arith in rw e (omega arith)
 pub log_none : (m : ℕ) → 0 ≡ log_bits 0 m
 unfolding log_bits
 log_none m = refl
-
-pub log_one : (k m r : ℕ) → 0 < k → 2147483648 ≤ m * m / 1073741824 → r ≡ log_bits (k - 1) (m * m / 1073741824 / 2) → 2 ^ (k - 1) + r ≡ log_bits k m
-log_one k m r h high e =
-    rw (log_step k m h, le-leb 2147483648 (m * m / 1073741824) high) (ap (λ (n : ℕ). 2 ^ (k - 1) + n) e)
 
 pub log_small : (x r : ℕ) → 2 ^ r ≤ x → x < 2147483648 → r ≤ 30
 log_small x r low high =
@@ -64,9 +55,6 @@ mantissa_small x r small high =
 
 pub mantissa_is : (x r : ℕ) → r ≤ 30 → x < 2 * 2 ^ r → x * 2 ^ (30 - r) % 18446744073709551616 ≡ x * 2 ^ (30 - r)
 mantissa_is x r small high = mod-eq_of_lt (omega (arith, mantissa_small x r small high))
-
-pub log_clear : (k m r : ℕ) → 0 < k → m * m / 1073741824 < 2147483648 → r ≡ log_bits (k - 1) (m * m / 1073741824) → r ≡ log_bits k m
-log_clear k m r h low e = rw (log_step k m h, lt-leb 2147483648 (m * m / 1073741824) low, zero-add) e
 
 -- the logarithm by the sign of the raw value
 pub log2_above : (z : ℤ) → pos 0 <ℤ z → log2_of (unsigned_abs z) ≡ log2 z

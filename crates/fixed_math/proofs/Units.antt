@@ -1,12 +1,13 @@
 -- Bounds of the unit vector.
-use Rattle.std.proofs.Common.{◌≡◌, refl, sym, ℕ, zero, suc, ℤ, pos, negsuc, ◌+◌, ◌*◌, ◌/◌, ◌^◌, ◌≤◌, ◌<◌, ◌≤ℤ◌, ◌*ℤ◌, true, false, arith}
+use Rattle.std.proofs.Common.{◌≡◌, refl, sym, ap, ℕ, zero, suc, ℤ, pos, negsuc, neg_ℤ, Bool, ◌+◌, ◌*◌, ◌/◌, ◌^◌, ◌≤◌, ◌<◌, ◌≤ℤ◌, ◌*ℤ◌, true, false, arith}
 use Rattle.std.proofs.lemmas.Int.{ints}
 use Rattle.std.proofs.lemmas.Bool.Decides.{nat_tests}
 use Rattle.std.specs.Int.RustNames.{unsigned_abs}
 use borrow.Author.Tests.{lt-ltb}
-use Rattle.std.proofs.Math.Nat.{mul-le-mul}
+use Rattle.std.proofs.Math.Nat.{mul-le-mul, div-one}
+use Rattle.std.proofs.lemmas.Bool.{and_from}
 use Rattle.fixed_math.specs.Whole.{floor_by}
-use Rattle.fixed_math.specs.Unit.{fits_at, shift_for, square, norm, part}
+use Rattle.fixed_math.specs.Unit.{fits_at, shift_for, shrunk, square, norm, part, unit_part}
 use Rattle.fixed_math.proofs.Floor.{floor_by_ge, floor_by_lt}
 use Rattle.fixed_math.proofs.Root.{isqrt_ge}
 use Rattle.fixed_math.proofs.Logs.{first_passing_is}
@@ -52,6 +53,26 @@ part_in_range c (suc n) h =
     let low = floor_by_ge (c *ℤ pos 65536) (negsuc 65535) (suc n) (omega arith) (omega (arith, ints)) in
     let high = floor_by_lt (c *ℤ pos 65536) (pos 65537) (suc n) (omega arith) (omega (arith, ints)) in
     (low, omega (arith, ints))
+
+shrunk_none : (c : ℤ) → shrunk c 0 ≡ c
+shrunk_none (pos a) = ap pos (div-one a)
+shrunk_none (negsuc a) = ap (λ n. neg_ℤ (pos n)) (div-one (suc a))
+
+fits_now : (x y z : ℕ) → x < 4611686018427387904 → y < 4611686018427387904 → z < 4611686018427387904 → fits_at x y z 0 ≡ true
+fits_now x y z p q r =
+    rw (div-one x, div-one y, div-one z) (and_from _ _ (lt-ltb x 4611686018427387904 p) (and_from _ _ (lt-ltb y 4611686018427387904 q) (lt-ltb z 4611686018427387904 r)))
+
+none_below : (p : ℕ → Bool) (t : Bool) → (j : ℕ) → j < 0 → p j ≡ t
+none_below p t j h = absurd (omega arith)
+
+-- below 2 ^ 62 nothing is shifted
+pub unit_part_is : (c x y z : ℤ) → unsigned_abs x < 4611686018427387904 → unsigned_abs y < 4611686018427387904 → unsigned_abs z < 4611686018427387904
+    → part c (norm x y z) ≡ unit_part c x y z
+unfolding unit_part
+unit_part_is c x y z p q r =
+    let now : 0 ≡ shift_for (unsigned_abs x) (unsigned_abs y) (unsigned_abs z) =
+    shift_for_is (unsigned_abs x) (unsigned_abs y) (unsigned_abs z) 0 (omega arith) (fits_now _ _ _ p q r) (none_below _ _) in
+    rw (← now, shrunk_none c, shrunk_none x, shrunk_none y, shrunk_none z)
 
 pub part_is : (c : ℤ) (n : ℕ) → 0 < n → floor_by (c *ℤ pos 65536) n ≡ part c n
 part_is c zero h = absurd (omega arith)

@@ -4,6 +4,7 @@ pub mod Root
 pub mod Hash
 pub mod Sine
 pub mod Power
+pub mod PowerTable
 pub mod Unit
 pub mod Axes
 pub mod Blossom

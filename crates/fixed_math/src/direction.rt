@@ -1,10 +1,11 @@
-ghost use Rattle.std.specs.Prelude.{◌≡◌, ℕ, ◌+◌, ◌*◌, ◌/◌, ◌^◌, ◌<◌, ◌≤◌, ℤ, pos, ◌≤ℤ◌, unsigned_abs, slice_index_or};
+// Unit vectors.
+ghost use Rattle.std.specs.Prelude.{◌≡◌, ℕ, ◌+◌, ◌*◌, ◌/◌, ◌^◌, ◌<◌, ◌≤◌, ℤ, pos, ◌≤ℤ◌, unsigned_abs, slice_index_or, true};
 ghost use Rattle.std.specs.List.{All};
 ghost use Rattle.fixed_math.specs.Fixed.{IsRaw};
 ghost use Rattle.fixed_math.specs.Unit.{fits_at, shift_for, shrunk, square, norm, part, unit_part};
 
 use crate::num::Num;
-use crate::roots::isqrt;
+use crate::roots::{isqrt, isqrt_short};
 use crate::vec3::Vec3;
 
 fn fits_at(x: u128, y: u128, z: u128, k: u32) -> bool
@@ -79,15 +80,16 @@ fn part(c: i128, n: u128) -> Num
     }
 }
 
-/// The unit vector in the direction of `v`.
+// The unit vector in the direction of a vector of at most 100 bits.
 #[tactic(auto, unfolding(crate::specs::Unit::unit_part))]
-pub fn unit(v: [i128; 3]) -> Vec3
-    requires { (i : ℕ) → i < 3 → unsigned_abs (slice_index_or v i (pos 0)) < 2 ^ 100 }
-    ensures x { let c = λ (i : ℕ). slice_index_or v i (pos 0) in result.x ≡ unit_part (c 0) (c 0) (c 1) (c 2) }
-    ensures y { let c = λ (i : ℕ). slice_index_or v i (pos 0) in result.y ≡ unit_part (c 1) (c 0) (c 1) (c 2) }
-    ensures z { let c = λ (i : ℕ). slice_index_or v i (pos 0) in result.z ≡ unit_part (c 2) (c 0) (c 1) (c 2) }
+fn unit_long(x: i128, y: i128, z: i128) -> Vec3
+    requires x_small { unsigned_abs x < 2 ^ 100 }
+    requires y_small { unsigned_abs y < 2 ^ 100 }
+    requires z_small { unsigned_abs z < 2 ^ 100 }
+    ensures x { result.x ≡ unit_part x x y z }
+    ensures y { result.y ≡ unit_part y x y z }
+    ensures z { result.z ≡ unit_part z x y z }
 {
-    let [x, y, z] = v;
     let k = shift_for(x.unsigned_abs(), y.unsigned_abs(), z.unsigned_abs());
     let (a, b, c) = (shrunk(x, k), shrunk(y, k), shrunk(z, k));
     let n = norm(a, b, c);
@@ -95,5 +97,99 @@ pub fn unit(v: [i128; 3]) -> Vec3
         x: part(a, n),
         y: part(b, n),
         z: part(c, n),
+    }
+}
+
+fn square_short(c: i64) -> u64
+    requires { unsigned_abs c < 2 ^ 31 }
+    ensures value { result ≡ square c }
+    ensures bound { result < 2 ^ 62 }
+{
+    c.unsigned_abs() * c.unsigned_abs()
+}
+
+#[tactic(auto, unfolding(crate::specs::Unit::norm))]
+fn norm_short(x: i64, y: i64, z: i64) -> u64
+    requires x_small { unsigned_abs x < 2 ^ 31 }
+    requires y_small { unsigned_abs y < 2 ^ 31 }
+    requires z_small { unsigned_abs z < 2 ^ 31 }
+    ensures value { result ≡ norm x y z }
+    ensures bound { result < 2 ^ 32 }
+{
+    isqrt_short(square_short(x) + square_short(y) + square_short(z))
+}
+
+// The same part of a vector of at most 31 bits.
+fn part_short(c: i64, n: u64) -> Num
+    requires small { unsigned_abs c < 2 ^ 31 }
+    requires le { unsigned_abs c ≤ n }
+    requires bound { n < 2 ^ 32 }
+    ensures { result ≡ part c n }
+{
+    if n == 0 {
+        Num::from_raw(0)
+    } else {
+        Num::from_raw((c * 65536).div_euclid(n as i64))
+    }
+}
+
+// The same of a vector of at most 31 bits, which is nearly always all.
+#[tactic(auto, using(crate::proofs::Units::unit_part_is))]
+fn unit_short(x: i64, y: i64, z: i64) -> Vec3
+    requires x_small { unsigned_abs x < 2 ^ 31 }
+    requires y_small { unsigned_abs y < 2 ^ 31 }
+    requires z_small { unsigned_abs z < 2 ^ 31 }
+    ensures x { result.x ≡ unit_part x x y z }
+    ensures y { result.y ≡ unit_part y x y z }
+    ensures z { result.z ≡ unit_part z x y z }
+{
+    let n = norm_short(x, y, z);
+    Vec3 {
+        x: part_short(x, n),
+        y: part_short(y, n),
+        z: part_short(z, n),
+    }
+}
+
+// Whether three numbers have at most 31 bits.
+fn are_short(x: i128, y: i128, z: i128) -> bool
+    ensures x { result ≡ true → unsigned_abs x < 2 ^ 31 }
+    ensures y { result ≡ true → unsigned_abs y < 2 ^ 31 }
+    ensures z { result ≡ true → unsigned_abs z < 2 ^ 31 }
+{
+    x.unsigned_abs() < 2147483648 && y.unsigned_abs() < 2147483648 && z.unsigned_abs() < 2147483648
+}
+
+fn narrowed(c: i128) -> i64
+    requires { unsigned_abs c < 2 ^ 31 }
+    ensures value { result ≡ c }
+    ensures small { unsigned_abs result < 2 ^ 31 }
+{
+    c as i64
+}
+
+fn unit_narrowed(x: i128, y: i128, z: i128) -> Vec3
+    requires x_small { unsigned_abs x < 2 ^ 31 }
+    requires y_small { unsigned_abs y < 2 ^ 31 }
+    requires z_small { unsigned_abs z < 2 ^ 31 }
+    ensures x { result.x ≡ unit_part x x y z }
+    ensures y { result.y ≡ unit_part y x y z }
+    ensures z { result.z ≡ unit_part z x y z }
+{
+    unit_short(narrowed(x), narrowed(y), narrowed(z))
+}
+
+/// The unit vector in the direction of `v`.
+pub fn unit(v: [i128; 3]) -> Vec3
+    requires { (i : ℕ) → i < 3 → unsigned_abs (slice_index_or v i (pos 0)) < 2 ^ 100 }
+    ensures x { let c = λ (i : ℕ). slice_index_or v i (pos 0) in result.x ≡ unit_part (c 0) (c 0) (c 1) (c 2) }
+    ensures y { let c = λ (i : ℕ). slice_index_or v i (pos 0) in result.y ≡ unit_part (c 1) (c 0) (c 1) (c 2) }
+    ensures z { let c = λ (i : ℕ). slice_index_or v i (pos 0) in result.z ≡ unit_part (c 2) (c 0) (c 1) (c 2) }
+{
+    let [x, y, z] = v;
+    if are_short(x, y, z) {
+        unit_narrowed(x, y, z)
+    } else {
+        unit_long(x, y, z)
     }
 }

@@ -67,3 +67,17 @@ pub fn floor_div(a: i128, b: i128) -> i128
         a.div_euclid(b)
     }
 }
+
+/// The same of a number of at most 62 bits, and a divisor of as many.
+pub(crate) fn floor_div_short(n: i64, d: i64) -> i64
+    requires nonzero { d ≢ pos 0 }
+    requires fits { unsigned_abs n < 2 ^ 62 }
+    requires divisor { unsigned_abs d < 2 ^ 62 }
+    ensures { result ≡ floor_div n d }
+{
+    if d < 0 {
+        (-n).div_euclid(-d)
+    } else {
+        n.div_euclid(d)
+    }
+}

@@ -14,13 +14,14 @@ mod num;
 mod power;
 mod roots;
 mod sine;
+mod tables;
 mod text;
 mod vec3;
 mod wide;
 
 pub use direction::unit;
 pub use exact::{floor_by, floor_div, minus, plus, scaled, times};
-pub use hash::hash32;
+pub use hash::{hash32, with_word};
 pub use list::List;
 pub use memory::NoMemory;
 pub use names::Names;

@@ -1,8 +1,8 @@
 ghost use Rattle.std.specs.Prelude.{◌≡◌, ◌≤◌, ℤ, pos, neg_ℤ, ◌≤ℤ◌, unsigned_abs};
 ghost use Rattle.fixed_math.specs.Fixed.{sat, IsRaw, add, sub, mul, div, sqrt};
 
-use crate::exact::floor_div;
-use crate::roots::isqrt;
+use crate::exact::floor_div_short;
+use crate::roots::isqrt_short;
 use std::marker::Model;
 
 const LIMIT: i64 = 2147483647;
@@ -46,6 +46,19 @@ impl Num {
         }
     }
 
+    // The same of a whole number of 64 bits.
+    fn cut(x: i64) -> Num
+        ensures { result ≡ sat x }
+    {
+        if x < -LIMIT {
+            Num { raw: -LIMIT }
+        } else if x > LIMIT {
+            Num { raw: LIMIT }
+        } else {
+            Num { raw: x }
+        }
+    }
+
     /// The number of a raw value in range.
     pub(crate) fn from_raw(raw: i64) -> Num
         requires { IsRaw raw }
@@ -68,14 +81,14 @@ impl Num {
     pub fn add(self, o: Num) -> Num
         ensures { result ≡ add self o }
     {
-        Num::sat(self.raw as i128 + o.raw as i128)
+        Num::cut(self.raw + o.raw)
     }
 
     /// The difference, saturated.
     pub fn sub(self, o: Num) -> Num
         ensures { result ≡ sub self o }
     {
-        Num::sat(self.raw as i128 - o.raw as i128)
+        Num::cut(self.raw - o.raw)
     }
 
     /// The number with the other sign.
@@ -89,7 +102,7 @@ impl Num {
     pub fn mul(self, o: Num) -> Num
         ensures { result ≡ mul self o }
     {
-        Num::sat((self.raw as i128 * o.raw as i128).div_euclid(65536))
+        Num::cut((self.raw * o.raw).div_euclid(65536))
     }
 
     /// The square root, rounded down; 0 for a number that isn't above 0.
@@ -100,7 +113,7 @@ impl Num {
             return Num { raw: 0 };
         }
         Num {
-            raw: isqrt(self.raw as u128 * 65536) as i64,
+            raw: isqrt_short(self.raw as u64 * 65536) as i64,
         }
     }
 
@@ -111,6 +124,6 @@ impl Num {
         if o.raw == 0 {
             return Num { raw: 0 };
         }
-        Num::sat(floor_div(self.raw as i128 * 65536, o.raw as i128))
+        Num::cut(floor_div_short(self.raw * 65536, o.raw))
     }
 }

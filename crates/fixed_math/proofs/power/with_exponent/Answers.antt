@@ -8,4 +8,4 @@ returns-then-w-ge15 c = c.from_raw.ensures ∙ with_exponent_above c.args.m (c.a
 
 pub returns-then-w-ltminus40 : goal.returns-then-w-ltminus40
 returns-then-w-ltminus40 c =
-    c.from_raw-then-w-ltminus40.ensures ∙ with_exponent_below c.args.m (c.args.w -ℤ pos 14) c.requires.high (omega (arith, ints))
+    c.from_raw-then-w-ltminus40.ensures ∙ with_exponent_below c.args.m (c.args.w -ℤ pos 14) (omega arith) (omega (arith, ints))
