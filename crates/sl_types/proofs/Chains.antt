@@ -10,7 +10,7 @@ use Rattle.sl_expressions.specs.Typed as T
 use Rattle.sl_expressions.specs.TypedView.{typed_of, tlink_of}
 use Rattle.sl_types.specs.Inline.{Built, nothing, at, called_at, count, count_args, inline, inline_args}
 use Rattle.sl_types.specs.Folds.{fold}
-use Rattle.sl_types.specs.Weights.{weighing}
+use Rattle.sl_types.specs.Placing.{weighing}
 use Rattle.sl_expressions.specs.declared.typed.TypedExpr.{TypedExpr, Chain}
 use Rattle.sl_expressions.specs.declared.typed.TypedLink.{TypedLink}
 use Rattle.sl_expressions.proofs.Rows.{held_chain}

@@ -5,7 +5,8 @@ use Rattle.sl_expressions.specs.Found.{Found}
 use Rattle.sl_expressions.specs.Scope.{Local, Callee, body_in}
 use Rattle.sl_expressions.specs.Typed.{Expr, number, word, variable, apply, call, Exprs, none, more, Stmt, empty, leave, again, block, group, declare, start, assign, test, test_else, repeat, steps, lights, Stmts, done, first, Body}
 use Rattle.sl_types.specs.Folds.{fold, fold_args, fold_stmt, fold_stmts, fold_body}
-use Rattle.sl_types.specs.Extents.{Extent, absent, extents_from, counting}
+use Rattle.sl_types.specs.Extents.{Extent, absent, counting}
+use Rattle.sl_types.specs.Sizes.{extents_from}
 use Rattle.sl_types.specs.Inline.{Built, nothing, extents_of, count, count_args, count_stmt, count_stmts, inline, inline_args, inline_stmt, inline_stmts, built_in, built_from}
 use Rattle.sl_types.proofs.Numbered.{Sound, AllSound, nothing_sound, sound_at, extent_at, numbered, numbered_stmts}
 

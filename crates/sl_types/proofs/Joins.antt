@@ -1,7 +1,8 @@
 -- Extents as far as they matter: those of parts are enough.
 use Rattle.std.proofs.Common.{◌≡◌, ◌≤◌, ◌<◌, ◌+◌, ℕ, zero, suc, min, max, nat_lt, ◌&&◌, List, [], ◌∷◌, map, get_or, refl, sym, ap, ap₂, ◌∙◌, arith, inl, inr, ◌⊎◌}
 use Rattle.std.proofs.lemmas.Bool.{cases_lt, lt-ltb, le-ltb}
-use Rattle.sl_types.specs.Extents.{Extent, nowhere, absent, under, beside, cut, fits}
+use Rattle.sl_types.specs.Extents.{Extent, nowhere, absent, under, beside}
+use Rattle.sl_types.specs.Sizes.{cut, fits}
 
 abbrev make : ℕ → ℕ → Extent
 make a b = record { nodes = a; depth = b }

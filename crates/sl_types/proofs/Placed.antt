@@ -12,10 +12,9 @@ use Rattle.sl_types.specs.Inline.{Built, nothing, at, count, count_stmt, count_s
 use Rattle.sl_expressions.specs.TypedView.{typed_of, tstmt_of}
 use Rattle.sl_expressions.specs.declared.typed.TypedExpr.{TypedExpr}
 use Rattle.sl_expressions.specs.declared.typed.TypedStmt.{TypedStmt}
-use Rattle.sl_types.specs.InlineView.{functions}
+use Rattle.sl_types.specs.Placing.{functions, weight_known, weighing}
 use Rattle.sl_expressions.specs.Views.{callee_of, local_of}
 use Rattle.sl_types.specs.Folds.{fold, fold_args, fold_stmt, fold_stmts, fold_body}
-use Rattle.sl_types.specs.Weights.{weight_known, weighing}
 use Rattle.sl_expressions.specs.declared.places.Known.{Known}
 
 abbrev one : Bool → List Built → Callee → Built

@@ -6,7 +6,8 @@ use Rattle.sl_ast.specs.Typed as A
 use Rattle.sl_expressions.specs.Typed.{stmts}
 use Rattle.sl_typing.specs.Functions.{Param, Program}
 use Rattle.sl_types.specs.Folds.{fold_stmts}
-use Rattle.sl_types.specs.Extents.{counting, extent_params, extent_program, fits}
+use Rattle.sl_types.specs.Extents.{counting, extent_params}
+use Rattle.sl_types.specs.Sizes.{extent_program, fits}
 use Rattle.sl_types.specs.Inline.{Built, extents_of, count, count_params, count_stmts, inline, inline_stmts, built_from, defaults_at, tree_of}
 use Rattle.sl_types.specs.Checked.{is_within}
 use Rattle.sl_types.proofs.Numbered.{AllSound, upto, node, join, numbered, numbered_stmts}

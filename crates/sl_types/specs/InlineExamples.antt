@@ -10,8 +10,9 @@ use Rattle.sl_expressions.specs.Typed as T
 use Rattle.sl_expressions.specs.Scope.{Local, Callee}
 use Rattle.sl_typing.specs.Stmts.{one_of}
 use Rattle.sl_types.specs.Folds.{fold, fold_stmt}
-use Rattle.sl_types.specs.Extents.{extents_from, counting}
-use Rattle.sl_types.specs.Weights.{weighing}
+use Rattle.sl_types.specs.Extents.{counting}
+use Rattle.sl_types.specs.Sizes.{extents_from}
+use Rattle.sl_types.specs.Placing.{weighing}
 use Rattle.sl_types.specs.Inline.{Built, at, tree_formal, built_from, inline, inline_stmt}
 
 abbrev formal : Local

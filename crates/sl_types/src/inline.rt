@@ -3,7 +3,7 @@ ghost use Rattle.std.specs.Prelude.{◌≡◌, ◌≤◌, ◌+◌, map, true, If
 ghost use Rattle.sl_ast.specs.Typed as A;
 ghost use Rattle.sl_ast.specs.TypedView.{tree_expr, tree_stmt, default_of, local_of as param_type};
 ghost use Rattle.sl_types.specs.Inline as spec;
-ghost use Rattle.sl_types.specs.InlineView.{functions, Lighter, Puts};
+ghost use Rattle.sl_types.specs.Placing.{functions, Lighter, Puts};
 ghost use Rattle.sl_expressions.specs.Scope.{body_in};
 ghost use Rattle.sl_expressions.specs.Typed as T;
 ghost use Rattle.sl_expressions.specs.TypedView.{typed_of, tlink_of, tstmt_of};

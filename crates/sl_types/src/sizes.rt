@@ -4,12 +4,13 @@ ghost use Rattle.sl_ast.specs.Syntax as U;
 ghost use Rattle.sl_types.specs.Checked.{is_within};
 ghost use Rattle.sl_types.specs.Inline.{tree_of};
 ghost use Rattle.sl_types.specs.Extents as E;
+ghost use Rattle.sl_types.specs.Sizes as S;
 ghost use Rattle.sl_types.specs.Folds.{fold, fold_args, fold_stmt, fold_stmts, fold_body};
 ghost use Rattle.sl_expressions.specs.Scope.{body_in};
 ghost use Rattle.sl_expressions.specs.Typed as T;
 ghost use Rattle.sl_expressions.specs.TypedView.{typed_of, tlink_of, tstmt_of};
 ghost use Rattle.sl_typing.specs.Functions as F;
-ghost use Rattle.sl_types.specs.ExtentView.{extent_of};
+ghost use Rattle.sl_types.specs.Sizes.{extent_of};
 ghost use Rattle.sl_expressions.specs.Views.{body_of, callee_of};
 ghost use Rattle.sl_typing.specs.Views.{param_of, program_of};
 
@@ -31,7 +32,7 @@ const ABSENT: Extent = Extent { nodes: 2, depth: 2 };
 // A node over such parts.
 #[tactic(auto, using(crate::proofs::Joins::over_is))]
 fn over(x: Extent) -> Extent
-    ensures { (y : E.Extent) → extent_of x ≡ E.cut y → extent_of result ≡ E.cut (E.under y) }
+    ensures { (y : E.Extent) → extent_of x ≡ S.cut y → extent_of result ≡ S.cut (E.under y) }
 {
     Extent {
         nodes: 1 + min(x.nodes, 65536),
@@ -42,7 +43,7 @@ fn over(x: Extent) -> Extent
 // Parts beside each other.
 #[tactic(auto, using(crate::proofs::Joins::with_is))]
 fn with(x: Extent, y: Extent) -> Extent
-    ensures { (u v : E.Extent) → extent_of x ≡ E.cut u → extent_of y ≡ E.cut v → extent_of result ≡ E.cut (E.beside u v) }
+    ensures { (u v : E.Extent) → extent_of x ≡ S.cut u → extent_of y ≡ S.cut v → extent_of result ≡ S.cut (E.beside u v) }
 {
     let nodes = x.nodes as u64 + y.nodes as u64;
     Extent {
@@ -53,7 +54,7 @@ fn with(x: Extent, y: Extent) -> Extent
 
 // An operator over two operands.
 fn pair(x: Extent, y: Extent) -> Extent
-    ensures { (u v : E.Extent) → extent_of x ≡ E.cut u → extent_of y ≡ E.cut v → extent_of result ≡ E.cut (E.under (E.beside u (E.beside v E.nowhere))) }
+    ensures { (u v : E.Extent) → extent_of x ≡ S.cut u → extent_of y ≡ S.cut v → extent_of result ≡ S.cut (E.under (E.beside u (E.beside v E.nowhere))) }
 {
     over(with(x, y))
 }
@@ -71,7 +72,7 @@ fn size_of(sizes: &[Extent], k: usize) -> Extent
 #[cycle(size)]
 #[tactic(auto, using(crate::proofs::TypedNodes::apply_shown, crate::proofs::TypedNodes::call_shown, crate::proofs::Chains::chain_shown))]
 fn size(e: &TypedExpr, sizes: &[Extent]) -> Extent
-    ensures { (fs : List E.Extent) → map extent_of sizes.now ≡ map E.cut fs → extent_of result ≡ E.cut (fold E.counting fs (typed_of e.now)) }
+    ensures { (fs : List E.Extent) → map extent_of sizes.now ≡ map S.cut fs → extent_of result ≡ S.cut (fold E.counting fs (typed_of e.now)) }
 {
     match e {
         TypedExpr::Number { .. } => over(NOWHERE),
@@ -96,7 +97,7 @@ fn size(e: &TypedExpr, sizes: &[Extent]) -> Extent
 
 #[cycle(size)]
 fn size_args(args: &[TypedExpr], sizes: &[Extent]) -> Extent
-    ensures { (fs : List E.Extent) → map extent_of sizes.now ≡ map E.cut fs → extent_of result ≡ E.cut (fold_args E.counting fs (T.exprs (map typed_of args.now))) }
+    ensures { (fs : List E.Extent) → map extent_of sizes.now ≡ map S.cut fs → extent_of result ≡ S.cut (fold_args E.counting fs (T.exprs (map typed_of args.now))) }
 {
     let mut before = NOWHERE;
     for e in args {
@@ -108,7 +109,7 @@ fn size_args(args: &[TypedExpr], sizes: &[Extent]) -> Extent
 // Operators behind what is so great.
 #[cycle(size)]
 fn size_links(links: &[TypedLink], sizes: &[Extent], first: Extent) -> Extent
-    ensures { (fs : List E.Extent) (e : T.Expr) → map extent_of sizes.now ≡ map E.cut fs → extent_of first ≡ E.cut (fold E.counting fs e) → extent_of result ≡ E.cut (fold E.counting fs (T.chained e (map tlink_of links.now))) }
+    ensures { (fs : List E.Extent) (e : T.Expr) → map extent_of sizes.now ≡ map S.cut fs → S.IsCutOf first (fold E.counting fs e) → S.IsCutOf result (fold E.counting fs (T.chained e (map tlink_of links.now))) }
 {
     let mut before = first;
     for link in links {
@@ -120,7 +121,7 @@ fn size_links(links: &[TypedLink], sizes: &[Extent], first: Extent) -> Extent
 #[cycle(size_stmt)]
 #[tactic(auto, using(crate::proofs::TypedNodes::block_shown, crate::proofs::TypedNodes::group_shown, crate::proofs::TypedNodes::for_shown))]
 fn size_stmt(s: &TypedStmt, sizes: &[Extent]) -> Extent
-    ensures { (fs : List E.Extent) → map extent_of sizes.now ≡ map E.cut fs → extent_of result ≡ E.cut (fold_stmt E.counting fs (tstmt_of s.now)) }
+    ensures { (fs : List E.Extent) → map extent_of sizes.now ≡ map S.cut fs → extent_of result ≡ S.cut (fold_stmt E.counting fs (tstmt_of s.now)) }
 {
     match s {
         TypedStmt::Empty { .. } => over(NOWHERE),
@@ -164,7 +165,7 @@ fn size_stmt(s: &TypedStmt, sizes: &[Extent]) -> Extent
 
 #[cycle(size_stmt)]
 fn size_stmts(body: &[TypedStmt], sizes: &[Extent]) -> Extent
-    ensures { (fs : List E.Extent) → map extent_of sizes.now ≡ map E.cut fs → extent_of result ≡ E.cut (fold_stmts E.counting fs (T.stmts (map tstmt_of body.now))) }
+    ensures { (fs : List E.Extent) → map extent_of sizes.now ≡ map S.cut fs → extent_of result ≡ S.cut (fold_stmts E.counting fs (T.stmts (map tstmt_of body.now))) }
 {
     let mut before = NOWHERE;
     for s in body {
@@ -174,7 +175,7 @@ fn size_stmts(body: &[TypedStmt], sizes: &[Extent]) -> Extent
 }
 
 fn size_body(body: &Result<Body, Faulty>, sizes: &[Extent]) -> Extent
-    ensures { (fs : List E.Extent) → map extent_of sizes.now ≡ map E.cut fs → extent_of result ≡ E.cut (fold_body E.counting fs (body_of body.now)) }
+    ensures { (fs : List E.Extent) → map extent_of sizes.now ≡ map S.cut fs → extent_of result ≡ S.cut (fold_body E.counting fs (body_of body.now)) }
 {
     match body {
         Ok(body) => with(
@@ -186,7 +187,7 @@ fn size_body(body: &Result<Body, Faulty>, sizes: &[Extent]) -> Extent
 }
 
 fn size_known(by_default: bool, known: &Known<'_>, sizes: &[Extent]) -> Extent
-    ensures { (fs : List E.Extent) → map extent_of sizes.now ≡ map E.cut fs → extent_of result ≡ E.cut (fold_body E.counting fs (body_in by_default (callee_of known.now))) }
+    ensures { (fs : List E.Extent) → map extent_of sizes.now ≡ map S.cut fs → extent_of result ≡ S.cut (fold_body E.counting fs (body_in by_default (callee_of known.now))) }
 {
     if by_default {
         size_body(&known.by_default, sizes)
@@ -201,7 +202,7 @@ fn sizes_from(
     by_default: bool,
     known: &[Known<'_>],
 ) -> Result<Vec<Extent>, AllocError>
-    ensures { IfOk result (λ v. map extent_of v.items ≡ map E.cut (E.extents_from by_default [] (map callee_of known.now))) }
+    ensures { IfOk result (λ v. map extent_of v.items ≡ map S.cut (S.extents_from by_default [] (map callee_of known.now))) }
 {
     let mut sizes = Vec::new(alloc);
     for one in known {
@@ -212,7 +213,7 @@ fn sizes_from(
 }
 
 fn size_params(params: &[Param<'_>], sizes: &[Extent]) -> Extent
-    ensures { (fs : List E.Extent) → map extent_of sizes.now ≡ map E.cut fs → extent_of result ≡ E.cut (E.extent_params fs (map param_of params.now)) }
+    ensures { (fs : List E.Extent) → map extent_of sizes.now ≡ map S.cut fs → extent_of result ≡ S.cut (E.extent_params fs (map param_of params.now)) }
 {
     let mut before = NOWHERE;
     for one in params {
@@ -223,7 +224,7 @@ fn size_params(params: &[Param<'_>], sizes: &[Extent]) -> Extent
 
 // The size of the whole tree: the shader's node, its parameters and its body.
 fn size_program(alloc: Global, program: &Program<'_>) -> Result<Extent, AllocError>
-    ensures { IfOk result (λ x. extent_of x ≡ E.cut (E.extent_program (program_of program.now))) }
+    ensures { IfOk result (λ x. extent_of x ≡ S.cut (S.extent_program (program_of program.now))) }
 {
     let by_default = sizes_from(alloc, true, program.known.as_slice())?;
     let sizes = sizes_from(alloc, false, program.known.as_slice())?;
@@ -233,7 +234,7 @@ fn size_program(alloc: Global, program: &Program<'_>) -> Result<Extent, AllocErr
 }
 
 fn fits(x: Extent) -> bool
-    ensures { result ≡ E.fits (extent_of x) }
+    ensures { result ≡ S.fits (extent_of x) }
 {
     x.nodes < 65537 && x.depth < 257
 }

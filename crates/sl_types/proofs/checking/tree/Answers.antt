@@ -3,7 +3,7 @@ use Rattle.sl_ast.specs.ShaderView.{shader_of}
 use Rattle.sl_ast.specs.Typed as A
 use Rattle.sl_ast.specs.WellTyped.{well_typed}
 use Rattle.sl_types.specs.Inline.{count_params, count_stmts, declared_of, defaults_at, inline_stmts, tree_of}
-use Rattle.sl_types.specs.InlineView.{functions}
+use Rattle.sl_types.specs.Placing.{functions}
 use Rattle.sl_expressions.specs.Typed as T
 use Rattle.sl_expressions.specs.TypedView.{tstmt_of}
 use Rattle.sl_typing.specs.Views.{param_of, program_of}

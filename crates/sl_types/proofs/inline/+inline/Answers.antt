@@ -5,10 +5,9 @@ use Rattle.sl_ast.specs.TypedView.{tree_expr, tree_stmt}
 use Rattle.sl_types.specs.Folds.{fold, fold_args, fold_stmt, fold_stmts}
 use Rattle.sl_types.specs.Extents.{absent}
 use Rattle.sl_types.specs.Inline.{Built, nothing, extents_of, count, count_args, count_stmt, count_stmts, inline, inline_args, inline_stmt, inline_stmts}
-use Rattle.sl_types.specs.InlineView.{functions}
+use Rattle.sl_types.specs.Placing.{functions, weighing}
 use Rattle.sl_expressions.specs.Typed as T
 use Rattle.sl_expressions.specs.TypedView.{typed_of, tlink_of, tstmt_of}
-use Rattle.sl_types.specs.Weights.{weighing}
 use Rattle.sl_types.proofs.Chains.{chain_shown, count_links, tree_links, links_counted, links_weighed, links_inlined, links_split, links_end, light_link, pair_tree, call_tree, on_ok}
 use Rattle.sl_types.proofs.Numbered.{extent_at}
 use Rattle.sl_types.proofs.Placed.{light_arg, light_stmt, args_before, stmts_before, args_alone, stmts_alone, args_split, stmts_split, args_end, stmts_end, args_step, stmts_step, for_tree}

@@ -1,12 +1,11 @@
 use Rattle.std.proofs.Common.{◌≡◌, ◌+◌, [], drop, length, map}
 use Rattle.sl_ast.specs.TypedView.{tree_expr, tree_stmt}
 use Rattle.sl_types.specs.Inline.{count, count_args, count_stmts, inline, inline_args, inline_stmts}
-use Rattle.sl_types.specs.InlineView.{functions}
+use Rattle.sl_types.specs.Placing.{functions, weight_known, weighing}
 use Rattle.sl_expressions.specs.Typed as T
 use Rattle.sl_expressions.specs.TypedView.{typed_of, tlink_of, tstmt_of}
 use Rattle.sl_expressions.specs.Views.{callee_of}
 use Rattle.sl_types.specs.Folds.{fold, fold_args, fold_stmt, fold_stmts}
-use Rattle.sl_types.specs.Weights.{weight_known, weighing}
 use Rattle.sl_types.proofs.Chains.{count_links, tree_links}
 use Rattle.sl_types.proofs.Placed.{args_before, stmts_before}
 use Rattle.sl_types.proofs.inline.+inline.Given as goal

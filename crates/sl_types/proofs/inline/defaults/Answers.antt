@@ -2,7 +2,7 @@ use Rattle.std.proofs.Common.{rules, ◌++◌, true, map, arith, ◌∙◌}
 use Rattle.std.proofs.lemmas.List.{at_drop_all}
 use Rattle.sl_ast.specs.TypedView.{default_of}
 use Rattle.sl_types.specs.Inline.{count_params, defaults_at}
-use Rattle.sl_types.specs.InlineView.{functions}
+use Rattle.sl_types.specs.Placing.{functions}
 use Rattle.sl_typing.specs.Views.{param_of}
 use Rattle.sl_types.proofs.Defaulted.{default_step, params_split}
 use Rattle.sl_types.proofs.inline.defaults.Goals as goal

@@ -1,7 +1,7 @@
 use Rattle.std.proofs.Common.{◌≡◌, ◌+◌, ◌++◌, true, drop, map}
 use Rattle.sl_ast.specs.TypedView.{default_of}
 use Rattle.sl_types.specs.Inline.{count_params, defaults_at}
-use Rattle.sl_types.specs.InlineView.{functions}
+use Rattle.sl_types.specs.Placing.{functions}
 use Rattle.sl_typing.specs.Views.{param_of}
 use Rattle.sl_types.proofs.inline.defaults.Given as goal
 

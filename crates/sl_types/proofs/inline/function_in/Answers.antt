@@ -1,6 +1,6 @@
 use Rattle.std.proofs.Common.{Ok, map, take, ap, sym, ◌∙◌, arith}
 use Rattle.sl_types.specs.Inline.{built_in}
-use Rattle.sl_types.specs.InlineView.{functions}
+use Rattle.sl_types.specs.Placing.{functions}
 use Rattle.sl_expressions.specs.Scope.{body_in}
 use Rattle.sl_expressions.specs.Views.{body_of, callee_of, local_of, stmts_of}
 use Rattle.sl_types.proofs.Placed.{function_at, lighter_at}

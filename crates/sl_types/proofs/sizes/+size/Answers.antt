@@ -1,10 +1,10 @@
 use Rattle.std.proofs.Common.{◌+◌, [], ◌∷◌, ◌++◌, drop, take, map, get_or, refl, arith, ap, sym, ◌∙◌}
 use Rattle.std.proofs.lemmas.List.{at_drop_more, take_more}
 use Rattle.sl_types.specs.Folds.{fold, fold_args}
-use Rattle.sl_types.specs.Extents.{nowhere, absent, beside, cut, counting}
+use Rattle.sl_types.specs.Extents.{nowhere, absent, beside, counting}
+use Rattle.sl_types.specs.Sizes.{cut, extent_of}
 use Rattle.sl_expressions.specs.Typed as T
 use Rattle.sl_expressions.specs.TypedView.{typed_of, tlink_of}
-use Rattle.sl_types.specs.ExtentView.{extent_of}
 use Rattle.sl_types.proofs.Chains.{chain_shown}
 use Rattle.sl_expressions.proofs.Chains.{grown_chain}
 use Rattle.sl_types.proofs.Joins.{at_cut, cut_twice, joined}

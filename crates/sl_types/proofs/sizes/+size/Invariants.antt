@@ -1,9 +1,9 @@
 use Rattle.std.proofs.Common.{◌≡◌, List, drop, take, map}
 use Rattle.sl_types.specs.Folds.{fold, fold_args}
-use Rattle.sl_types.specs.Extents.{Extent, cut, beside, counting}
+use Rattle.sl_types.specs.Extents.{Extent, beside, counting}
+use Rattle.sl_types.specs.Sizes.{cut, extent_of}
 use Rattle.sl_expressions.specs.Typed as T
 use Rattle.sl_expressions.specs.TypedView.{typed_of, tlink_of}
-use Rattle.sl_types.specs.ExtentView.{extent_of}
 use Rattle.sl_types.proofs.sizes.+size.Given as goal
 
 abbrev pub invariant-size_args-loop-e : goal.invariant-size_args-loop-e

@@ -1,10 +1,10 @@
 use Rattle.std.proofs.Common.{◌+◌, drop, map, refl, arith, ap, sym, ◌∙◌}
 use Rattle.std.proofs.lemmas.List.{at_drop_more}
 use Rattle.sl_types.specs.Folds.{fold, fold_args, fold_stmt, fold_stmts}
-use Rattle.sl_types.specs.Extents.{nowhere, beside, cut, counting}
+use Rattle.sl_types.specs.Extents.{nowhere, beside, counting}
+use Rattle.sl_types.specs.Sizes.{cut, extent_of}
 use Rattle.sl_expressions.specs.Typed as T
 use Rattle.sl_expressions.specs.TypedView.{typed_of, tstmt_of}
-use Rattle.sl_types.specs.ExtentView.{extent_of}
 use Rattle.sl_types.proofs.Joins.{cut_twice, joined}
 use Rattle.sl_types.proofs.TypedNodes.{for_shown}
 use Rattle.sl_types.proofs.sizes.+size_stmt.Goals as goal

@@ -1,9 +1,9 @@
 use Rattle.std.proofs.Common.{◌≡◌, List, drop, map}
 use Rattle.sl_types.specs.Folds.{fold_stmts}
-use Rattle.sl_types.specs.Extents.{Extent, cut, beside, counting}
+use Rattle.sl_types.specs.Extents.{Extent, beside, counting}
+use Rattle.sl_types.specs.Sizes.{cut, extent_of}
 use Rattle.sl_expressions.specs.Typed as T
 use Rattle.sl_expressions.specs.TypedView.{tstmt_of}
-use Rattle.sl_types.specs.ExtentView.{extent_of}
 use Rattle.sl_types.proofs.sizes.+size_stmt.Given as goal
 
 abbrev pub invariant-size_stmts-loop-s : goal.invariant-size_stmts-loop-s

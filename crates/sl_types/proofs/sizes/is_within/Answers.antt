@@ -1,5 +1,5 @@
 use Rattle.std.proofs.Common.{ap, ◌∙◌}
-use Rattle.sl_types.specs.Extents.{extent_program, fits}
+use Rattle.sl_types.specs.Sizes.{extent_program, fits}
 use Rattle.sl_typing.specs.Views.{program_of}
 use Rattle.sl_types.proofs.Joins.{fits_cut}
 use Rattle.sl_types.proofs.Whole.{within_is}

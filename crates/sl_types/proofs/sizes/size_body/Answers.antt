@@ -1,6 +1,7 @@
 use Rattle.std.proofs.Common.{map, ap, sym, ◌∙◌}
 use Rattle.sl_types.specs.Folds.{fold, fold_stmts, fold_body}
-use Rattle.sl_types.specs.Extents.{under, cut, counting}
+use Rattle.sl_types.specs.Extents.{under, counting}
+use Rattle.sl_types.specs.Sizes.{cut}
 use Rattle.sl_expressions.specs.Typed as T
 use Rattle.sl_expressions.specs.TypedView.{typed_of, tstmt_of}
 use Rattle.sl_expressions.specs.Views.{body_of}

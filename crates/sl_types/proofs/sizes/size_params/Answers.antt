@@ -1,9 +1,9 @@
 use Rattle.std.proofs.Common.{◌+◌, drop, map, arith, ap, sym, ◌∙◌}
 use Rattle.std.proofs.lemmas.List.{at_drop_more}
 use Rattle.sl_types.specs.Folds.{fold}
-use Rattle.sl_types.specs.Extents.{under, beside, cut, extent_params, counting}
+use Rattle.sl_types.specs.Extents.{under, beside, extent_params, counting}
+use Rattle.sl_types.specs.Sizes.{cut, extent_of}
 use Rattle.sl_expressions.specs.TypedView.{typed_of}
-use Rattle.sl_types.specs.ExtentView.{extent_of}
 use Rattle.sl_typing.specs.Views.{param_of}
 use Rattle.sl_types.proofs.Joins.{cut_twice, joined}
 use Rattle.sl_types.proofs.sizes.size_params.Goals as goal

@@ -1,6 +1,6 @@
 use Rattle.std.proofs.Common.{◌≡◌, List, drop, map}
-use Rattle.sl_types.specs.Extents.{Extent, cut, beside, extent_params}
-use Rattle.sl_types.specs.ExtentView.{extent_of}
+use Rattle.sl_types.specs.Extents.{Extent, beside, extent_params}
+use Rattle.sl_types.specs.Sizes.{cut, extent_of}
 use Rattle.sl_typing.specs.Views.{param_of}
 use Rattle.sl_types.proofs.sizes.size_params.Given as goal
 

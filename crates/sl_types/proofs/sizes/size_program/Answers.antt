@@ -1,9 +1,9 @@
 use Rattle.std.proofs.Common.{[], true, false, map, ap, ◌∙◌}
 use Rattle.sl_types.specs.Folds.{fold_stmts}
-use Rattle.sl_types.specs.Extents.{beside, cut, counting, extent_params, extents_from}
+use Rattle.sl_types.specs.Extents.{beside, counting, extent_params}
+use Rattle.sl_types.specs.Sizes.{cut, extents_from, extent_of}
 use Rattle.sl_expressions.specs.Typed as T
 use Rattle.sl_expressions.specs.TypedView.{tstmt_of}
-use Rattle.sl_types.specs.ExtentView.{extent_of}
 use Rattle.sl_expressions.specs.Views.{callee_of}
 use Rattle.sl_typing.specs.Views.{param_of, program_of}
 use Rattle.sl_types.proofs.sizes.size_program.Goals as goal

@@ -1,7 +1,7 @@
 use Rattle.std.proofs.Common.{◌+◌, [], ◌∷◌, ◌++◌, drop, map, arith, ap, ap₂, sym, ◌∙◌}
 use Rattle.std.proofs.lemmas.List.{at_drop_more, map-append}
-use Rattle.sl_types.specs.Extents.{counting, cut, extents_from}
-use Rattle.sl_types.specs.ExtentView.{extent_of}
+use Rattle.sl_types.specs.Extents.{counting}
+use Rattle.sl_types.specs.Sizes.{cut, extents_from, extent_of}
 use Rattle.sl_types.specs.Folds.{fold_body}
 use Rattle.sl_expressions.specs.Scope.{body_in}
 use Rattle.sl_expressions.specs.Views.{callee_of}

@@ -1,6 +1,6 @@
 use Rattle.std.proofs.Common.{◌≡◌, List, [], drop, map}
-use Rattle.sl_types.specs.Extents.{Extent, cut, extents_from}
-use Rattle.sl_types.specs.ExtentView.{extent_of}
+use Rattle.sl_types.specs.Extents.{Extent}
+use Rattle.sl_types.specs.Sizes.{cut, extents_from, extent_of}
 use Rattle.sl_expressions.specs.Views.{callee_of}
 use Rattle.sl_types.proofs.sizes.sizes_from.Given as goal
 

@@ -1,12 +1,21 @@
--- The functions of the code as calls put them in place.
-use Rattle.std.specs.Prelude.{◌≡◌, ◌≤◌, ◌+◌, ℕ, Bool, List, [], map, get_or, Option, Some, None, Ok}
+-- What the code keeps as it puts functions in place: no part of the tree's definition. A call's function has only those before it, so what
+-- functions do weighs less at each step.
+use Rattle.std.specs.Prelude.{◌≡◌, ◌≤◌, ◌+◌, ℕ, Bool, List, [], ◌∷◌, map, get_or, Option, Some, None, Ok}
 use Rattle.sl_types.specs.Inline.{Built, nothing, built_in, built_from}
+use Rattle.sl_expressions.specs.Scope.{Callee, body_in}
 use Rattle.sl_expressions.specs.Views.{callee_of, local_of, stmts_of}
-use Rattle.sl_types.specs.Folds.{fold_body}
-use Rattle.sl_types.specs.Weights.{weight_known, weighing}
+use Rattle.sl_types.specs.Folds.{Fold, fold_body}
 use Rattle.sl_expressions.specs.declared.places.Known.{Known}
 use Rattle.sl_types.specs.declared.inline.Inside.{Inside}
 
+abbrev pub weighing : Fold ℕ
+weighing = record { nothing = 1; under = λ n. 1 + n; beside = λ n m. 1 + (n + m); absent = 0 }
+
+abbrev pub weight_known : Bool → List Callee → ℕ
+weight_known default [] = 0
+weight_known default (c ∷ cs) = fold_body weighing [] (body_in default c) + weight_known default cs
+
+-- the functions of the code as calls put them in place
 abbrev pub functions : Bool → List Known → List Built
 functions by_default known = built_from by_default [] (map callee_of known)
 
