@@ -1,19 +1,17 @@
 use Rattle.std.proofs.Common.{[], sym, subst}
-use Rattle.scene.specs.Scene.{IsSomeUse}
 use Rattle.scene.specs.declared.uses.ShaderKind.TheVariants as requested
 use Rattle.displace_shade.specs.Diced.{Hold}
 use Rattle.displace_shade.specs.Shaded.{lights_from, shaded_by, displaced}
 use Rattle.shader_binding.specs.Sets.{bound_at, bound_for}
-use Rattle.shader_binding.specs.Bindings.{FitSomeVariables}
 use Rattle.displace_shade.specs.Shop.{set_value}
+use Rattle.displace_shade.specs.Stages.{ServesIf}
 use Rattle.displace_shade.proofs.Stages.{grid_result}
-use Rattle.displace_shade.proofs.leaves.grid_behind_surface.Goals as goal
+use Rattle.displace_shade.proofs.leaves.grid_behind.Goals as goal
 
-pub dimmed-requires-clause-use_of : goal.dimmed-requires-clause-use_of
-dimmed-requires-clause-use_of c = subst (λ n. IsSomeUse c.args.shaders.now.uses.now requested.Volume n) (sym c.atmosphere.ensures) c.requires.uses.atmosphere
-
-pub dimmed-requires-clause-variables : goal.dimmed-requires-clause-variables
-dimmed-requires-clause-variables c = subst (λ n. FitSomeVariables (set_value c.args.shaders.now.set.now) c.args.shaders.now.uses.now n c.args.leaf.now.prim.vars) (sym c.atmosphere.ensures) c.requires.variables.atmosphere
+pub dimmed-requires-clause-serves : goal.dimmed-requires-clause-serves
+dimmed-requires-clause-serves c =
+    let h = c.requires.serves in
+    subst (ServesIf c.args.shaders.now c.args.leaf.now requested.Volume) (sym c.atmosphere.ensures) record { fits = h.fits; use_of = h.uses.atmosphere; variables = h.variables.atmosphere }
 
 pub grid_of-requires-clause-points : goal.grid_of-requires-clause-points
 grid_of-requires-clause-points c = c.in_ok-last.ensures.sized.points
