@@ -10,8 +10,8 @@ use Rattle.acceptance.specs.declared.read.ReadShader.{ReadShader}
 use Rattle.acceptance.specs.declared.shaders.UsedShaders.{UsedShaders}
 use Rattle.acceptance.specs.Causes.{Cause, first_of}
 use Rattle.acceptance.specs.Shaders.{shader_tree}
-use Rattle.acceptance.specs.RequestBindings.{binding_fault, cause_at}
-use Rattle.acceptance.specs.Bindings.{use_refused}
+use Rattle.acceptance.specs.RequestFit.{binding_fault, cause_at}
+use Rattle.acceptance.specs.UseFit.{use_refused}
 use Rattle.acceptance.specs.Reading.{IsReadOf, ArePlaced, named_use, name_of}
 use Rattle.acceptance.specs.Answers.{Because, Clears}
 use Rattle.acceptance.proofs.Firsts.{first_next, first_here}

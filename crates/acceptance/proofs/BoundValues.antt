@@ -20,8 +20,8 @@ use Rattle.builtins.specs.declared.shape.Shape.TheVariants as shapes
 use Rattle.sl_meaning.specs.Defaults.{no_local}
 use Rattle.fixed_math.specs.Names.{last_place}
 use Rattle.shader_binding.specs.Sets.{is_of_kind, AreValuesOf, FitsUse}
-use Rattle.acceptance.specs.RequestBindings.{param_name, binding_fault, is_undeclared, is_misfit}
-use Rattle.acceptance.specs.declared.code.Code.TheVariants.{B1, B2, B3}
+use Rattle.acceptance.specs.RequestFit.{param_name, binding_fault, is_undeclared, is_misfit}
+use Rattle.acceptance.specs.declared.code.FaultCode.TheVariants.{B1, B2, B3}
 use Rattle.acceptance.specs.Bound.{given_value, given_or, default_in, param_at, bound_value, bound_values}
 
 -- ---- the last of a name

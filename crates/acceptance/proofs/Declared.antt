@@ -9,8 +9,8 @@ use Rattle.scene.specs.Scene.{VariableValue}
 use Rattle.sl_ast.specs.Typed.{Local}
 use Rattle.sl_types.specs.Distinct.{are_distinct}
 use Rattle.sl_types.proofs.Distinct.{distinct_parts}
-use Rattle.acceptance.specs.RequestBindings.{is_of_type, local_name}
-use Rattle.acceptance.specs.PrimBindings.{is_unfit}
+use Rattle.acceptance.specs.RequestFit.{is_of_type, local_name}
+use Rattle.acceptance.specs.PrimFit.{is_unfit}
 use Rattle.acceptance.proofs.Names.{same_name}
 
 abbrev place_in : List ℕ → List Local → Option ℕ

@@ -10,7 +10,7 @@ use Rattle.outside.specs.declared.library.Fetch.{Fetch}
 use Rattle.outside.specs.declared.library.Fetch.TheVariants.{Whole, Missing, TooLong}
 use Rattle.acceptance.specs.declared.refusal.Refusal.{Refusal}
 use Rattle.acceptance.specs.declared.refusal.FileId.TheVariants.{Shader}
-use Rattle.acceptance.specs.declared.code.Code.TheVariants.{M10}
+use Rattle.acceptance.specs.declared.code.FaultCode.TheVariants.{M10}
 use Rattle.acceptance.specs.Causes.{At, cause_in}
 use Rattle.acceptance.specs.Shaders.{text_with, tree_of_parsed, tree_of_text, most_shader_bytes, file_of, shader_tree}
 use Rattle.sl_parser.specs.Files.{parsed}

@@ -16,8 +16,8 @@ use Rattle.shader_binding.specs.Sets.{SetValue, FitUses, Fits, Bound, bound_with
 use Rattle.shader_binding.specs.Predefined.{sets_predefined}
 use Rattle.shader_binding.specs.Bindings.{kind_of, Binds, FitVariables, FitUseVariables, FitSomeVariables, FitsPrim}
 use Rattle.acceptance.specs.Causes.{Cause}
-use Rattle.acceptance.specs.RequestBindings.{is_of_type}
-use Rattle.acceptance.specs.PrimBindings.{FitPrims, is_unfit, binds_unfit, tree_at, unfit_for, unfit_at, is_unfit_prim, prim_refused, frame_refused, prims_refused}
+use Rattle.acceptance.specs.RequestFit.{is_of_type}
+use Rattle.acceptance.specs.PrimFit.{FitPrims, is_unfit, binds_unfit, tree_at, unfit_for, unfit_at, is_unfit_prim, prim_refused, frame_refused, prims_refused}
 use Rattle.acceptance.proofs.Names.{same_name, itself}
 use Rattle.acceptance.proofs.SetSame.{or_false}
 use Rattle.acceptance.proofs.Firsts.{none_of}

@@ -9,8 +9,8 @@ use Rattle.acceptance.specs.declared.refusal.Refusal.TheVariants.{Missing, At, R
 use Rattle.acceptance.specs.declared.read.ReadShader.{ReadShader}
 use Rattle.acceptance.specs.Causes.{Cause, Reads, unless, cause_in}
 use Rattle.acceptance.specs.Shaders.{shader_names, shaders_refused, shaders_asked}
-use Rattle.acceptance.specs.Bindings.{uses_refused}
-use Rattle.acceptance.specs.PrimBindings.{frames_refused, prims_refused}
+use Rattle.acceptance.specs.UseFit.{uses_refused}
+use Rattle.acceptance.specs.PrimFit.{frames_refused, prims_refused}
 use Rattle.acceptance.specs.Accepting.{scene_of_text, accepted, accepted_scene, bound_scene, asked_for_scene}
 use Rattle.acceptance.specs.declared.accepted_scene.AcceptedScene.{AcceptedScene}
 use Rattle.acceptance.specs.declared.shaders.UsedShaders.{UsedShaders}

@@ -10,8 +10,8 @@ use Rattle.acceptance.specs.declared.refusal.FileId.TheVariants.{Scene}
 use Rattle.acceptance.specs.Causes.{At, Reads, unless}
 use Rattle.acceptance.specs.Codes.{of_lex, of_request, of_state}
 use Rattle.acceptance.specs.Shaders.{shader_names, shaders_refused, shaders_asked}
-use Rattle.acceptance.specs.Bindings.{uses_refused}
-use Rattle.acceptance.specs.PrimBindings.{prims_refused}
+use Rattle.acceptance.specs.UseFit.{uses_refused}
+use Rattle.acceptance.specs.PrimFit.{prims_refused}
 use Rattle.acceptance.specs.Set.{set_of, accepted_with}
 use Rattle.shader_binding.specs.Sets.{AcceptedValue}
 

@@ -1,12 +1,12 @@
 -- Why a command is refused.
 use Rattle.std.specs.Prelude.{ℕ, List, [], ◌∷◌, Option, Some, None, Result, Ok, Err}
-use Rattle.acceptance.specs.declared.code.Code.{Code}
+use Rattle.acceptance.specs.declared.code.FaultCode.{FaultCode}
 use Rattle.acceptance.specs.declared.refusal.FileId.{FileId}
 
 -- a file that isn't there, or a code at a line of the scene or of a shader
 pub data Cause : Type 0 where
   Missing : (file : List ℕ) → Cause
-  At : (file : FileId) → (line : ℕ) → (code : Code) → Cause
+  At : (file : FileId) → (line : ℕ) → (code : FaultCode) → Cause
 
 -- what is read, or why it is refused
 abbrev pub Reads : Type 0 → Type 0

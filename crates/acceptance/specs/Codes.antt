@@ -10,59 +10,59 @@ use Rattle.sl_expression_grammar.specs.declared.fault.SlCode.{SlCode}
 use Rattle.sl_expression_grammar.specs.declared.fault.SlCode.TheVariants as grammar
 use Rattle.sl_expressions.specs.declared.faults.TypeCode.{TypeCode}
 use Rattle.sl_expressions.specs.declared.faults.TypeCode.TheVariants as types
-use Rattle.acceptance.specs.declared.code.Code.{Code}
-use Rattle.acceptance.specs.declared.code.Code.TheVariants.{L1, L2, L3, L4, S1, S2, S3, S4, S5, N1, N2, N3, N4, N5, P1, P2, P3, T1, T2, T3, T4, T5, T6, T7, T8, T9, T10, T11, B1, B2, B3, G1, G2, G3, G4, G5, M1, M2, M3, M4, M5, M6, M7, M8, M9, M10}
+use Rattle.acceptance.specs.declared.code.FaultCode.{FaultCode}
+use Rattle.acceptance.specs.declared.code.FaultCode.TheVariants.{L1, L2, L3, L4, S1, S2, S3, S4, S5, N1, N2, N3, N4, N5, P1, P2, P3, T1, T2, T3, T4, T5, T6, T7, T8, T9, T10, T11, B1, B2, B3, G1, G2, G3, G4, G5, M1, M2, M3, M4, M5, M6, M7, M8, M9, M10}
 
-abbrev pub text_of : Code → List ℕ
-text_of L1 = codes "L1"
-text_of L2 = codes "L2"
-text_of L3 = codes "L3"
-text_of L4 = codes "L4"
-text_of S1 = codes "S1"
-text_of S2 = codes "S2"
-text_of S3 = codes "S3"
-text_of S4 = codes "S4"
-text_of S5 = codes "S5"
-text_of N1 = codes "N1"
-text_of N2 = codes "N2"
-text_of N3 = codes "N3"
-text_of N4 = codes "N4"
-text_of N5 = codes "N5"
-text_of P1 = codes "P1"
-text_of P2 = codes "P2"
-text_of P3 = codes "P3"
-text_of T1 = codes "T1"
-text_of T2 = codes "T2"
-text_of T3 = codes "T3"
-text_of T4 = codes "T4"
-text_of T5 = codes "T5"
-text_of T6 = codes "T6"
-text_of T7 = codes "T7"
-text_of T8 = codes "T8"
-text_of T9 = codes "T9"
-text_of T10 = codes "T10"
-text_of T11 = codes "T11"
-text_of B1 = codes "B1"
-text_of B2 = codes "B2"
-text_of B3 = codes "B3"
-text_of G1 = codes "G1"
-text_of G2 = codes "G2"
-text_of G3 = codes "G3"
-text_of G4 = codes "G4"
-text_of G5 = codes "G5"
-text_of M1 = codes "M1"
-text_of M2 = codes "M2"
-text_of M3 = codes "M3"
-text_of M4 = codes "M4"
-text_of M5 = codes "M5"
-text_of M6 = codes "M6"
-text_of M7 = codes "M7"
-text_of M8 = codes "M8"
-text_of M9 = codes "M9"
-text_of M10 = codes "M10"
+abbrev pub code_text : FaultCode → List ℕ
+code_text L1 = codes "L1"
+code_text L2 = codes "L2"
+code_text L3 = codes "L3"
+code_text L4 = codes "L4"
+code_text S1 = codes "S1"
+code_text S2 = codes "S2"
+code_text S3 = codes "S3"
+code_text S4 = codes "S4"
+code_text S5 = codes "S5"
+code_text N1 = codes "N1"
+code_text N2 = codes "N2"
+code_text N3 = codes "N3"
+code_text N4 = codes "N4"
+code_text N5 = codes "N5"
+code_text P1 = codes "P1"
+code_text P2 = codes "P2"
+code_text P3 = codes "P3"
+code_text T1 = codes "T1"
+code_text T2 = codes "T2"
+code_text T3 = codes "T3"
+code_text T4 = codes "T4"
+code_text T5 = codes "T5"
+code_text T6 = codes "T6"
+code_text T7 = codes "T7"
+code_text T8 = codes "T8"
+code_text T9 = codes "T9"
+code_text T10 = codes "T10"
+code_text T11 = codes "T11"
+code_text B1 = codes "B1"
+code_text B2 = codes "B2"
+code_text B3 = codes "B3"
+code_text G1 = codes "G1"
+code_text G2 = codes "G2"
+code_text G3 = codes "G3"
+code_text G4 = codes "G4"
+code_text G5 = codes "G5"
+code_text M1 = codes "M1"
+code_text M2 = codes "M2"
+code_text M3 = codes "M3"
+code_text M4 = codes "M4"
+code_text M5 = codes "M5"
+code_text M6 = codes "M6"
+code_text M7 = codes "M7"
+code_text M8 = codes "M8"
+code_text M9 = codes "M9"
+code_text M10 = codes "M10"
 
 -- 3 for syntax, nesting and what isn't built yet, 4 for types and bindings, and 5 for geometry and limits
-abbrev pub status_of_code : Code → ℕ
+abbrev pub status_of_code : FaultCode → ℕ
 status_of_code L1 = 3
 status_of_code L2 = 3
 status_of_code L3 = 3
@@ -110,20 +110,20 @@ status_of_code M8 = 5
 status_of_code M9 = 5
 status_of_code M10 = 5
 
-abbrev pub of_lex : LexCode → Code
+abbrev pub of_lex : LexCode → FaultCode
 of_lex lex.L1 = L1
 of_lex lex.L2 = L2
 of_lex lex.L3 = L3
 of_lex lex.L4 = L4
 
-abbrev pub of_request : RibCode → Code
+abbrev pub of_request : RibCode → FaultCode
 of_request rib.S1 = S1
 of_request rib.S2 = S2
 of_request rib.S3 = S3
 of_request rib.S4 = S4
 of_request rib.S5 = S5
 
-abbrev pub of_state : StateCode → Code
+abbrev pub of_state : StateCode → FaultCode
 of_state state.N1 = N1
 of_state state.N2 = N2
 of_state state.N3 = N3
@@ -142,12 +142,12 @@ of_state state.M5 = M5
 of_state state.M6 = M6
 of_state state.M7 = M7
 
-abbrev pub of_syntax : SlCode → Code
+abbrev pub of_syntax : SlCode → FaultCode
 of_syntax grammar.P1 = P1
 of_syntax grammar.P2 = P2
 of_syntax grammar.P3 = P3
 
-abbrev pub of_type : TypeCode → Code
+abbrev pub of_type : TypeCode → FaultCode
 of_type types.T1 = T1
 of_type types.T2 = T2
 of_type types.T3 = T3

@@ -1,11 +1,11 @@
 pub mod Codes
 pub mod Causes
-pub mod RequestBindings
+pub mod RequestFit
 pub mod Bound
 pub mod Answers
 pub mod Shaders
-pub mod Bindings
-pub mod PrimBindings
+pub mod UseFit
+pub mod PrimFit
 pub mod Set
 pub mod Accepting
 pub mod Reading

@@ -15,7 +15,7 @@ use Rattle.acceptance.specs.declared.shaders.UsedShaders.{UsedShaders}
 use Rattle.acceptance.specs.declared.accepted_scene.AcceptedScene.{AcceptedScene}
 use Rattle.acceptance.specs.Causes.{cause_in}
 use Rattle.acceptance.specs.Shaders.{file_of, text_with, tree_of_text, shader_tree, shaders_refused}
-use Rattle.acceptance.specs.RequestBindings.{declared_names}
+use Rattle.acceptance.specs.RequestFit.{declared_names}
 use Rattle.acceptance.specs.Bound.{bound_values}
 use Rattle.acceptance.specs.Answers.{Because}
 

@@ -12,7 +12,7 @@ use Rattle.sl_parser.specs.Files.{parsed}
 use Rattle.sl_expressions.specs.Found.{Found}
 use Rattle.sl_types.specs.Checked.{checked}
 use Rattle.sl_ast.specs.Registers.{rows_of}
-use Rattle.acceptance.specs.declared.code.Code.TheVariants.{M9, M10}
+use Rattle.acceptance.specs.declared.code.FaultCode.TheVariants.{M9, M10}
 use Rattle.acceptance.specs.declared.refusal.FileId.TheVariants.{Shader}
 use Rattle.acceptance.specs.Codes.{of_syntax, of_type}
 use Rattle.acceptance.specs.Causes.{Cause, Missing, At, Reads, cause_in, first_of}

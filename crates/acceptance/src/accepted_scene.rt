@@ -1,3 +1,4 @@
+// An accepted scene.
 use crate::shaders::UsedShaders;
 use fixed_math::List;
 use scene_state::Scene;

@@ -1,16 +1,17 @@
 // The codes of refused scenes and shaders.
 ghost use Rattle.std.specs.Prelude.{◌≡◌, ◌≤◌};
-ghost use Rattle.acceptance.specs.Codes.{text_of, status_of_code, of_lex, of_request, of_state, of_syntax, of_type};
+ghost use Rattle.acceptance.specs.Codes.{code_text, status_of_code, of_lex, of_request, of_state, of_syntax, of_type};
 
 use rib_lex::LexCode;
 use rib_reader::RibCode;
 use scene_parts::StateCode;
 use sl_expression_grammar::SlCode;
 use sl_expressions::TypeCode;
+use std::fmt;
 
 /// The code of a refused scene or shader, as notes have it.
 #[derive(Debug, Clone, Copy, PartialEq, Eq)]
-pub enum Code {
+pub enum FaultCode {
     /// A byte that can't stand here.
     L1,
     /// A string without its closing quote.
@@ -105,58 +106,58 @@ pub enum Code {
     M10,
 }
 
-impl Code {
+impl FaultCode {
     /// The code as notes have it.
     pub fn as_str(self) -> &'static str
-        ensures { result.now ≡ text_of self }
+        ensures { result.now ≡ code_text self }
     {
         match self {
-            Code::L1 => "L1",
-            Code::L2 => "L2",
-            Code::L3 => "L3",
-            Code::L4 => "L4",
-            Code::S1 => "S1",
-            Code::S2 => "S2",
-            Code::S3 => "S3",
-            Code::S4 => "S4",
-            Code::S5 => "S5",
-            Code::N1 => "N1",
-            Code::N2 => "N2",
-            Code::N3 => "N3",
-            Code::N4 => "N4",
-            Code::N5 => "N5",
-            Code::P1 => "P1",
-            Code::P2 => "P2",
-            Code::P3 => "P3",
-            Code::T1 => "T1",
-            Code::T2 => "T2",
-            Code::T3 => "T3",
-            Code::T4 => "T4",
-            Code::T5 => "T5",
-            Code::T6 => "T6",
-            Code::T7 => "T7",
-            Code::T8 => "T8",
-            Code::T9 => "T9",
-            Code::T10 => "T10",
-            Code::T11 => "T11",
-            Code::B1 => "B1",
-            Code::B2 => "B2",
-            Code::B3 => "B3",
-            Code::G1 => "G1",
-            Code::G2 => "G2",
-            Code::G3 => "G3",
-            Code::G4 => "G4",
-            Code::G5 => "G5",
-            Code::M1 => "M1",
-            Code::M2 => "M2",
-            Code::M3 => "M3",
-            Code::M4 => "M4",
-            Code::M5 => "M5",
-            Code::M6 => "M6",
-            Code::M7 => "M7",
-            Code::M8 => "M8",
-            Code::M9 => "M9",
-            Code::M10 => "M10",
+            FaultCode::L1 => "L1",
+            FaultCode::L2 => "L2",
+            FaultCode::L3 => "L3",
+            FaultCode::L4 => "L4",
+            FaultCode::S1 => "S1",
+            FaultCode::S2 => "S2",
+            FaultCode::S3 => "S3",
+            FaultCode::S4 => "S4",
+            FaultCode::S5 => "S5",
+            FaultCode::N1 => "N1",
+            FaultCode::N2 => "N2",
+            FaultCode::N3 => "N3",
+            FaultCode::N4 => "N4",
+            FaultCode::N5 => "N5",
+            FaultCode::P1 => "P1",
+            FaultCode::P2 => "P2",
+            FaultCode::P3 => "P3",
+            FaultCode::T1 => "T1",
+            FaultCode::T2 => "T2",
+            FaultCode::T3 => "T3",
+            FaultCode::T4 => "T4",
+            FaultCode::T5 => "T5",
+            FaultCode::T6 => "T6",
+            FaultCode::T7 => "T7",
+            FaultCode::T8 => "T8",
+            FaultCode::T9 => "T9",
+            FaultCode::T10 => "T10",
+            FaultCode::T11 => "T11",
+            FaultCode::B1 => "B1",
+            FaultCode::B2 => "B2",
+            FaultCode::B3 => "B3",
+            FaultCode::G1 => "G1",
+            FaultCode::G2 => "G2",
+            FaultCode::G3 => "G3",
+            FaultCode::G4 => "G4",
+            FaultCode::G5 => "G5",
+            FaultCode::M1 => "M1",
+            FaultCode::M2 => "M2",
+            FaultCode::M3 => "M3",
+            FaultCode::M4 => "M4",
+            FaultCode::M5 => "M5",
+            FaultCode::M6 => "M6",
+            FaultCode::M7 => "M7",
+            FaultCode::M8 => "M8",
+            FaultCode::M9 => "M9",
+            FaultCode::M10 => "M10",
         }
     }
 
@@ -167,97 +168,115 @@ impl Code {
         ensures most { result ≤ 5 }
     {
         match self {
-            Code::L1 | Code::L2 | Code::L3 | Code::L4 => 3,
-            Code::S1 | Code::S2 | Code::S3 | Code::S4 | Code::S5 => 3,
-            Code::N1 | Code::N2 | Code::N3 | Code::N4 | Code::N5 => 3,
-            Code::P1 | Code::P2 | Code::P3 => 3,
-            Code::T1 | Code::T2 | Code::T3 | Code::T4 | Code::T5 | Code::T6 => 4,
-            Code::T7 | Code::T8 | Code::T9 | Code::T10 | Code::T11 => 4,
-            Code::B1 | Code::B2 | Code::B3 => 4,
-            Code::G1 | Code::G2 | Code::G3 | Code::G4 | Code::G5 => 5,
-            Code::M1 | Code::M2 | Code::M3 | Code::M4 | Code::M5 | Code::M6 | Code::M7 => 5,
-            Code::M8 | Code::M9 | Code::M10 => 5,
+            FaultCode::L1 | FaultCode::L2 | FaultCode::L3 | FaultCode::L4 => 3,
+            FaultCode::S1 | FaultCode::S2 | FaultCode::S3 | FaultCode::S4 | FaultCode::S5 => 3,
+            FaultCode::N1 | FaultCode::N2 | FaultCode::N3 | FaultCode::N4 | FaultCode::N5 => 3,
+            FaultCode::P1 | FaultCode::P2 | FaultCode::P3 => 3,
+            FaultCode::T1
+            | FaultCode::T2
+            | FaultCode::T3
+            | FaultCode::T4
+            | FaultCode::T5
+            | FaultCode::T6 => 4,
+            FaultCode::T7 | FaultCode::T8 | FaultCode::T9 | FaultCode::T10 | FaultCode::T11 => 4,
+            FaultCode::B1 | FaultCode::B2 | FaultCode::B3 => 4,
+            FaultCode::G1 | FaultCode::G2 | FaultCode::G3 | FaultCode::G4 | FaultCode::G5 => 5,
+            FaultCode::M1
+            | FaultCode::M2
+            | FaultCode::M3
+            | FaultCode::M4
+            | FaultCode::M5
+            | FaultCode::M6
+            | FaultCode::M7 => 5,
+            FaultCode::M8 | FaultCode::M9 | FaultCode::M10 => 5,
         }
     }
 }
 
+impl fmt::Display for FaultCode {
+    fn fmt<W: fmt::Write>(&self, f: &mut fmt::Formatter<W>) -> fmt::Result {
+        let text = self.as_str();
+        write!(f, "{text}")
+    }
+}
+
 /// The code of a lexical fault.
-pub fn of_lex(code: LexCode) -> Code
+pub fn of_lex(code: LexCode) -> FaultCode
     ensures { result ≡ of_lex code }
 {
     match code {
-        LexCode::L1 => Code::L1,
-        LexCode::L2 => Code::L2,
-        LexCode::L3 => Code::L3,
-        LexCode::L4 => Code::L4,
+        LexCode::L1 => FaultCode::L1,
+        LexCode::L2 => FaultCode::L2,
+        LexCode::L3 => FaultCode::L3,
+        LexCode::L4 => FaultCode::L4,
     }
 }
 
 /// The code of a request's fault.
-pub fn of_request(code: RibCode) -> Code
+pub fn of_request(code: RibCode) -> FaultCode
     ensures { result ≡ of_request code }
 {
     match code {
-        RibCode::S1 => Code::S1,
-        RibCode::S2 => Code::S2,
-        RibCode::S3 => Code::S3,
-        RibCode::S4 => Code::S4,
-        RibCode::S5 => Code::S5,
+        RibCode::S1 => FaultCode::S1,
+        RibCode::S2 => FaultCode::S2,
+        RibCode::S3 => FaultCode::S3,
+        RibCode::S4 => FaultCode::S4,
+        RibCode::S5 => FaultCode::S5,
     }
 }
 
 /// The code of a fault of the graphics state.
-pub fn of_state(code: StateCode) -> Code
+pub fn of_state(code: StateCode) -> FaultCode
     ensures { result ≡ of_state code }
 {
     match code {
-        StateCode::N1 => Code::N1,
-        StateCode::N2 => Code::N2,
-        StateCode::N3 => Code::N3,
-        StateCode::N4 => Code::N4,
-        StateCode::N5 => Code::N5,
-        StateCode::G1 => Code::G1,
-        StateCode::G2 => Code::G2,
-        StateCode::G3 => Code::G3,
-        StateCode::G4 => Code::G4,
-        StateCode::G5 => Code::G5,
-        StateCode::M1 => Code::M1,
-        StateCode::M2 => Code::M2,
-        StateCode::M3 => Code::M3,
-        StateCode::M4 => Code::M4,
-        StateCode::M5 => Code::M5,
-        StateCode::M6 => Code::M6,
-        StateCode::M7 => Code::M7,
+        StateCode::N1 => FaultCode::N1,
+        StateCode::N2 => FaultCode::N2,
+        StateCode::N3 => FaultCode::N3,
+        StateCode::N4 => FaultCode::N4,
+        StateCode::N5 => FaultCode::N5,
+        StateCode::G1 => FaultCode::G1,
+        StateCode::G2 => FaultCode::G2,
+        StateCode::G3 => FaultCode::G3,
+        StateCode::G4 => FaultCode::G4,
+        StateCode::G5 => FaultCode::G5,
+        StateCode::M1 => FaultCode::M1,
+        StateCode::M2 => FaultCode::M2,
+        StateCode::M3 => FaultCode::M3,
+        StateCode::M4 => FaultCode::M4,
+        StateCode::M5 => FaultCode::M5,
+        StateCode::M6 => FaultCode::M6,
+        StateCode::M7 => FaultCode::M7,
     }
 }
 
 /// The code of a fault of a shader's grammar.
-pub fn of_syntax(code: SlCode) -> Code
+pub fn of_syntax(code: SlCode) -> FaultCode
     ensures { result ≡ of_syntax code }
 {
     match code {
-        SlCode::P1 => Code::P1,
-        SlCode::P2 => Code::P2,
-        SlCode::P3 => Code::P3,
+        SlCode::P1 => FaultCode::P1,
+        SlCode::P2 => FaultCode::P2,
+        SlCode::P3 => FaultCode::P3,
     }
 }
 
 /// The code of a fault of a shader's types, or of its size.
-pub fn of_type(code: TypeCode) -> Code
+pub fn of_type(code: TypeCode) -> FaultCode
     ensures { result ≡ of_type code }
 {
     match code {
-        TypeCode::T1 => Code::T1,
-        TypeCode::T2 => Code::T2,
-        TypeCode::T3 => Code::T3,
-        TypeCode::T4 => Code::T4,
-        TypeCode::T5 => Code::T5,
-        TypeCode::T6 => Code::T6,
-        TypeCode::T7 => Code::T7,
-        TypeCode::T8 => Code::T8,
-        TypeCode::T9 => Code::T9,
-        TypeCode::T10 => Code::T10,
-        TypeCode::T11 => Code::T11,
-        TypeCode::M8 => Code::M8,
+        TypeCode::T1 => FaultCode::T1,
+        TypeCode::T2 => FaultCode::T2,
+        TypeCode::T3 => FaultCode::T3,
+        TypeCode::T4 => FaultCode::T4,
+        TypeCode::T5 => FaultCode::T5,
+        TypeCode::T6 => FaultCode::T6,
+        TypeCode::T7 => FaultCode::T7,
+        TypeCode::T8 => FaultCode::T8,
+        TypeCode::T9 => FaultCode::T9,
+        TypeCode::T10 => FaultCode::T10,
+        TypeCode::T11 => FaultCode::T11,
+        TypeCode::M8 => FaultCode::M8,
     }
 }

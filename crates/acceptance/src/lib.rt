@@ -3,19 +3,19 @@
 
 mod accepted_scene;
 mod accepting;
-mod bindings;
 mod code;
 mod read;
 mod refusal;
-mod request_bindings;
+mod request_fit;
 mod shaders;
+mod use_fit;
 mod values;
 mod variables;
 
 pub use accepted_scene::AcceptedScene;
 pub use accepting::accept;
-pub use code::{Code, of_lex, of_request, of_state, of_syntax, of_type};
+pub use code::{FaultCode, of_lex, of_request, of_state, of_syntax, of_type};
 pub use read::ReadShader;
 pub use refusal::{FileId, Refusal, in_scene, in_shader};
-pub use request_bindings::{bind, declared_names, is_of_type};
+pub use request_fit::{bind, declared_names, is_of_type};
 pub use shaders::UsedShaders;

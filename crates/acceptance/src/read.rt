@@ -1,7 +1,8 @@
+// A shader that is read.
 ghost use Rattle.std.specs.Prelude.{◌≡◌, true};
 ghost use Rattle.sl_ast.specs.TreeView.{tree_of};
 ghost use Rattle.sl_types.specs.Distinct.{are_distinct};
-ghost use Rattle.acceptance.specs.RequestBindings.{declared_names};
+ghost use Rattle.acceptance.specs.RequestFit.{declared_names};
 ghost use Rattle.acceptance.specs.Shaders.{IsCompilable};
 
 use fixed_math::Text;

@@ -5,9 +5,10 @@ ghost use Rattle.acceptance.specs.Causes as causes;
 ghost use Rattle.acceptance.specs.declared.refusal.FileId.TheVariants.{Scene, Shader};
 ghost use Rattle.acceptance.specs.declared.refusal.Refusal.TheVariants.{ReadFault, NoMemory as OutOfMemory};
 
-use crate::code::Code;
+use crate::code::FaultCode;
 use fixed_math::{NoMemory, Text};
 use std::alloc::{AllocError, AllocFailed, Global};
+use std::fmt;
 
 /// A file that has a fault.
 #[derive(Drop)]
@@ -18,11 +19,27 @@ pub enum FileId {
     Shader(Text),
 }
 
+impl fmt::Display for FileId {
+    fn fmt<W: fmt::Write>(&self, f: &mut fmt::Formatter<W>) -> fmt::Result {
+        match self {
+            FileId::Scene => write!(f, "the scene"),
+            FileId::Shader(name) => {
+                let name = name.as_str();
+                write!(f, "{name}.sl")
+            }
+        }
+    }
+}
+
 /// Why a scene isn't accepted.
 #[derive(Drop)]
 pub enum Refusal {
     /// A fault at a line of a file.
-    At { file: FileId, line: u32, code: Code },
+    At {
+        file: FileId,
+        line: u32,
+        code: FaultCode,
+    },
     /// The library lacks this file of a shader, and the stock lacks the shader.
     Missing(Text),
     /// The library failed.
@@ -42,6 +59,20 @@ impl Refusal {
             Refusal::Missing(_) => 6,
             Refusal::ReadFault => 7,
             Refusal::NoMemory => 9,
+        }
+    }
+}
+
+impl fmt::Display for Refusal {
+    fn fmt<W: fmt::Write>(&self, f: &mut fmt::Formatter<W>) -> fmt::Result {
+        match self {
+            Refusal::At { file, line, code } => write!(f, "{file}:{line}: {code}"),
+            Refusal::Missing(file) => {
+                let file = file.as_str();
+                write!(f, "{file}: missing")
+            }
+            Refusal::ReadFault => write!(f, "the library failed"),
+            Refusal::NoMemory => write!(f, "no memory"),
         }
     }
 }
@@ -71,7 +102,7 @@ impl<T: Drop> From<AllocFailed<T>> for Refusal {
 }
 
 /// The refusal by a code at a line of the scene.
-pub fn in_scene(code: Code, line: u32) -> Refusal
+pub fn in_scene(code: FaultCode, line: u32) -> Refusal
     ensures because { Because result (Some (causes.At Scene line code)) }
     ensures held { result ≢ ReadFault }
 {
@@ -83,7 +114,7 @@ pub fn in_scene(code: Code, line: u32) -> Refusal
 }
 
 /// The refusal by a code at a line of a shader's text.
-pub fn in_shader(alloc: Global, name: &Text, code: Code, line: u32) -> Refusal
+pub fn in_shader(alloc: Global, name: &Text, code: FaultCode, line: u32) -> Refusal
     ensures because { Because result (Some (causes.At (Shader name.now) line code)) }
     ensures held { result ≢ ReadFault }
 {

@@ -10,14 +10,14 @@ ghost use Rattle.sl_ast.specs.TreeView.{tree_of};
 ghost use Rattle.sl_parser.specs.Files.{parsed};
 ghost use Rattle.sl_types.specs.Checked.{checked};
 ghost use Rattle.sl_types.specs.Distinct.{are_distinct};
-ghost use Rattle.acceptance.specs.RequestBindings.{declared_names};
+ghost use Rattle.acceptance.specs.RequestFit.{declared_names};
 ghost use Rattle.acceptance.specs.Shaders.{IsCompilable, file_of, stock_text, tree_in_rows, tree_of_checked, tree_of_parsed, tree_of_bytes, shader_names, shaders_asked};
 ghost use Rattle.acceptance.specs.Answers.{Gives};
 ghost use Rattle.acceptance.specs.Reading.{GivesShaderText, ReadsShader, ReadsNext, ReadsShaders, ArePlaced, is_among, file_once, with_once, name_of};
 ghost use Rattle.acceptance.specs.declared.refusal.Refusal.TheVariants.{ReadFault};
 
 use crate::read::ReadShader;
-use crate::{Code, Refusal, in_shader, of_syntax, of_type};
+use crate::{FaultCode, Refusal, in_shader, of_syntax, of_type};
 use fixed_math::{List, Names, NoMemory, Text};
 use outside::{Fetch, Library};
 use scene_state::ShaderUse;
@@ -51,7 +51,7 @@ fn in_rows(alloc: Global, name: &Text, tree: Tree) -> Result<Tree, Refusal>
     ensures read { IsErrOf result ReadFault → ⊥ }
 {
     if MOST_ROWS < rows(alloc, &tree)? {
-        return Err(in_shader(alloc, name, Code::M9, tree.place.line));
+        return Err(in_shader(alloc, name, FaultCode::M9, tree.place.line));
     }
     Ok(tree)
 }
@@ -93,7 +93,7 @@ fn of_bytes(alloc: Global, name: &Text, bytes: &[u8]) -> Result<Tree, Refusal>
     ensures read { IsErrOf result ReadFault → ⊥ }
 {
     if MOST_BYTES < bytes.len() as u64 {
-        return Err(in_shader(alloc, name, Code::M10, 1));
+        return Err(in_shader(alloc, name, FaultCode::M10, 1));
     }
     of_text(alloc, name, bytes)
 }
@@ -141,7 +141,7 @@ fn fetch_text<L: Library>(alloc: Global, library: &mut L, name: &Text) -> Result
     match library.fetch(file.as_str(), MOST_BYTES, &mut bytes) {
         Fetch::Whole => Ok(bytes),
         Fetch::Missing => of_stock(alloc, name, file),
-        Fetch::TooLong => Err(in_shader(alloc, name, Code::M10, 1)),
+        Fetch::TooLong => Err(in_shader(alloc, name, FaultCode::M10, 1)),
         Fetch::Failed => Err(Refusal::ReadFault),
         Fetch::NoMemory => Err(Refusal::NoMemory),
     }

@@ -3,7 +3,7 @@ ghost use Rattle.std.specs.Prelude.{◌≡◌, ◌<◌, IfOk, length, map, optio
 ghost use Rattle.rib_reader.specs.Holding.{last_named};
 ghost use Rattle.sl_ast.specs.Settled.{IsSettled};
 ghost use Rattle.sl_ast.specs.TreeView.{tree_of};
-ghost use Rattle.acceptance.specs.RequestBindings.{param_name};
+ghost use Rattle.acceptance.specs.RequestFit.{param_name};
 ghost use Rattle.acceptance.specs.Bound as spec;
 
 use builtins::image;

@@ -3,15 +3,15 @@ ghost use Rattle.std.specs.Prelude.{◌≡◌, IsErrOf, map, option_map, slice_g
 ghost use Rattle.std.specs.List.{list_any};
 ghost use Rattle.sl_ast.specs.TypedView.{local_of};
 ghost use Rattle.sl_ast.specs.TreeView.{tree_of};
-ghost use Rattle.acceptance.specs.PrimBindings as spec;
+ghost use Rattle.acceptance.specs.PrimFit as spec;
 ghost use Rattle.acceptance.specs.Reading.{tree_read, declared_by};
 ghost use Rattle.acceptance.specs.Answers.{Clears};
 ghost use Rattle.acceptance.specs.declared.refusal.Refusal.TheVariants.{ReadFault};
 
-use crate::bindings::all_declared;
 use crate::read::ReadShader;
 use crate::shaders::UsedShaders;
-use crate::{Code, Refusal, in_scene, is_of_type};
+use crate::use_fit::all_declared;
+use crate::{FaultCode, Refusal, in_scene, is_of_type};
 use fixed_math::Names;
 use scene_state::{Frame, Prim, Scene, Variable};
 use shader_binding::sets_predefined;
@@ -132,7 +132,7 @@ fn check_frame(shaders: &UsedShaders, declared: &[Names<'_>], frame: &Frame) -> 
     let prims = frame.prims.as_slice();
     for prim in prims {
         if is_unfit_prim(shaders, declared, prim) {
-            return Err(in_scene(Code::B2, prim.line));
+            return Err(in_scene(FaultCode::B2, prim.line));
         }
     }
     Ok(())

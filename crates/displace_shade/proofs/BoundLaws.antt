@@ -44,7 +44,7 @@ use Rattle.grid_rows.specs.Parameters.{ParameterValues}
 use Rattle.grid_rows.specs.Given.{param_rows}
 use Rattle.grid_variables.specs.Places.{point_count, over}
 use Rattle.displace_shade.specs.Lamps.{lamp_asked}
-use Rattle.displace_shade.specs.Shop.{parameters_of, Runs}
+use Rattle.displace_shade.specs.Stages.{parameters_of, Runs}
 use Rattle.displace_shade.specs.declared.bound.BoundShader.{BoundShader}
 use Rattle.displace_shade.specs.declared.lamps.Lamp.{Lamp}
 use Rattle.sl_meaning.specs.Lowered.{slots}

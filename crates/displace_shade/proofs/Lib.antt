@@ -6,6 +6,8 @@ pub mod Dicing
 pub mod Stages
 pub mod GivenRows
 pub mod Plain
+pub mod Unlit
+pub mod Surfaces
 pub mod Binding
 pub mod Laws
 pub mod BoundLaws

@@ -2,5 +2,8 @@ pub mod Shaded
 pub mod Rows
 pub mod Diced
 pub mod Shop
+pub mod Pieces
+pub mod Stages
 pub mod Lamps
+pub mod Unlit
 pub mod Constant

@@ -1,11 +1,9 @@
--- The shop's set as plain data, a shader that is bound, and the leaf of a frame's primitive.
+-- The shop's set and a shader that is bound as plain data, and the leaf of a frame's primitive.
 use Rattle.std.specs.Prelude.{ℕ, map}
 use Rattle.patches.specs.Parts.{Part}
 use Rattle.scene.specs.Scene.{PrimValue, FrameValue}
 use Rattle.sl_ast.specs.TreeView.{tree_of}
-use Rattle.mask_codegen.specs.Compiled.{IsCodeOf}
-use Rattle.grid_rows.specs.Parameters.{ParameterValues}
-use Rattle.shader_binding.specs.Sets.{SetValue, AreValuesOf, Bound}
+use Rattle.shader_binding.specs.Sets.{SetValue, Bound}
 use Rattle.grid_variables.specs.Points.{Leaf}
 use Rattle.displace_shade.specs.declared.set.ShaderSet.{ShaderSet}
 use Rattle.displace_shade.specs.declared.bound.BoundShader.{BoundShader}
@@ -15,15 +13,6 @@ set_value s = record { trees = map (λ c. tree_of c.tree) s.compiled; of_use = s
 
 abbrev pub bound_value : BoundShader → Bound
 bound_value b = record { tree = tree_of b.compiled.now.tree; values = b.values.now; space = b.space.now }
-
--- its parameters, as the rows of a run are made from them
-abbrev pub parameters_of : BoundShader → ParameterValues
-parameters_of b = record { locals = (tree_of b.compiled.now.tree).params; slots = b.compiled.now.code.params; values = b.values.now }
-
--- a shader with values of its parameters
-pub record Runs (b : BoundShader) : Type 0 where
-  pub code : IsCodeOf (tree_of b.compiled.now.tree) b.compiled.now.code
-  pub values : AreValuesOf (tree_of b.compiled.now.tree).params b.values.now
 
 abbrev pub leaf_of : FrameValue → PrimValue → Part → ℕ → ℕ → Leaf
 leaf_of f prim part p q = record { camera = f.camera; world = f.world; prim = prim; part = part; p = p; q = q }

@@ -5,7 +5,8 @@ ghost use Rattle.scene.specs.declared.uses.ShaderKind.{ShaderKind as UseKind};
 ghost use Rattle.sl_ast.specs.TreeView.{tree_of};
 ghost use Rattle.shader_binding.specs.Sets.{Fits, is_of_kind};
 ghost use Rattle.shader_binding.specs.Sets.{bound_at as bound_at_use};
-ghost use Rattle.displace_shade.specs.Shop.{set_value, bound_value, Runs};
+ghost use Rattle.displace_shade.specs.Shop.{set_value, bound_value};
+ghost use Rattle.displace_shade.specs.Stages.{Runs};
 
 use crate::set::ShaderSet;
 use mask_codegen::Compiled;

@@ -1,6 +1,7 @@
 //! Shading: displacement, surface and volume over the diced grid of a leaf.
 #![tactic(auto)]
 
+mod asking;
 mod bound;
 mod constant;
 mod lamps;

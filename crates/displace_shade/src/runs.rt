@@ -1,21 +1,17 @@
 // Runs of the three shaders of a primitive.
-ghost use Rattle.std.specs.Prelude.{◌≡◌, ◌*◌, [], ℕ, false, All, length, map, IfOk, OnOk};
-ghost use Rattle.sl_ast.specs.Names.{is_light};
-ghost use Rattle.sl_ast.specs.TreeView.{tree_of};
+ghost use Rattle.std.specs.Prelude.{◌≡◌, ◌*◌, [], All, List, length, map, IfOk, OnOk};
+ghost use Rattle.fixed_math.specs.declared.vec3.Vec3.{Vec3 as AnyVec3};
 ghost use Rattle.sl_ast.specs.declared.kinds.SlKind.TheVariants as kinds;
-ghost use Rattle.builtins.specs.Shapes.{shape as shape_of_value};
-ghost use Rattle.grid_code.specs.Shapes.{register_shape};
-ghost use Rattle.sl_meaning.specs.Runs.{Names, ran};
-ghost use Rattle.displace_shade.specs.Shaded.{spaces_of as maps_of, around};
+ghost use Rattle.builtins.specs.Lights.{Light};
+ghost use Rattle.displace_shade.specs.Shaded.{spaces_of as maps_of};
 ghost use Rattle.place_rows.specs.Layout.{row_length};
-ghost use Rattle.grid_machine.specs.Run.{rows_of, uniform_inputs, varying_inputs, written_names};
+ghost use Rattle.grid_machine.specs.Run.{rows_of, written_names};
 ghost use Rattle.grid_rows.specs.Rows.{AreRaws};
 ghost use Rattle.grid_variables.specs.Places.{point_count, IsSized, IsColoured, ArePlaces};
-ghost use Rattle.displace_shade.specs.Diced.{Hold};
-ghost use Rattle.displace_shade.specs.Shop.{bound_value, parameters_of as parameters_list, Runs};
-ghost use Rattle.grid_variables.specs.Variables.{values_at};
-ghost use Rattle.shader_binding.specs.Bindings.{FitVariables};
-ghost use Rattle.displace_shade.specs.Lamps.{IsLamp, lamp_light, IsLeft, AreLeft};
+ghost use Rattle.displace_shade.specs.Shop.{bound_value};
+ghost use Rattle.displace_shade.specs.Stages.{parameters_of as parameters_list, Runs, RunsOn, run_by, Makes};
+ghost use Rattle.displace_shade.specs.Unlit.{AsksNone};
+ghost use Rattle.displace_shade.specs.Lamps.{IsLamp, lamp_light, IsGiven, IsLeft, AreLeft};
 
 use crate::bound::BoundShader;
 use crate::lamps::{Lamp, Lamps, kept};
@@ -74,12 +70,9 @@ fn run_into<'s, 'a>(
     raws: &[i64],
     out: &mut [i64],
 ) -> Result<(), NoMemory>
-    requires kind { is_light bound.now.compiled.now.code.kind ≡ false }
-    requires lamps { All (IsLamp leaf.now) lamps.now }
+    requires given { IsGiven leaf.now bound.now lamps.now uniforms.now raws.now }
     requires spaces { spaces.now ≡ maps_of leaf.now (bound_value bound.now) }
-    requires uniforms { map shape_of_value uniforms.now ≡ map register_shape (uniform_inputs bound.now.compiled.now.code.kind bound.now.compiled.now.code.params) }
     requires small { AreRaws raws.now }
-    requires rows { length raws.now ≡ rows_of (varying_inputs bound.now.compiled.now.code.kind bound.now.compiled.now.code.params) * row_length (point_count leaf.now) }
     requires out { length out.old ≡ rows_of (written_names bound.now.compiled.now.code.kind) * row_length (point_count leaf.now) }
     ensures small { AreRaws out.new }
     ensures values { OnOk result (IsLeft leaf.now bound.now lamps.now uniforms.now raws.now out.new) }
@@ -110,11 +103,7 @@ fn run_on<'a, 's>(
     uniforms: &[Value],
     rows: &[Num],
 ) -> Result<&'a [i64], NoMemory>
-    requires kind { is_light bound.now.compiled.now.code.kind ≡ false }
-    requires written { rows_of (written_names bound.now.compiled.now.code.kind) ≡ 6 }
-    requires lamps { All (IsLamp leaf.now) lamps.now }
-    requires uniforms { map shape_of_value uniforms.now ≡ map register_shape (uniform_inputs bound.now.compiled.now.code.kind bound.now.compiled.now.code.params) }
-    requires rows { length rows.now ≡ rows_of (varying_inputs bound.now.compiled.now.code.kind bound.now.compiled.now.code.params) * row_length (point_count leaf.now) }
+    requires { IsGiven leaf.now bound.now lamps.now uniforms.now rows.now }
     ensures long { IfOk result (λ out. length out.now ≡ 6 * row_length (point_count leaf.now)) }
     ensures small { IfOk result (λ out. AreRaws out.now) }
     ensures values { IfOk result (λ out. IsLeft leaf.now bound.now lamps.now uniforms.now rows.now out.now) }
@@ -137,11 +126,7 @@ fn run_behind<'a, 's>(
     uniforms: Vec<Value>,
     rows: &[Num],
 ) -> Result<&'a [i64], NoMemory>
-    requires kind { is_light bound.now.compiled.now.code.kind ≡ false }
-    requires written { rows_of (written_names bound.now.compiled.now.code.kind) ≡ 6 }
-    requires lamps { All (IsLamp leaf.now) lamps.now }
-    requires uniforms { map shape_of_value uniforms.items ≡ map register_shape (uniform_inputs bound.now.compiled.now.code.kind bound.now.compiled.now.code.params) }
-    requires rows { length rows.now ≡ rows_of (varying_inputs bound.now.compiled.now.code.kind bound.now.compiled.now.code.params) * row_length (point_count leaf.now) }
+    requires { IsGiven leaf.now bound.now lamps.now uniforms.items rows.now }
     ensures long { IfOk result (λ out. length out.now ≡ 6 * row_length (point_count leaf.now)) }
     ensures small { IfOk result (λ out. AreRaws out.now) }
     ensures values { IfOk result (λ out. IsLeft leaf.now bound.now lamps.now uniforms.items rows.now out.now) }
@@ -165,11 +150,7 @@ fn left_behind<'a, 's>(
     uniforms: Vec<Value>,
     rows: &[Num],
 ) -> Result<Left<'a>, NoMemory>
-    requires kind { is_light bound.now.compiled.now.code.kind ≡ false }
-    requires written { rows_of (written_names bound.now.compiled.now.code.kind) ≡ 6 }
-    requires lamps { All (IsLamp leaf.now) lamps.now }
-    requires uniforms { map shape_of_value uniforms.items ≡ map register_shape (uniform_inputs bound.now.compiled.now.code.kind bound.now.compiled.now.code.params) }
-    requires rows { length rows.now ≡ rows_of (varying_inputs bound.now.compiled.now.code.kind bound.now.compiled.now.code.params) * row_length (point_count leaf.now) }
+    requires { IsGiven leaf.now bound.now lamps.now uniforms.items rows.now }
     ensures { IfOk result (λ left. AreLeft leaf.now bound.now lamps.now uniforms.items rows.now left.first.now left.second.now) }
 {
     let out = run_behind(arena, leaf, bound, lamps, uniforms, rows)?;
@@ -187,13 +168,11 @@ pub(crate) fn displace<'a>(
     places: &Places,
     variables: &Variables<'a>,
 ) -> Result<Variables<'a>, NoMemory>
-    requires runs { Runs bound.now }
-    requires variables { FitVariables (tree_of bound.now.compiled.now.tree).params leaf.now.prim.vars }
-    requires kind { (tree_of bound.now.compiled.now.tree).kind ≡ kinds.Displacement }
+    requires on { RunsOn bound.now leaf.now kinds.Displacement }
     requires places { ArePlaces leaf.now places.now }
     requires sized { IsSized leaf.now variables.now }
     ensures sized { IfOk result (λ e. IsSized leaf.now e) }
-    ensures hold { IfOk result (λ e. (f : ℕ → Names) → Hold leaf.now variables.now f → Hold leaf.now e (ran (tree_of bound.now.compiled.now.tree) (around leaf.now (bound_value bound.now) []) (values_at leaf.now (tree_of bound.now.compiled.now.tree).params bound.now.values.now) f)) }
+    ensures hold { IfOk result (λ e. Makes leaf.now (run_by leaf.now bound.now []) variables.now e) }
 {
     let parameters = parameters_of(bound);
     let rows = displacement_rows(arena, leaf, &parameters, places, variables)?;
@@ -208,7 +187,7 @@ pub(crate) fn displace<'a>(
     })
 }
 
-/// The variables behind a run of a surface under lights.
+/// The variables behind a run of a surface under lights. Code that asks none does the same under any.
 pub(crate) fn colour<'a, 's>(
     alloc: Global,
     arena: &'a Bump,
@@ -218,15 +197,14 @@ pub(crate) fn colour<'a, 's>(
     places: &Places,
     variables: &Variables<'a>,
 ) -> Result<Variables<'a>, NoMemory>
-    requires runs { Runs bound.now }
-    requires variables { FitVariables (tree_of bound.now.compiled.now.tree).params leaf.now.prim.vars }
-    requires kind { (tree_of bound.now.compiled.now.tree).kind ≡ kinds.Surface }
+    requires on { RunsOn bound.now leaf.now kinds.Surface }
     requires lamps { All (IsLamp leaf.now) lamps.now }
     requires places { ArePlaces leaf.now places.now }
     requires sized { IsSized leaf.now variables.now }
     ensures sized { IfOk result (λ e. IsSized leaf.now e) }
     ensures coloured { IfOk result (λ e. IsColoured leaf.now e) }
-    ensures hold { IfOk result (λ e. (f : ℕ → Names) → Hold leaf.now variables.now f → Hold leaf.now e (ran (tree_of bound.now.compiled.now.tree) (around leaf.now (bound_value bound.now) (map (lamp_light leaf.now) lamps.now)) (values_at leaf.now (tree_of bound.now.compiled.now.tree).params bound.now.values.now) f)) }
+    ensures hold { IfOk result (λ e. Makes leaf.now (run_by leaf.now bound.now (map (lamp_light leaf.now) lamps.now)) variables.now e) }
+    ensures unlit { IfOk result (λ e. AsksNone bound.now → (lights : List (AnyVec3 → Light)) → Makes leaf.now (run_by leaf.now bound.now lights) variables.now e) }
 {
     let parameters = parameters_of(bound);
     let rows = surface_rows(arena, leaf, &parameters, places, variables)?;
@@ -249,14 +227,12 @@ pub(crate) fn dim<'a>(
     bound: &BoundShader,
     variables: &Variables<'a>,
 ) -> Result<Variables<'a>, NoMemory>
-    requires runs { Runs bound.now }
-    requires variables { FitVariables (tree_of bound.now.compiled.now.tree).params leaf.now.prim.vars }
-    requires kind { (tree_of bound.now.compiled.now.tree).kind ≡ kinds.Volume }
+    requires on { RunsOn bound.now leaf.now kinds.Volume }
     requires sized { IsSized leaf.now variables.now }
     requires coloured { IsColoured leaf.now variables.now }
     ensures sized { IfOk result (λ e. IsSized leaf.now e) }
     ensures coloured { IfOk result (λ e. IsColoured leaf.now e) }
-    ensures hold { IfOk result (λ e. (f : ℕ → Names) → Hold leaf.now variables.now f → Hold leaf.now e (ran (tree_of bound.now.compiled.now.tree) (around leaf.now (bound_value bound.now) []) (values_at leaf.now (tree_of bound.now.compiled.now.tree).params bound.now.values.now) f)) }
+    ensures hold { IfOk result (λ e. Makes leaf.now (run_by leaf.now bound.now []) variables.now e) }
 {
     let parameters = parameters_of(bound);
     let rows = volume_rows(arena, leaf, &parameters, variables)?;

@@ -1,3 +1,4 @@
+// The shaders of a scene with their codes and values.
 use fixed_math::List;
 use mask_codegen::Compiled;
 use sl_ast::Value;

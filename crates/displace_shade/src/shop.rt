@@ -1,9 +1,9 @@
+// The shaders of a scene at work: leaves shaded, and how many.
 ghost use Rattle.std.specs.Prelude.{◌≡◌, ◌≤◌, ◌<◌, ◌+◌, All, Some, length, slice_get, IfOk, MatchResult};
 ghost use Rattle.scene.specs.Scene.{FrameValue, PrimValue, HasUses};
 ghost use Rattle.shader_binding.specs.Sets.{Fits};
-ghost use Rattle.displace_shade.specs.Shaded.{shaded};
 ghost use Rattle.shader_binding.specs.Bindings.{FitsPrim};
-ghost use Rattle.displace_shade.specs.Diced.{grid_value};
+ghost use Rattle.displace_shade.specs.Pieces.{FitsPiece, IsShadedIn, IsShaded};
 ghost use Rattle.displace_shade.specs.Shop.{set_value, leaf_of};
 
 use crate::leaves::{Shaders, shaded_leaf};
@@ -50,7 +50,7 @@ fn shaded_piece<'a>(
     requires variables { (prim : PrimValue) → slice_get frame.now.prims piece.now.prim ≡ Some prim → FitsPrim (set_value shaders.now.set.now) shaders.now.uses.now prim }
     requires columns { p ≤ 4 }
     requires rows { q ≤ 4 }
-    ensures { IfOk result (λ grid. (prim : PrimValue) → slice_get frame.now.prims piece.now.prim ≡ Some prim → grid_value grid ≡ shaded (leaf_of frame.now prim piece.now p q) (set_value shaders.now.set.now) shaders.now.uses.now) }
+    ensures { IfOk result (IsShadedIn (set_value shaders.now.set.now) shaders.now.uses.now frame.now piece.now p q) }
 {
     let leaf = leaf_at(frame, piece, p, q);
     shaded_leaf(shaders, arena, &leaf)
@@ -116,11 +116,11 @@ impl Shop {
         requires fits { Fits (set_value self.old.set) scene.now.uses }
         requires frame { frame < length scene.now.frames }
         requires prim { (f : FrameValue) → slice_get scene.now.frames frame ≡ Some f → piece.now.prim < length f.prims }
-        requires variables { (f : FrameValue) (prim : PrimValue) → slice_get scene.now.frames frame ≡ Some f → slice_get f.prims piece.now.prim ≡ Some prim → FitsPrim (set_value self.old.set) scene.now.uses prim }
+        requires variables { FitsPiece (set_value self.old.set) scene.now frame piece.now }
         requires columns { p ≤ 4 }
         requires rows { q ≤ 4 }
         requires count { self.old.count < 18446744073709551615 }
-        ensures grid { IfOk result (λ grid. (f : FrameValue) (prim : PrimValue) → slice_get scene.now.frames frame ≡ Some f → slice_get f.prims piece.now.prim ≡ Some prim → grid_value grid ≡ shaded (leaf_of f prim piece.now p q) (set_value self.old.set) scene.now.uses) }
+        ensures grid { IfOk result (IsShaded (set_value self.old.set) scene.now frame piece.now p q) }
         ensures set { self.new.set ≡ self.old.set }
         ensures count { MatchResult result (λ _. self.new.count ≡ self.old.count + 1) (λ _. self.new.count ≡ self.old.count) }
     {

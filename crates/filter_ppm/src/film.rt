@@ -1,3 +1,4 @@
+// A frame as the filter sees it: its size and its options.
 ghost use Rattle.std.specs.Prelude.{◌≡◌, ◌≤◌};
 ghost use Rattle.filter_ppm.specs.Sampled.{FilmFormat, IsFormat};
 

@@ -1,3 +1,4 @@
+// From a pixel's colour to the numbers of the picture.
 ghost use Rattle.std.specs.Prelude.{◌≡◌, ◌≤◌, ◌<◌, ◌*◌, pos};
 ghost use Rattle.filter_ppm.specs.Levels.{exposed_part, exposed, level, limited, quantized, levels};
 

@@ -1,3 +1,4 @@
+// The pixels whose samples may count for a pixel.
 ghost use Rattle.std.specs.Prelude.{◌≡◌, ◌≤◌, ◌<◌, ◌+◌, ◌-◌, min};
 ghost use Rattle.filter_ppm.specs.Sampled.{IsWindow};
 

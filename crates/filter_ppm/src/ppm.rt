@@ -1,3 +1,4 @@
+// The bytes of a picture in the format PPM.
 ghost use Rattle.std.specs.Prelude.{◌≡◌, ◌≤◌, ◌++◌, All, OnOk, IfOk};
 ghost use Rattle.filter_ppm.specs.Levels.{header, level_bytes, pixel_bytes, band};
 

@@ -1,3 +1,4 @@
+// A sample with its colour.
 use fixed_math::Vec3;
 use hider::Spot;
 

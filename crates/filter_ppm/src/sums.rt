@@ -1,3 +1,4 @@
+// The sums of a weighted mean.
 ghost use Rattle.std.specs.Prelude.{◌≡◌, ◌≤◌, ◌<◌, ◌^◌, ◌≤ℤ◌, ◌+◌, ◌*◌, ◌+ℤ◌, ◌*ℤ◌, ℤ, pos, unsigned_abs};
 ghost use Rattle.filter_ppm.specs.Mean.{Totals, nothing, with_colour, mean_part, mean, AreTotals};
 

@@ -1,3 +1,4 @@
+// The filters' weights.
 ghost use Rattle.std.specs.Prelude.{◌≡◌, ◌≤◌, ◌≤ℤ◌, ◌*ℤ◌, ◌*◌, pos, true, unsigned_abs};
 ghost use Rattle.filter_ppm.specs.Weight.{counts, slope, across, bell, by_filter, weight, reach};
 

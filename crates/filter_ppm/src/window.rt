@@ -1,3 +1,4 @@
+// The mean about a pixel.
 ghost use Rattle.std.specs.Prelude.{◌≡◌, ◌≤◌, ◌<◌, ◌+◌, ◌-◌, ◌*◌, ◌/◌, ◌≤ℤ◌, ◌-ℤ◌, pos, min, length, unsigned_abs};
 ghost use Rattle.std.specs.List.{slice_range};
 ghost use Rattle.fixed_math.specs.declared.vec3.Vec3.{Vec3};

@@ -1,6 +1,6 @@
 -- How the micropolygons of a frame are hidden in a tile, leaf by leaf.
-use Rattle.std.proofs.Common.{◌≡◌, arith, suc, refl, sym, ◌∙◌, ap, subst, map, Bool, ℕ, ◌+◌, ◌<◌, List, [], ◌∷◌, ◌++◌, ◌≤◌, ◌*◌, length, take, get_or, append_assoc, length-append}
-use Rattle.std.proofs.lemmas.List.{take_more, length-take}
+use Rattle.std.proofs.Common.{◌≡◌, arith, suc, refl, sym, ◌∙◌, ap, subst, map, Bool, ℕ, ◌+◌, ◌<◌, List, [], ◌∷◌, ◌++◌, ◌≤◌, ◌*◌, length, take, drop, get_or, append_assoc, length-append}
+use Rattle.std.proofs.lemmas.List.{take_more, length-take, take-append-drop}
 use Rattle.std.specs.List.{flat_map, enumerate_from}
 use Rattle.patches.specs.Parts.{Part}
 use Rattle.transforms.specs.declared.view.View.{View}
@@ -99,6 +99,43 @@ prims-next a f ps i p old new lt is before more =
 abbrev pub leaves_of : FrameValue → List PrimValue → List Part
 leaves_of f ps = flat_map (λ np. prim_leaves f np.0 np.1) (enumerate_from 0 ps)
 
+-- no primitive has more than 65,536 leaves
+few_from : (f : FrameValue) (n : ℕ) (ps : List PrimValue) → length (flat_map (λ np. prim_leaves f np.0 np.1) (enumerate_from n ps)) ≤ 65536 * length ps
+few_from f n [] = omega arith
+few_from f n (p ∷ ps) =
+    let sum = length-append (prim_leaves f n p) (flat_map (λ np. prim_leaves f np.0 np.1) (enumerate_from (n + 1) ps)) in
+    let few = few_leaves n (decide f.camera p) in
+    let rest = few_from f (n + 1) ps in
+    omega (arith, sum, few, rest)
+
+pub few_frame : (f : FrameValue) (ps : List PrimValue) → length (leaves_of f ps) ≤ 65536 * length ps
+few_frame f ps = few_from f 0 ps
+
+-- and so a frame of at most 65,536 primitives has at most 2 ^ 32 leaves
+pub few_all : (f : FrameValue) (ps : List PrimValue) → ps ≡ f.prims → length ps ≤ 65536 → length (leaves_of f f.prims) ≤ 4294967296
+few_all f ps same few =
+    let all = few_frame f f.prims in
+    let long = ap (λ qs. length qs) same in
+    omega (arith, all, long, few)
+
+-- the items with their numbers, and others behind them
+enumerate-append : {A : Type 0} (n : ℕ) (xs ys : List A) → enumerate_from n (xs ++ ys) ≡ enumerate_from n xs ++ enumerate_from (n + length xs) ys
+enumerate-append n [] ys = let e : n ≡ n + 0 = omega arith in ap (λ (k : ℕ). enumerate_from k ys) e
+enumerate-append n (x ∷ xs) ys =
+    let e : (n + 1) + length xs ≡ n + suc (length xs) = omega arith in
+    ap (λ l. (n, x) ∷ l) (enumerate-append (n + 1) xs ys ∙ ap (λ (k : ℕ). enumerate_from (n + 1) xs ++ enumerate_from k ys) e)
+
+-- some first primitives have no more leaves than all
+pub part_of_all : (f : FrameValue) (ps : List PrimValue) (i : ℕ) → length (leaves_of f (take i ps)) ≤ length (leaves_of f ps)
+part_of_all f ps i =
+    let g : (np : ℕ × PrimValue) → List Part = λ np. prim_leaves f np.0 np.1 in
+    let qs = take i ps in
+    let rest = enumerate_from (0 + length qs) (drop i ps) in
+    let split : leaves_of f ps ≡ leaves_of f qs ++ flat_map g rest =
+    ap (leaves_of f) (sym (take-append-drop i ps)) ∙ ap (flat_map g) (enumerate-append 0 qs (drop i ps)) ∙ flat_map-append g (enumerate_from 0 qs) rest in
+    let sum : length (leaves_of f ps) ≡ length (leaves_of f qs) + length (flat_map g rest) = ap (λ (ls : List Part). length ls) split ∙ length-append (leaves_of f qs) (flat_map g rest) in
+    omega (arith, sum)
+
 -- those of one more primitive
 leaves-next : (f : FrameValue) (ps : List PrimValue) (i : ℕ) (p : PrimValue) → i < length ps → p ≡ get_or ps i p
     → length (leaves_of f (take (i + 1) ps)) ≡ length (leaves_of f (take i ps)) + length (prim_leaves f i p)
@@ -106,14 +143,15 @@ leaves-next f ps i p lt is =
     let g : (np : ℕ × PrimValue) → List Part = λ np. prim_leaves f np.0 np.1 in
     ap (λ (ls : List Part). length ls) (numbered-next g ps i p lt is) ∙ length-append (leaves_of f (take i ps)) (prim_leaves f i p)
 
+-- where a primitive is refused, the count has risen by no more than all leaves
+pub counts-refused : (f : FrameValue) (ps all : List PrimValue) (i : ℕ) (p : PrimValue) (first old new : ℕ) → i < length ps → p ≡ get_or ps i p → ps ≡ all
+    → old ≡ first + length (leaves_of f (take i ps)) → (old ≤ new) × (new ≤ old + length (prim_leaves f i p)) → (first ≤ new) × (new ≤ first + length (leaves_of f all))
+counts-refused f ps all i p first old new lt is same before more =
+    let sum = leaves-next f ps i p lt is in
+    let part = part_of_all f ps (i + 1) in
+    let whole = ap (λ qs. length (leaves_of f qs)) same in
+    (omega (arith, before, more.0), omega (arith, sum, part, whole, before, more.1))
+
 pub counts-next : (f : FrameValue) (ps : List PrimValue) (i : ℕ) (p : PrimValue) (first old new : ℕ) → i < length ps → p ≡ get_or ps i p
     → old ≡ first + length (leaves_of f (take i ps)) → new ≡ old + length (prim_leaves f i p) → new ≡ first + length (leaves_of f (take (i + 1) ps))
 counts-next f ps i p first old new lt is before more = let sum = leaves-next f ps i p lt is in omega (arith, sum, before, more)
-
--- no primitive has more than 65,536 leaves
-pub few-next : (f : FrameValue) (ps : List PrimValue) (i : ℕ) (p : PrimValue) → i < length ps → p ≡ get_or ps i p
-    → length (leaves_of f (take i ps)) ≤ 65536 * i → length (leaves_of f (take (i + 1) ps)) ≤ 65536 * (i + 1)
-few-next f ps i p lt is before =
-    let sum = leaves-next f ps i p lt is in
-    let few = few_leaves i (decide f.camera p) in
-    omega (arith, sum, few, before)

@@ -13,7 +13,7 @@ ghost use Rattle.frame_picture.specs.Pictures.{decide, prim_leaves, frame_leaves
 ghost use Rattle.filter_ppm.specs.Sampled.{frame_grid};
 ghost use Rattle.frame_picture.specs.Sampled.{ShowsMore, ShowsSome};
 ghost use Rattle.shader_binding.specs.Sets.{AcceptedValue};
-ghost use Rattle.frame_picture.specs.Shopped.{shaded_by};
+ghost use Rattle.frame_picture.specs.Shopped.{shaded_by, RisesBy};
 
 use crate::frame_in::FrameIn;
 use bound_split::{Leaf, Walk};
@@ -21,7 +21,7 @@ use bumpalo::Bump;
 use dice::GridRef;
 use displace_shade::Shop;
 use filter_ppm::{Film, band_bytes, header, pixels};
-use fixed_math::NoMemory;
+use fixed_math::{List, NoMemory};
 use hider::{GridCells, Tile};
 use patches::Piece;
 use scene::{Frame, Prim};
@@ -30,8 +30,8 @@ use std::alloc::Global;
 /// A picture: the bytes of its header and those of its pixels by rows.
 #[derive(Drop)]
 pub struct PictureBytes {
-    pub header: Vec<u8>,
-    pub band: Vec<u8>,
+    pub header: List<u8>,
+    pub band: List<u8>,
     /// How many grids were shaded for it.
     pub shadings: u64,
 }
@@ -69,8 +69,8 @@ fn hide_leaf(
     requires count { shop.old.count < 18446744073709551615 }
     ensures grid { tile.new.grid ≡ tile.old.grid }
     ensures shows { OnOk result (ShowsMore shown.now.frame.now.camera (leaf_micropolygons (shaded_by shown.now.scene.now shop.old) shown.now.frame.now prim.now leaf.now.piece) tile.old tile.new) }
-    ensures set { OnOk result (shop.new.set ≡ shop.old.set) }
-    ensures count { OnOk result (shop.new.count ≡ shop.old.count + 1) }
+    ensures set { shop.new.set ≡ shop.old.set }
+    ensures count { RisesBy 1 result shop.old.count shop.new.count }
 {
     let arena = Bump::new(alloc);
     let grid = shop.shade(
@@ -110,8 +110,8 @@ fn hide_prim(
     requires count { shop.old.count + 65536 ≤ 2 ^ 62 }
     ensures grid { tile.new.grid ≡ tile.old.grid }
     ensures shows { OnOk result (ShowsMore shown.now.frame.now.camera (prim_micropolygons (shaded_by shown.now.scene.now shop.old) shown.now.frame.now number prim.now) tile.old tile.new) }
-    ensures set { OnOk result (shop.new.set ≡ shop.old.set) }
-    ensures count { OnOk result (shop.new.count ≡ shop.old.count + length (prim_leaves shown.now.frame.now number prim.now)) }
+    ensures set { shop.new.set ≡ shop.old.set }
+    ensures count { RisesBy (length (prim_leaves shown.now.frame.now number prim.now)) result shop.old.count shop.new.count }
 {
     let mut walk = Walk::new(Piece::whole(number));
     while let Some(leaf) = next_leaf(&mut walk, shown.frame, prim) {
@@ -149,9 +149,9 @@ fn tile_in(alloc: Global, shop: &mut Shop, shown: &FrameIn<'_>) -> Result<Tile, 
     requires count { shop.old.count + 2 ^ 32 ≤ 2 ^ 62 }
     ensures grid { IfOk result (λ tile. tile.grid ≡ frame_grid shown.now.frame.now.camera.width shown.now.frame.now.camera.height shown.now.frame.now.options) }
     ensures shows { IfOk result (λ tile. Shows tile (fragments shown.now.frame.now.camera (micropolygons (shaded_by shown.now.scene.now shop.old) shown.now.frame.now))) }
-    ensures set { OnOk result (shop.new.set ≡ shop.old.set) }
-    ensures leaves { OnOk result (shop.new.count ≡ shop.old.count + length (frame_leaves shown.now.frame.now)) }
-    ensures count { OnOk result (shop.new.count ≤ shop.old.count + 2 ^ 32) }
+    ensures set { shop.new.set ≡ shop.old.set }
+    ensures count { RisesBy (length (frame_leaves shown.now.frame.now)) result shop.old.count shop.new.count }
+    ensures few { length (frame_leaves shown.now.frame.now) ≤ 2 ^ 32 }
 {
     let prims = prims_of(shown.frame);
     let mut tile = new_tile(alloc, shown.frame)?;
@@ -172,7 +172,7 @@ fn picture(
     requires grid { tile.grid ≡ frame_grid frame.now.camera.width frame.now.camera.height frame.now.options }
     requires some { ShowsSome frame.now.camera tile }
     ensures shadings { IfOk result (λ d. d.shadings ≡ shadings) }
-    ensures bytes { IfOk result (λ d. (a : AcceptedValue) → Shows tile (fragments frame.now.camera (micropolygons a frame.now)) → d.header.items ++ d.band.items ≡ picture_bytes a frame.now) }
+    ensures bytes { IfOk result (λ d. (a : AcceptedValue) → Shows tile (fragments frame.now.camera (micropolygons a frame.now)) → d.header ++ d.band ≡ picture_bytes a frame.now) }
 {
     let view = frame.camera.view();
     let (width, height) = (view.width, view.height);
@@ -186,22 +186,26 @@ fn picture(
     };
     let pixels = pixels(alloc, &film, tile)?;
     Ok(PictureBytes {
-        header: header(alloc, width, height, &film.options)?,
-        band: band_bytes(alloc, &film.options, &pixels)?,
+        header: List(header(alloc, width, height, &film.options)?),
+        band: List(band_bytes(alloc, &film.options, &pixels)?),
         shadings,
     })
 }
 
-/// The picture of a frame, shaded by the shop's set, or `NoMemory`: the header and the pixels of a PPM. The count of the shop grows by one
-/// for each leaf, and must leave room for those of a frame.
+/// The picture of a frame, shaded by the shop's set: the header and the pixels of a PPM. Each leaf of the frame is shaded once, so the count of
+/// the shop rises by as many as the frame has leaves, at most 2^32; it must leave room for them.
+///
+/// At `NoMemory` the shop keeps its set, and its count has risen by one for each leaf that was shaded, by at most as many as the frame has
+/// leaves. So the shop can draw again, with what is left of its count.
 pub fn draw(alloc: Global, shop: &mut Shop, shown: &FrameIn<'_>) -> Result<PictureBytes, NoMemory>
     requires fits { Fits (set_value shop.old.set) shown.now.scene.now.uses }
     requires variables { All (FitsPrim (set_value shop.old.set) shown.now.scene.now.uses) shown.now.frame.now.prims }
     requires count { shop.old.count + 2 ^ 32 ≤ 2 ^ 62 }
     ensures shadings { IfOk result (λ d. d.shadings ≡ length (frame_leaves shown.now.frame.now)) }
-    ensures picture { IfOk result (λ d. d.header.items ++ d.band.items ≡ picture_bytes (shaded_by shown.now.scene.now shop.old) shown.now.frame.now) }
-    ensures set { OnOk result (shop.new.set ≡ shop.old.set) }
-    ensures count { OnOk result (shop.new.count ≤ shop.old.count + 2 ^ 32) }
+    ensures picture { IfOk result (λ d. d.header ++ d.band ≡ picture_bytes (shaded_by shown.now.scene.now shop.old) shown.now.frame.now) }
+    ensures set { shop.new.set ≡ shop.old.set }
+    ensures count { RisesBy (length (frame_leaves shown.now.frame.now)) result shop.old.count shop.new.count }
+    ensures few { length (frame_leaves shown.now.frame.now) ≤ 2 ^ 32 }
 {
     let before = shop.count();
     let tile = tile_in(alloc, shop, shown)?;

@@ -1,3 +1,4 @@
+// A frame at its place in a scene.
 ghost use Rattle.std.specs.Prelude.{◌≡◌, Some, slice_get};
 
 use scene::{Frame, Scene};

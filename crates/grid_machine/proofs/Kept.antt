@@ -34,7 +34,7 @@ runs_kept ls ls' a b d n x k e h = subst (λ fs. StepsBy fs a.registers.frame n 
 
 -- a machine with another mask is as whole
 pub kept_live : (a b : Machine) (l : Mask) → Kept a b → Kept a record b { live = l }
-kept_live a b l k = record { frame = k.frame; whole = record { full = k.whole.full; scratch = k.whole.scratch; own = k.whole.own } }
+kept_live a b l k = record { frame = k.frame; whole = record { full = k.whole.full; sized = k.whole.sized; scratch = k.whole.scratch; own = k.whole.own } }
 
 abbrev pub NearBy : Bor Frame → State → State → Type 0
 NearBy f g h = Near f.now.places f.now.varying.now f.now.uniform.now g h

@@ -20,3 +20,4 @@ mod Lit
 mod Answering
 mod Fitting
 mod Level
+mod Roomy

@@ -6,3 +6,5 @@ pub mod Asked
 pub mod Fits
 pub mod Lamps
 pub mod Ended
+pub mod Rooms
+pub mod Prepared

@@ -1,5 +1,5 @@
 -- For private contracts alone: the machine's state as that of the code, and when two states are the same on a grid.
-use Rattle.std.specs.Prelude.{◌≡◌, ℕ, ◌+◌, ◌*◌, ◌<◌, ◌==◌, suc, Bool, true, false, List, [], ◌∷◌, length, get_or, cond}
+use Rattle.std.specs.Prelude.{◌≡◌, ℕ, ◌+◌, ◌*◌, ◌<◌, ◌≤◌, ◌==◌, suc, Bool, true, false, List, [], ◌∷◌, length, get_or, cond}
 use Rattle.std.specs.List.{list_all}
 use Rattle.std.specs.Borrow.{Bor}
 use Rattle.sl_ast.specs.declared.kinds.LightStmt.{LightStmt}
@@ -21,6 +21,7 @@ use Rattle.grid_code.specs.Masked.{Asked, State, Ground, turns_of, masked}
 use Rattle.grid_code.specs.Names.{name_at, lit_at}
 use Rattle.place_values.specs.Cells.{value_of, is_known}
 use Rattle.place_rows.specs.Banks.{size, held}
+use Rattle.grid_machine.specs.Rooms.{counted}
 use Rattle.grid_machine.specs.declared.frame.Frame.{Frame}
 use Rattle.grid_machine.specs.declared.machine.Machine.{Machine}
 use Rattle.grid_machine.specs.declared.machine.Registers.{Registers}
@@ -75,11 +76,17 @@ pub record Near (c : ℕ) (varying uniform : RegisterSet) (g h : State) : Type 0
 
 -- there is a value for each register and each place
 pub record Full (r : Registers) : Type 0 where
-  pub rows : (s : Shape) → size r.rows s ≡ length (numbers_of r.frame.now.varying.now s) * r.frame.now.places
-  pub shared : (s : Shape) → size r.shared s ≡ length (numbers_of r.frame.now.uniform.now s)
+  pub rows : (s : Shape) → length (numbers_of r.frame.now.varying.now s) * r.frame.now.places ≤ size r.rows s
+  pub shared : (s : Shape) → length (numbers_of r.frame.now.uniform.now s) ≤ size r.shared s
+
+-- and they are as many as the frame tells
+pub record Sized (r : Registers) : Type 0 where
+  pub rows : (s : Shape) → size r.rows s ≡ counted r.frame.now.room.rows s
+  pub shared : (s : Shape) → size r.shared s ≡ counted r.frame.now.room.shared s
 
 pub record Whole (m : Machine) : Type 0 where
   pub full : Full m.registers
+  pub sized : Sized m.registers
   pub scratch : (s : Shape) → size m.scratch s ≡ m.registers.frame.now.places
   pub own : length m.own ≡ 289
 

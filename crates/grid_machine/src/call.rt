@@ -10,11 +10,10 @@ ghost use Rattle.grid_code.specs.Uses.{has};
 ghost use Rattle.grid_code.specs.View.{block_of};
 ghost use Rattle.grid_machine.specs.Asked.{IsLight, asked_all};
 ghost use Rattle.grid_machine.specs.Ended.{ended, ended_under};
-ghost use Rattle.grid_machine.specs.Fits.{OfCode};
-ghost use Rattle.grid_machine.specs.Lamps.{asked_by};
+ghost use Rattle.grid_machine.specs.Prepared.{IsPrepared, AreInputs};
 ghost use Rattle.place_rows.specs.Layout.{row_length};
 ghost use Rattle.grid_machine.specs.Run.{rows_of, uniform_inputs, varying_inputs, written_names, lines_given, fresh, begun, Leaves};
-ghost use Rattle.grid_machine.specs.State.{state_of, lines_of, NearIn, Whole};
+ghost use Rattle.grid_machine.specs.State.{state_of, NearIn, Whole};
 
 use crate::inputs::{Inputs, Lights};
 use crate::lamps::Lamps;
@@ -25,6 +24,7 @@ use crate::unloading::clear;
 use bumpalo::Bump;
 use fixed_math::NoMemory;
 use grid_code::Code;
+use place_rows::{Dark, Illumination};
 use sl_ast::SlKind;
 
 // The elements of a row that holds so many points.
@@ -36,9 +36,9 @@ fn row_of(places: usize) -> usize
 }
 
 // Runs code on a fresh machine with what was prepared.
-fn execute(
+fn execute<I: Illumination>(
     machine: &mut Machine,
-    lamps: &mut Lamps,
+    lamps: &mut I,
     prepared: &Prepared,
     code: &Code,
     inputs: &Inputs,
@@ -46,19 +46,13 @@ fn execute(
     requires whole { Whole machine.old }
     requires fresh { NearIn machine.old fresh (state_of machine.old) }
     requires frame { machine.old.registers.frame.now ≡ prepared.now.frame.now }
-    requires lamps { lamps.old.places ≡ prepared.now.frame.now.places }
-    requires lines { lines_of prepared.now.frame.now ≡ lines_given inputs.now.columns inputs.now.rows code.now.params inputs.now.uniforms.now }
-    requires code { OfCode prepared.now.frame.now code.now inputs.now.uniforms.now }
-    requires spaces { prepared.now.frame.now.setting.spaces.now ≡ inputs.now.spaces.now }
-    requires uniforms { prepared.now.uniforms.now ≡ uniform_inputs code.now.kind code.now.params }
-    requires varyings { prepared.now.varyings.now ≡ varying_inputs code.now.kind code.now.params }
-    requires shapes { map shape_of_value inputs.now.uniforms.now ≡ map register_shape (uniform_inputs code.now.kind code.now.params) }
-    requires raws { (k : ℕ) → IsRaw (get_or inputs.now.varyings.now k (pos 0)) }
-    requires long { length inputs.now.varyings.now ≡ rows_of (varying_inputs code.now.kind code.now.params) * row_length (inputs.now.columns * inputs.now.rows) }
+    requires lamps { (I.lighting lamps.old).places ≡ prepared.now.frame.now.places }
+    requires prepared { IsPrepared prepared.now code.now inputs.now }
+    requires inputs { AreInputs code.now inputs.now }
     ensures whole { Whole machine.new }
     ensures has { list_all (has machine.new.registers.frame.now.varying.now machine.new.registers.frame.now.uniform.now) (written_names code.now.kind) ≡ true }
     ensures places { machine.new.registers.frame.now.places ≡ inputs.now.columns * inputs.now.rows }
-    ensures near { NearIn machine.new (ended_under (map asked_by lamps.old.lamps.items) code.now inputs.now) (state_of machine.new) }
+    ensures near { NearIn machine.new (ended_under (I.lighting lamps.old).lights code.now inputs.now) (state_of machine.new) }
 {
     machine.execute(
         code,
@@ -69,6 +63,37 @@ fn execute(
         inputs.varyings,
         row_of(prepared.frame.places),
     );
+}
+
+// Runs code on a fresh machine with what was prepared, under lights. Without any there is nothing to lay out for them.
+fn execute_lit<'a, L: Lights>(
+    machine: &mut Machine,
+    arena: &'a Bump,
+    lights: &'a L,
+    prepared: &Prepared<'a>,
+    code: &Code,
+    inputs: &Inputs,
+) -> Result<(), NoMemory>
+    requires whole { Whole machine.old }
+    requires fresh { NearIn machine.old fresh (state_of machine.old) }
+    requires frame { machine.old.registers.frame.now ≡ prepared.now.frame.now }
+    requires lights { (n : ℕ) → n < L.many lights.now → IsLight (L.codes lights.now n) (L.params lights.now n) }
+    requires prepared { IsPrepared prepared.now code.now inputs.now }
+    requires inputs { AreInputs code.now inputs.now }
+    ensures whole { OnOk result (Whole machine.new) }
+    ensures has { OnOk result (list_all (has machine.new.registers.frame.now.varying.now machine.new.registers.frame.now.uniform.now) (written_names code.now.kind) ≡ true) }
+    ensures places { OnOk result (machine.new.registers.frame.now.places ≡ inputs.now.columns * inputs.now.rows) }
+    ensures near { let l = lights.now in OnOk result (NearIn machine.new (ended code.now inputs.now (L.many l) (L.places l) (L.codes l) (L.params l)) (state_of machine.new)) }
+{
+    if lights.count() == 0 {
+        let places = prepared.frame.places;
+        let mut dark = Dark { places, many: 0 };
+        execute(machine, &mut dark, prepared, code, inputs);
+    } else {
+        let mut lamps = Lamps::new(arena, prepared.frame, lights)?;
+        execute(machine, &mut lamps, prepared, code, inputs);
+    }
+    Ok(())
 }
 
 // Writes what a machine holds of the registers that a kind writes into rows of raws.
@@ -104,12 +129,11 @@ fn unload<'a, L: Lights>(
     requires out { length out.old ≡ rows_of (written_names code.now.kind) * row_length (inputs.now.columns * inputs.now.rows) }
     requires clear { (k : ℕ) → IsRaw (get_or out.old k (pos 0)) }
     ensures raws { (k : ℕ) → IsRaw (get_or out.new k (pos 0)) }
-    ensures values { OnOk result (Leaves code.now.kind (inputs.now.columns * inputs.now.rows) out.new (ended code.now inputs.now (L.many lights.now) (L.places lights.now) (L.codes lights.now) (L.params lights.now))) }
+    ensures values { let l = lights.now in OnOk result (Leaves code.now.kind (inputs.now.columns * inputs.now.rows) out.new (ended code.now inputs.now (L.many l) (L.places l) (L.codes l) (L.params l))) }
 {
     let prepared = prepare(code, arena, inputs)?;
-    let mut lamps = Lamps::new(arena, prepared.frame, lights)?;
     let mut machine = Machine::fresh(arena, prepared.frame)?;
-    execute(&mut machine, &mut lamps, &prepared, code, inputs);
+    execute_lit(&mut machine, arena, lights, &prepared, code, inputs)?;
     leave(&machine, code.kind, out);
     Ok(())
 }
@@ -117,8 +141,8 @@ fn unload<'a, L: Lights>(
 /// Runs the code of a surface, a displacement or a volume on a grid, with whole budgets and all places live. The rows of `out` take the
 /// variables that the kind writes, in order; or else memory is wanting, and they hold any raws in range.
 ///
-/// Each light has a machine of its own in the arena. Whenever sums and statements over lights ask a light, its code runs at all places at
-/// once, from registers anew, with whole budgets and no lights.
+/// The lights have one machine in the arena, with room for the code of each. Whenever sums and statements over lights ask a light, its code
+/// runs there at all places at once, from registers anew, with whole budgets and no lights.
 pub fn run<L: Lights>(
     code: &Code,
     arena: &Bump,
@@ -135,7 +159,7 @@ pub fn run<L: Lights>(
     requires varyings { length inputs.now.varyings.now ≡ rows_of (varying_inputs code.now.kind code.now.params) * row_length (inputs.now.columns * inputs.now.rows) }
     requires out { length out.old ≡ rows_of (written_names code.now.kind) * row_length (inputs.now.columns * inputs.now.rows) }
     ensures raws { (k : ℕ) → IsRaw (get_or out.new k (pos 0)) }
-    ensures values { OnOk result (Leaves code.now.kind (inputs.now.columns * inputs.now.rows) out.new (masked (block_of code.now.nodes) record { lines = lines_given inputs.now.columns inputs.now.rows code.now.params inputs.now.uniforms.now; spaces = inputs.now.spaces.now; lights = asked_all (lines_given inputs.now.columns inputs.now.rows code.now.params inputs.now.uniforms.now) (inputs.now.columns * inputs.now.rows) (L.many lights.now) (L.places lights.now) (L.codes lights.now) (L.params lights.now) } (inputs.now.columns * inputs.now.rows) 65536 (begun code.now.kind code.now.params (inputs.now.columns * inputs.now.rows) inputs.now.uniforms.now inputs.now.varyings.now))) }
+    ensures values { let l = lights.now in OnOk result (Leaves code.now.kind (inputs.now.columns * inputs.now.rows) out.new (ended code.now inputs.now (L.many l) (L.places l) (L.codes l) (L.params l))) }
 {
     clear(out);
     unload(code, arena, inputs, lights, out)

@@ -1,7 +1,9 @@
 // What a run of code does not change.
 ghost use Rattle.std.specs.Prelude.{◌≡◌, ◌*◌, ◌≤◌, IfOk};
 ghost use Rattle.grid_code.specs.Uses.{rows_in};
+ghost use Rattle.grid_machine.specs.Rooms.{HasRoom};
 
+use crate::room::Room;
 use bumpalo::Bump;
 use bumpalo::collections::into_bump_slice;
 use fixed_math::{NoMemory, Num};
@@ -18,7 +20,8 @@ pub struct Steps {
     pub dv: Num,
 }
 
-/// The lines of a grid with the steps of its parameters, what values stand in, and the registers of the code.
+/// The lines of a grid with the steps of its parameters, what values stand in, the registers of the code, and the room that a machine has for
+/// their values: that of this code, or the greater one of a machine that other code uses too.
 #[derive(Clone, Copy)]
 pub struct Frame<'a> {
     pub columns: usize,
@@ -28,6 +31,7 @@ pub struct Frame<'a> {
     pub setting: Setting<'a>,
     pub varying: &'a RegisterSet,
     pub uniform: &'a RegisterSet,
+    pub room: Room,
     pub ghost shape: { places ≡ columns * rows },
     pub ghost some: { 4 ≤ places },
     pub ghost wide: { 2 ≤ columns },
@@ -36,20 +40,24 @@ pub struct Frame<'a> {
     pub ghost low: { rows ≤ 17 },
     pub ghost few: { places ≤ 289 },
     pub ghost small: { rows_in varying.now ≤ 65536 },
+    pub ghost roomy: { HasRoom varying.now uniform.now places room },
 }
 
 impl<'a> Frame<'a> {
     ghost use Rattle.grid_machine.specs.Fits.{OfCode};
     ghost use Rattle.grid_machine.specs.State.{lines_of};
 
-    /// The same grid for other code with its values and its spaces, or want of memory.
+    /// The same grid for other code with its values, its spaces and some room for it, or want of memory.
     pub fn for_code(
         &self,
         arena: &'a Bump,
         code: &'a Code,
         values: &'a [Value],
         spaces: &'a Spaces,
+        room: Room,
     ) -> Result<&'a Frame<'a>, NoMemory>
+        requires { HasRoom code.now.varying code.now.uniform self.now.places room }
+        ensures room { IfOk result (λ f. f.now.room ≡ room) }
         ensures code { IfOk result (λ f. OfCode f.now code.now values.now) }
         ensures lines { IfOk result (λ f. lines_of f.now ≡ lines_of self.now) }
         ensures places { IfOk result (λ f. f.now.places ≡ self.now.places) }
@@ -64,6 +72,7 @@ impl<'a> Frame<'a> {
             setting: Setting { texts, spaces },
             varying: &code.varying,
             uniform: &code.uniform,
+            room,
         };
         frame.keep(arena)
     }

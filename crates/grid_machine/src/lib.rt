@@ -25,6 +25,7 @@ mod operand;
 mod preparing;
 mod reading;
 mod reset;
+mod room;
 mod step;
 mod sums;
 mod unloading;

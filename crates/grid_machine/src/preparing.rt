@@ -4,12 +4,14 @@ ghost use Rattle.sl_ast.specs.declared.typed.Value.TheVariants as values;
 ghost use Rattle.builtins.specs.Values.{number_of};
 ghost use Rattle.grid_machine.specs.Fits.{OfCode};
 ghost use Rattle.grid_machine.specs.Run.{uniform_inputs, varying_inputs, lines_given};
+ghost use Rattle.grid_machine.specs.Prepared.{lines_from};
 ghost use Rattle.grid_machine.specs.State.{lines_of};
 
 use crate::frame::{Frame, Steps};
 use crate::given::{given, inputs as registers_of, steps as step_names};
 use crate::inputs::Inputs;
 use crate::leaving::{number_at, places as places_of};
+use crate::room::Room;
 use bumpalo::Bump;
 use bumpalo::collections::into_bump_slice;
 use fixed_math::NoMemory;
@@ -34,15 +36,16 @@ fn frame_of<'a>(
     requires columns { (2 ≤ inputs.now.columns) × (inputs.now.columns ≤ 17) }
     requires rows { (2 ≤ inputs.now.rows) × (inputs.now.rows ≤ 17) }
     requires first { first_step < usize.MAX }
-    ensures lines { IfOk result (λ f. lines_of f.now ≡ record { columns = inputs.now.columns; rows = inputs.now.rows; du = number_of (get_or inputs.now.uniforms.now first_step (values.Number (pos 0))); dv = number_of (get_or inputs.now.uniforms.now (first_step + 1) (values.Number (pos 0))) }) }
+    ensures lines { IfOk result (λ f. lines_of f.now ≡ lines_from inputs.now first_step) }
     ensures code { IfOk result (λ f. OfCode f.now code.now inputs.now.uniforms.now) }
     ensures spaces { IfOk result (λ f. f.now.setting.spaces.now ≡ inputs.now.spaces.now) }
 {
     let texts = into_bump_slice(gather(arena, inputs.uniforms, code)?);
+    let places = places_of(inputs.columns, inputs.rows);
     let frame = Frame {
         columns: inputs.columns,
         rows: inputs.rows,
-        places: places_of(inputs.columns, inputs.rows),
+        places,
         steps: Steps {
             du: number_at(inputs.uniforms, first_step),
             dv: number_at(inputs.uniforms, first_step + 1),
@@ -53,6 +56,7 @@ fn frame_of<'a>(
         },
         varying: &code.varying,
         uniform: &code.uniform,
+        room: Room::of_code(code, places),
     };
     frame.keep(arena)
 }

@@ -1,10 +1,25 @@
 // Machines that begin anew.
-ghost use Rattle.std.specs.Prelude.{◌≡◌, ℕ, get_or, length};
+ghost use Rattle.std.specs.Prelude.{◌≡◌};
 ghost use Rattle.grid_machine.specs.Run.{fresh};
 ghost use Rattle.grid_machine.specs.State.{state_of, NearIn, Whole, Kept};
 
+use crate::frame::Frame;
 use crate::machine::Machine;
+use crate::room::{counts_of, counts_once};
 use place_rows::Mask;
+
+impl<'a> Machine<'a> {
+    /// Takes up another frame with as much room.
+    pub fn take_up(&mut self, frame: &'a Frame<'a>)
+        requires whole { Whole self.old }
+        requires room { frame.now.room ≡ self.old.registers.frame.now.room }
+        requires places { frame.now.places ≡ self.old.registers.frame.now.places }
+        ensures whole { Whole self.new }
+        ensures frame { self.new.registers.frame.now ≡ frame.now }
+    {
+        self.registers.frame = frame;
+    }
+}
 
 impl Machine<'_> {
     /// Makes registers 0, budgets whole, and all places live.
@@ -13,8 +28,15 @@ impl Machine<'_> {
         ensures kept { Kept self.old self.new }
         ensures near { NearIn self.old fresh (state_of self.new) }
     {
-        self.registers.rows.clear();
-        self.registers.shared.clear();
+        let frame = self.registers.frame;
+        let rows = counts_of(frame.varying, frame.places);
+        self.registers
+            .rows
+            .clear(rows.numbers, rows.triples, rows.words);
+        let shared = counts_once(frame.uniform);
+        self.registers
+            .shared
+            .clear(shared.numbers, shared.triples, shared.words);
         self.own = [65536; 289];
         self.turns = 65536;
         self.live = Mask::full();

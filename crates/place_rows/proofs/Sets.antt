@@ -18,11 +18,6 @@ set_next xs n x d f l is h i b =
     (λ ne. get_or-set_other xs n i x d ne ∙ h i (omega arith))
     (cases_eq i n)
 
-pub past_end : {A : Type 0} (xs : List A) (i : ℕ) (d : A) → length xs ≤ i → get_or xs i d ≡ d
-past_end [] i d l = refl
-past_end (x ∷ xs) zero d l = absurd (omega arith)
-past_end (x ∷ xs) (suc i) d l = past_end xs i d (omega arith)
-
 or_true : (a b : Bool) → b ≡ true → (a || b) ≡ true
 or_true true b h = refl
 or_true false b h = h

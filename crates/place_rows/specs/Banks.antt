@@ -18,6 +18,12 @@ zero_cell shapes.Number = Number (pos 0)
 zero_cell shapes.Triple = Triple origin
 zero_cell shapes.Word = Word 0
 
+-- of three numbers that of a shape
+abbrev pub of_shape : ℕ → ℕ → ℕ → Shape → ℕ
+of_shape numbers triples words shapes.Number = numbers
+of_shape numbers triples words shapes.Triple = triples
+of_shape numbers triples words shapes.Word = words
+
 -- how many values of a shape there are
 abbrev pub size : Bank → Shape → ℕ
 size b shapes.Number = length b.numbers.items

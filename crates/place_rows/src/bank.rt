@@ -3,7 +3,7 @@ ghost use Rattle.std.specs.Prelude.{◌≡◌, ℕ, ◌+◌, ◌*◌, ◌&&◌, 
 ghost use Rattle.builtins.specs.declared.shape.Shape.{Shape as AnyShape};
 ghost use Rattle.builtins.specs.declared.shape.Shape.TheVariants as shapes;
 ghost use Rattle.grid_code.specs.Masked.{same_shape};
-ghost use Rattle.place_rows.specs.Banks.{size, held, shape_of_cell, zero_cell, IsStored, IsRowStored};
+ghost use Rattle.place_rows.specs.Banks.{size, held, of_shape, shape_of_cell, zero_cell, IsStored, IsRowStored};
 
 use builtins::Shape;
 use bumpalo::Bump;
@@ -32,12 +32,13 @@ fn store_row<T: Copy>(rows: &mut [T], register: usize, live: &[bool], row: &[T])
     }
 }
 
-// Makes all elements that one.
-fn make_all<T: Copy>(row: &mut [T], value: T)
+// Makes the first elements that one.
+fn make_first<T: Copy>(row: &mut [T], count: usize, value: T)
+    requires { count ≤ length row.old }
     ensures long { length row.new ≡ length row.old }
-    ensures each { (i : ℕ) → get_or row.new i value ≡ value }
+    ensures each { (d : T) (i : ℕ) → i < count → get_or row.new i d ≡ value }
 {
-    for n in 0..row.len() {
+    for n in 0..count {
         row[n] = value;
     }
 }
@@ -103,13 +104,16 @@ impl Bank<'_> {
         }
     }
 
-    /// Makes all values 0.
-    pub fn clear(&mut self)
+    /// Makes that many first values of each shape 0.
+    pub fn clear(&mut self, numbers: usize, triples: usize, words: usize)
+        requires numbers { numbers ≤ size self.old shapes.Number }
+        requires triples { triples ≤ size self.old shapes.Triple }
+        requires words { words ≤ size self.old shapes.Word }
         ensures size { (s : AnyShape) → size self.new s ≡ size self.old s }
-        ensures zero { (s : AnyShape) (k : ℕ) → held self.new s k ≡ zero_cell s }
+        ensures zero { (s : AnyShape) (k : ℕ) → k < of_shape numbers triples words s → held self.new s k ≡ zero_cell s }
     {
-        make_all(&mut self.numbers, Num::sat(0));
-        make_all(&mut self.triples, Vec3::default());
-        make_all(&mut self.words, 0);
+        make_first(&mut self.numbers, numbers, Num::sat(0));
+        make_first(&mut self.triples, triples, Vec3::default());
+        make_first(&mut self.words, words, 0);
     }
 }

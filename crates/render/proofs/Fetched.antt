@@ -8,7 +8,7 @@ use Rattle.outside.specs.declared.library.Fetch.{Fetch}
 use Rattle.outside.specs.declared.library.Fetch.TheVariants.{Whole, TooLong}
 use Rattle.acceptance.specs.declared.refusal.Refusal.{Refusal}
 use Rattle.acceptance.specs.declared.refusal.FileId.TheVariants.{Scene}
-use Rattle.acceptance.specs.declared.code.Code.TheVariants.{M10}
+use Rattle.acceptance.specs.declared.code.FaultCode.TheVariants.{M10}
 use Rattle.acceptance.specs.Causes.{At, cause_in}
 use Rattle.acceptance.specs.Answers.{Because}
 use Rattle.acceptance.proofs.Fetched.{whole_held, long}

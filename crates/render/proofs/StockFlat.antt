@@ -13,8 +13,8 @@ use Rattle.displace_shade.specs.Constant.{constant_tree, IsFlat}
 use Rattle.displace_shade.proofs.Flat.{constant_law}
 use Rattle.acceptance.specs.Causes.{Cause, Reads, unless, cause_in, or_else}
 use Rattle.acceptance.specs.Shaders.{file_of, text_with, tree_of_text, shader_tree, without, distinct, use_name, shader_names, shaders_refused}
-use Rattle.acceptance.specs.Bindings.{uses_refused}
-use Rattle.acceptance.specs.PrimBindings.{prims_refused}
+use Rattle.acceptance.specs.UseFit.{uses_refused}
+use Rattle.acceptance.specs.PrimFit.{prims_refused}
 use Rattle.acceptance.specs.Set.{tree_in, trees_of, place_or, place_in, values_in, set_of, accepted_with}
 use Rattle.acceptance.specs.Accepting.{scene_of_text, accepted_scene, bound_scene}
 use Rattle.acceptance.specs.Reading.{is_among}

@@ -31,3 +31,8 @@ second_goes (Err e) a b x y z p q = tt
 pub second_stops : {T E : Type 0} (r : Result T E) (a b : List ℕ) (x y z : Option (List Written)) → PutsAll a x y → OnErr r (PutsFront b y z) → OnErr r (PutsFront (a ++ b) x z)
 second_stops (Ok u) a b x y z p q = tt
 second_stops (Err e) a b x y z p q = (length a + q.0, subst (λ bs. PutsAll bs x z) (front_of_both a b q.0) (puts-more a (take q.0 b) x y z p q.1))
+
+-- where the first one is stopped, a front of both is put
+pub first_refused : {T E : Type 0} (r : Result T E) (a b : List ℕ) (x y : Option (List Written)) → PutsFront a x y → OnErr r (PutsFront (a ++ b) x y)
+first_refused (Ok u) a b x y p = tt
+first_refused (Err e) a b x y p = first_stops a b x y p

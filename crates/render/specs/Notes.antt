@@ -2,7 +2,7 @@
 use Rattle.std.specs.Prelude.{ℕ, List, ◌++◌, codes, decimal}
 use Rattle.acceptance.specs.declared.refusal.FileId.{FileId}
 use Rattle.acceptance.specs.declared.refusal.FileId.TheVariants.{Scene, Shader}
-use Rattle.acceptance.specs.Codes.{text_of}
+use Rattle.acceptance.specs.Codes.{code_text}
 use Rattle.acceptance.specs.Causes.{Cause, Missing, At}
 use Rattle.command_line.specs.Command.{Source, File, Demo}
 use Rattle.acceptance.specs.Shaders.{file_of}
@@ -23,4 +23,4 @@ scene_name (Demo count) = codes "demo"
 -- the line of the notes, where the scene has this name
 abbrev pub note_of : List ℕ → Cause → List ℕ
 note_of scene (Missing file) = file ++ codes ": missing\n"
-note_of scene (At file line code) = fault_line (name_in_notes scene file) line (text_of code)
+note_of scene (At file line code) = fault_line (name_in_notes scene file) line (code_text code)

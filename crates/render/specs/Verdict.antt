@@ -3,7 +3,7 @@ use Rattle.std.specs.Prelude.{ℕ, List, [], ◌∷◌, ◌++◌, length, Option
 use Rattle.outside.specs.Library.{Files, held_as}
 use Rattle.outside.specs.Frames.{Picture}
 use Rattle.stock.specs.Demo.{demo}
-use Rattle.acceptance.specs.declared.code.Code.TheVariants.{M10}
+use Rattle.acceptance.specs.declared.code.FaultCode.TheVariants.{M10}
 use Rattle.command_line.specs.declared.command.Action.{Action}
 use Rattle.command_line.specs.declared.command.Action.TheVariants.{Render}
 use Rattle.acceptance.specs.declared.refusal.FileId.TheVariants.{Scene}

@@ -5,7 +5,7 @@ ghost use Rattle.outside.specs.Asked.{AsksFront};
 ghost use Rattle.shader_binding.specs.Sets.{Fits};
 ghost use Rattle.acceptance.specs.Accepting.{scene_of_text, accepted, asked_for_scene};
 ghost use Rattle.acceptance.specs.Answers.{Gives};
-ghost use Rattle.acceptance.specs.PrimBindings.{FitPrims};
+ghost use Rattle.acceptance.specs.PrimFit.{FitPrims};
 ghost use Rattle.acceptance.specs.Reading.{tree_read};
 ghost use Rattle.acceptance.specs.declared.refusal.Refusal.TheVariants.{ReadFault};
 ghost use Rattle.displace_shade.specs.Shop.{set_value};

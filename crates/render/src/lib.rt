@@ -7,7 +7,7 @@ mod load;
 mod program;
 mod write;
 
-pub use acceptance::{Code, FileId, Refusal};
+pub use acceptance::{FaultCode, FileId, Refusal};
 pub use accepted::{Accepted, accept};
 pub use laws::stock_constant_law;
 pub use program::run;

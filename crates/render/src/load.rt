@@ -5,7 +5,7 @@ ghost use Rattle.outside.specs.Library.{Files, held_as};
 ghost use Rattle.outside.specs.Asked.{AsksAll, AsksFront};
 ghost use Rattle.render.specs.Verdict.{text_of_held, text_of_source, names_of_source, verdict_of_command, asked_for_command};
 ghost use Rattle.shader_binding.specs.Sets.{Fits};
-ghost use Rattle.acceptance.specs.PrimBindings.{FitPrims};
+ghost use Rattle.acceptance.specs.PrimFit.{FitPrims};
 ghost use Rattle.displace_shade.specs.Shop.{set_value};
 ghost use Rattle.command_line.specs.Command.{source_view, command_view};
 ghost use Rattle.render.specs.Notes.{scene_name};
@@ -13,7 +13,7 @@ ghost use Rattle.render.specs.Answers.{GivesText, LoadsNamed};
 ghost use Rattle.acceptance.specs.declared.refusal.Refusal.TheVariants.{ReadFault};
 
 use crate::accepted::{Accepted, accept};
-use acceptance::{Code, Refusal, in_scene};
+use acceptance::{FaultCode, Refusal, in_scene};
 use command_line::{SceneCommand, Source};
 use outside::{Fetch, Library};
 use std::alloc::Global;
@@ -40,14 +40,14 @@ fn fetch_text<L: Library>(
     match library.fetch(name, MOST_BYTES, &mut bytes) {
         Fetch::Whole => Ok(Some(bytes)),
         Fetch::Missing => Ok(None),
-        Fetch::TooLong => Err(in_scene(Code::M10, 1)),
+        Fetch::TooLong => Err(in_scene(FaultCode::M10, 1)),
         Fetch::Failed => Err(Refusal::ReadFault),
         Fetch::NoMemory => Err(Refusal::NoMemory),
     }
 }
 
 // The text of a scene, or none where the library lacks it.
-fn text_of<L: Library>(
+fn scene_text<L: Library>(
     alloc: Global,
     library: &mut L,
     source: &Source<'_>,
@@ -81,7 +81,7 @@ pub(crate) fn load<L: Library>(
     ensures later { L.faults library.old ≤ L.faults library.new }
     ensures read { IsErrOf result ReadFault → Rose (L.faults library.old) (L.faults library.new) }
 {
-    match text_of(alloc, library, &command.source)? {
+    match scene_text(alloc, library, &command.source)? {
         None => Ok(None),
         Some(text) => Ok(Some(accept(alloc, &text, library)?)),
     }

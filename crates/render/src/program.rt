@@ -13,7 +13,7 @@ ghost use Rattle.render.specs.declared.program.Answer.TheVariants.{Usage, Refuse
 ghost use Rattle.acceptance.specs.declared.refusal.Refusal.TheVariants.{ReadFault};
 
 use crate::load::load;
-use crate::write::{Stop, write_pictures};
+use crate::write::{Unwritten, write_pictures};
 use acceptance::{FileId, Refusal};
 use command_line::{Action, SceneCommand, Source, scene_command};
 use fixed_math::NoMemory;
@@ -70,8 +70,8 @@ fn obeyed<L: Library, O: FrameSink, N: Notes>(
             command.options.stats,
         ) {
             Ok(()) => Answer::Done,
-            Err(Stop::Stopped) => Answer::WriteFault,
-            Err(Stop::NoMemory) => Answer::NoMemory,
+            Err(Unwritten::SinkFailed) => Answer::WriteFault,
+            Err(Unwritten::NoMemory) => Answer::NoMemory,
         },
     }
 }

@@ -5,13 +5,13 @@ ghost use Rattle.outside.specs.Frames.{Adds, AddsPart, AddsFront, whole, PutsAll
 ghost use Rattle.shader_binding.specs.Sets.{Fits};
 ghost use Rattle.shader_binding.specs.Bindings.{FitsPrim};
 ghost use Rattle.displace_shade.specs.Shop.{set_value};
-ghost use Rattle.acceptance.specs.PrimBindings.{FitPrims};
+ghost use Rattle.acceptance.specs.PrimFit.{FitPrims};
 ghost use Rattle.frame_picture.specs.Pictures.{picture_bytes};
 ghost use Rattle.render.specs.Pictures.{picture_of, frames_of};
 ghost use Rattle.render.specs.Summary.{summary_line, summary_of};
 ghost use Rattle.frame_picture.specs.Shopped.{shaded_by};
 ghost use Rattle.render.specs.Answers.{accepted_in};
-ghost use Rattle.render.specs.declared.write.Stop.TheVariants.{Stopped};
+ghost use Rattle.render.specs.declared.write.Unwritten.TheVariants.{SinkFailed};
 
 use crate::accepted::Accepted;
 use displace_shade::Shop;
@@ -23,9 +23,9 @@ use std::alloc::Global;
 
 /// Why not all frames were written.
 #[derive(Clone, Copy)]
-pub(crate) enum Stop {
+pub(crate) enum Unwritten {
     /// The sink failed.
-    Stopped,
+    SinkFailed,
     NoMemory,
 }
 
@@ -33,12 +33,12 @@ pub(crate) enum Stop {
 fn put_picture<O: FrameSink>(frames: &mut O, picture: &PictureBytes) -> Result<(), Failed>
     requires { O.is_open frames.old ≡ true }
     ensures open { O.is_open frames.new ≡ true }
-    ensures ok { OnOk result (PutsAll (picture.now.header.items ++ picture.now.band.items) (O.written frames.old) (O.written frames.new)) }
-    ensures err { OnErr result (PutsFront (picture.now.header.items ++ picture.now.band.items) (O.written frames.old) (O.written frames.new)) }
+    ensures ok { OnOk result (PutsAll (picture.now.header ++ picture.now.band) (O.written frames.old) (O.written frames.new)) }
+    ensures err { OnErr result (PutsFront (picture.now.header ++ picture.now.band) (O.written frames.old) (O.written frames.new)) }
     ensures cause { HasCause (O.faults frames.old) (O.faults frames.new) result }
 {
-    put_all(frames, &picture.header)?;
-    put_all(frames, &picture.band)
+    put_all(frames, picture.header.as_slice())?;
+    put_all(frames, picture.band.as_slice())
 }
 
 // Writes a picture as one frame, from its begin to its end.
@@ -49,8 +49,8 @@ fn write_picture<O: FrameSink>(
 ) -> Result<(), Failed>
     requires { O.is_open frames.old ≡ false }
     ensures closed { OnOk result (O.is_open frames.new ≡ false) }
-    ensures ok { OnOk result (Adds (whole (record { name = name.now; bytes = picture.now.header.items ++ picture.now.band.items }) ∷ []) (O.written frames.old) (O.written frames.new)) }
-    ensures err { OnErr result (AddsPart (record { name = name.now; bytes = picture.now.header.items ++ picture.now.band.items }) (O.written frames.old) (O.written frames.new)) }
+    ensures ok { OnOk result (Adds (whole (record { name = name.now; bytes = picture.now.header ++ picture.now.band }) ∷ []) (O.written frames.old) (O.written frames.new)) }
+    ensures err { OnErr result (AddsPart (record { name = name.now; bytes = picture.now.header ++ picture.now.band }) (O.written frames.old) (O.written frames.new)) }
     ensures cause { HasCause (O.faults frames.old) (O.faults frames.new) result }
 {
     frames.begin(name)?;
@@ -82,7 +82,7 @@ fn finished(
     requires fits { Fits (set_value shop.old.set) shown.now.scene.now.uses }
     requires variables { All (FitsPrim (set_value shop.old.set) shown.now.scene.now.uses) shown.now.frame.now.prims }
     requires count { shop.old.count + 2 ^ 32 ≤ 2 ^ 62 }
-    ensures picture { IfOk result (λ d. d.0.header.items ++ d.0.band.items ≡ picture_bytes (shaded_by shown.now.scene.now shop.old) shown.now.frame.now) }
+    ensures picture { IfOk result (λ d. d.0.header ++ d.0.band ≡ picture_bytes (shaded_by shown.now.scene.now shop.old) shown.now.frame.now) }
     ensures summary { IfOk result (λ d. option_map string_bytes d.1 ≡ summary_of stats shown.now.frame.now) }
     ensures set { OnOk result (shop.new.set ≡ shop.old.set) }
     ensures count { OnOk result (shop.new.count ≤ shop.old.count + 2 ^ 32) }
@@ -111,24 +111,24 @@ fn write_frame<O: FrameSink, N: Notes>(
     shop: &mut Shop,
     shown: &FrameIn<'_>,
     stats: bool,
-) -> Result<(), Stop>
+) -> Result<(), Unwritten>
     requires closed { O.is_open sink.old ≡ false }
     requires fits { Fits (set_value shop.old.set) shown.now.scene.now.uses }
     requires variables { All (FitsPrim (set_value shop.old.set) shown.now.scene.now.uses) shown.now.frame.now.prims }
     requires count { shop.old.count + 2 ^ 32 ≤ 2 ^ 62 }
-    ensures closed { result ≢ Err Stopped → O.is_open sink.new ≡ false }
+    ensures closed { result ≢ Err SinkFailed → O.is_open sink.new ≡ false }
     ensures ok { OnOk result (Adds (whole (picture_of (shaded_by shown.now.scene.now shop.old) shown.now.frame.now) ∷ []) (O.written sink.old) (O.written sink.new)) }
     ensures err { OnErr result (AddsPart (picture_of (shaded_by shown.now.scene.now shop.old) shown.now.frame.now) (O.written sink.old) (O.written sink.new)) }
     ensures later { O.faults sink.old ≤ O.faults sink.new }
-    ensures failed { IsErrOf result Stopped → Rose (O.faults sink.old) (O.faults sink.new) }
+    ensures failed { IsErrOf result SinkFailed → Rose (O.faults sink.old) (O.faults sink.new) }
     ensures set { OnOk result (shop.new.set ≡ shop.old.set) }
     ensures count { OnOk result (shop.new.count ≤ shop.old.count + 2 ^ 32) }
 {
     let Ok((picture, line)) = finished(alloc, shop, shown, stats) else {
-        return Err(Stop::NoMemory);
+        return Err(Unwritten::NoMemory);
     };
     let Ok(()) = write_picture(sink, name_of(shown.frame), &picture) else {
-        return Err(Stop::Stopped);
+        return Err(Unwritten::SinkFailed);
     };
     tell(notes, &line);
     Ok(())
@@ -149,17 +149,17 @@ fn write_frames<O: FrameSink, N: Notes>(
     shop: &mut Shop,
     scene: &Scene,
     stats: bool,
-) -> Result<(), Stop>
+) -> Result<(), Unwritten>
     requires closed { O.is_open sink.old ≡ false }
     requires fits { Fits (set_value shop.old.set) scene.now.uses }
     requires variables { FitPrims (set_value shop.old.set) scene.now.uses scene.now.frames }
     requires few { length scene.now.frames ≤ 1000 }
     requires count { shop.old.count ≡ 0 }
-    ensures closed { result ≢ Err Stopped → O.is_open sink.new ≡ false }
+    ensures closed { result ≢ Err SinkFailed → O.is_open sink.new ≡ false }
     ensures ok { OnOk result (Adds (map whole (frames_of (shaded_by scene.now shop.old))) (O.written sink.old) (O.written sink.new)) }
     ensures err { OnErr result (AddsFront (frames_of (shaded_by scene.now shop.old)) (O.written sink.old) (O.written sink.new)) }
     ensures later { O.faults sink.old ≤ O.faults sink.new }
-    ensures failed { IsErrOf result Stopped → Rose (O.faults sink.old) (O.faults sink.new) }
+    ensures failed { IsErrOf result SinkFailed → Rose (O.faults sink.old) (O.faults sink.new) }
 {
     let frames = frames_in(scene);
     for index in 0..frames.len() {
@@ -181,16 +181,16 @@ pub(crate) fn write_pictures<O: FrameSink, N: Notes>(
     notes: &mut N,
     accepted: Accepted,
     stats: bool,
-) -> Result<(), Stop>
+) -> Result<(), Unwritten>
     requires closed { O.is_open sink.old ≡ false }
     requires fits { Fits (set_value accepted.set) accepted.scene.uses }
     requires variables { FitPrims (set_value accepted.set) accepted.scene.uses accepted.scene.frames }
     requires few { length accepted.scene.frames ≤ 1000 }
-    ensures closed { result ≢ Err Stopped → O.is_open sink.new ≡ false }
+    ensures closed { result ≢ Err SinkFailed → O.is_open sink.new ≡ false }
     ensures ok { OnOk result (Adds (map whole (frames_of (accepted_in accepted))) (O.written sink.old) (O.written sink.new)) }
     ensures err { OnErr result (AddsFront (frames_of (accepted_in accepted)) (O.written sink.old) (O.written sink.new)) }
     ensures later { O.faults sink.old ≤ O.faults sink.new }
-    ensures failed { IsErrOf result Stopped → Rose (O.faults sink.old) (O.faults sink.new) }
+    ensures failed { IsErrOf result SinkFailed → Rose (O.faults sink.old) (O.faults sink.new) }
 {
     let scene = accepted.scene;
     let mut shop = Shop::new(alloc, accepted.set);

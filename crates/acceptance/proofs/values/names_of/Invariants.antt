@@ -1,5 +1,5 @@
 use Rattle.std.proofs.Common.{◌≡◌, map, take}
-use Rattle.acceptance.specs.RequestBindings.{param_name}
+use Rattle.acceptance.specs.RequestFit.{param_name}
 use Rattle.acceptance.proofs.values.names_of.Given as goal
 
 abbrev pub invariant-loop-param : goal.invariant-loop-param

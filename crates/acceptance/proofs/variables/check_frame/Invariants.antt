@@ -1,6 +1,6 @@
 use Rattle.std.proofs.Common.{◌≡◌, drop, map}
 use Rattle.acceptance.specs.Causes.{first_of}
-use Rattle.acceptance.specs.PrimBindings.{prim_refused}
+use Rattle.acceptance.specs.PrimFit.{prim_refused}
 use Rattle.acceptance.specs.Reading.{tree_read}
 use Rattle.acceptance.proofs.variables.check_frame.Given as goal
 

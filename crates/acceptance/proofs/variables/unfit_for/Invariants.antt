@@ -1,6 +1,6 @@
 use Rattle.std.proofs.Common.{◌≡◌, drop}
 use Rattle.std.specs.List.{list_any}
-use Rattle.acceptance.specs.PrimBindings.{binds_unfit}
+use Rattle.acceptance.specs.PrimFit.{binds_unfit}
 use Rattle.acceptance.specs.Reading.{tree_read}
 use Rattle.acceptance.proofs.variables.unfit_for.Given as goal
 

@@ -8,14 +8,15 @@ use Rattle.displace_shade.proofs.BoundLaws.{use_there, of_volume}
 use Rattle.displace_shade.proofs.leaves.dimmed_by.Goals as goal
 
 pub bound_at-bound-requires-clause-there : goal.bound_at-bound-requires-clause-there
-bound_at-bound-requires-clause-there c = use_there c.args.shaders.now.uses.now requested.Volume c.args.n c.requires.use_of
+bound_at-bound-requires-clause-there c = use_there c.args.shaders.now.uses.now requested.Volume c.args.n c.requires.serves.use_of
 
-pub dim-requires-clause-kind : goal.dim-requires-clause-kind
-dim-requires-clause-kind c = of_volume _ (c.bound_at-bound.ensures.kind requested.Volume c.requires.use_of)
+pub dim-requires-clause-on : goal.dim-requires-clause-on
+dim-requires-clause-on c = record {
+  runs = c.bound_at-bound.ensures.runs;
+  variables = c.requires.serves.variables (bound_value c.bound_at-bound.result) c.bound_at-bound.ensures.found;
+  kind = of_volume _ (c.bound_at-bound.ensures.kind requested.Volume c.requires.serves.use_of);
+}
 
 pub returns-clause-hold : goal.returns-clause-hold
 returns-clause-hold c =
     if_ok c.dim.result _ _ (λ e h f k. subst (λ o. Hold c.args.leaf.now e (shaded_by c.args.leaf.now o [] f)) (sym c.bound_at-bound.ensures.found) (h f k)) c.dim.ensures.hold
-
-pub dim-requires-clause-variables : goal.dim-requires-clause-variables
-dim-requires-clause-variables c = c.requires.variables (bound_value c.bound_at-bound.result) c.bound_at-bound.ensures.found

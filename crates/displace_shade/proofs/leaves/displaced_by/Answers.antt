@@ -8,14 +8,15 @@ use Rattle.displace_shade.proofs.BoundLaws.{use_there, of_displacement}
 use Rattle.displace_shade.proofs.leaves.displaced_by.Goals as goal
 
 pub bound_at-bound-requires-clause-there : goal.bound_at-bound-requires-clause-there
-bound_at-bound-requires-clause-there c = use_there c.args.shaders.now.uses.now requested.Displacement c.args.n c.requires.use_of
+bound_at-bound-requires-clause-there c = use_there c.args.shaders.now.uses.now requested.Displacement c.args.n c.requires.serves.use_of
 
-pub displace-requires-clause-kind : goal.displace-requires-clause-kind
-displace-requires-clause-kind c = of_displacement _ (c.bound_at-bound.ensures.kind requested.Displacement c.requires.use_of)
+pub displace-requires-clause-on : goal.displace-requires-clause-on
+displace-requires-clause-on c = record {
+  runs = c.bound_at-bound.ensures.runs;
+  variables = c.requires.serves.variables (bound_value c.bound_at-bound.result) c.bound_at-bound.ensures.found;
+  kind = of_displacement _ (c.bound_at-bound.ensures.kind requested.Displacement c.requires.serves.use_of);
+}
 
 pub returns-clause-hold : goal.returns-clause-hold
 returns-clause-hold c =
     if_ok c.displace.result _ _ (λ e h f k. subst (λ o. Hold c.args.leaf.now e (shaded_by c.args.leaf.now o [] f)) (sym c.bound_at-bound.ensures.found) (h f k)) c.displace.ensures.hold
-
-pub displace-requires-clause-variables : goal.displace-requires-clause-variables
-displace-requires-clause-variables c = c.requires.variables (bound_value c.bound_at-bound.result) c.bound_at-bound.ensures.found

@@ -1,19 +1,17 @@
 use Rattle.std.proofs.Common.{[], sym, subst}
-use Rattle.scene.specs.Scene.{IsSomeUse}
 use Rattle.scene.specs.declared.uses.ShaderKind.TheVariants as requested
 use Rattle.displace_shade.specs.Diced.{Hold}
 use Rattle.displace_shade.specs.Shaded.{diced_names, shaded_by}
 use Rattle.shader_binding.specs.Sets.{bound_for}
-use Rattle.shader_binding.specs.Bindings.{FitSomeVariables}
 use Rattle.displace_shade.specs.Shop.{set_value}
+use Rattle.displace_shade.specs.Stages.{ServesIf}
 use Rattle.displace_shade.proofs.Stages.{placed_hold, near_sized}
 use Rattle.displace_shade.proofs.leaves.placed.Goals as goal
 
-pub displaced-requires-clause-use_of : goal.displaced-requires-clause-use_of
-displaced-requires-clause-use_of c = subst (λ n. IsSomeUse c.args.shaders.now.uses.now requested.Displacement n) (sym c.displacement.ensures) c.requires.uses.displacement
-
-pub displaced-requires-clause-variables : goal.displaced-requires-clause-variables
-displaced-requires-clause-variables c = subst (λ n. FitSomeVariables (set_value c.args.shaders.now.set.now) c.args.shaders.now.uses.now n c.args.leaf.now.prim.vars) (sym c.displacement.ensures) c.requires.variables.displacement
+pub displaced-requires-clause-serves : goal.displaced-requires-clause-serves
+displaced-requires-clause-serves c =
+    let h = c.requires.serves in
+    subst (ServesIf c.args.shaders.now c.args.leaf.now requested.Displacement) (sym c.displacement.ensures) record { fits = h.fits; use_of = h.uses.displacement; variables = h.variables.displacement }
 
 pub returns-clause-sized : goal.returns-clause-sized
 returns-clause-sized c =

@@ -1,4 +1,4 @@
-use Rattle.std.proofs.Common.{length, refl, sym, ap, ◌∙◌, subst}
+use Rattle.std.proofs.Common.{arith, length, refl, sym, ap, ◌∙◌, subst}
 use Rattle.sl_ast.specs.Names.{is_light}
 use Rattle.sl_ast.specs.TreeView.{tree_of}
 use Rattle.place_rows.specs.Layout.{row_length}
@@ -15,23 +15,19 @@ use Rattle.displace_shade.proofs.Laws.{volume_law, volume_shapes, volume_long}
 use Rattle.displace_shade.proofs.BoundLaws.{bound_values, bound_rows, rows_given, uniforms_given}
 use Rattle.displace_shade.proofs.runs.dim.Goals as goal
 
-pub left_behind-requires-clause-kind : goal.left_behind-requires-clause-kind
-left_behind-requires-clause-kind c = ap is_light (c.requires.runs.code.kind ∙ c.requires.kind)
-
-pub left_behind-requires-clause-written : goal.left_behind-requires-clause-written
-left_behind-requires-clause-written c = ap (λ k. rows_of (written_names k)) (c.requires.runs.code.kind ∙ c.requires.kind)
-
-pub left_behind-requires-clause-uniforms : goal.left_behind-requires-clause-uniforms
-left_behind-requires-clause-uniforms c =
+pub left_behind-requires : goal.left_behind-requires
+left_behind-requires c =
     let b = c.args.bound.now in
-    let r = c.requires.runs in
-    volume_shapes c.args.leaf.now (tree_of b.compiled.now.tree) b.compiled.now.code b.values.now b.space.now r.code (values_at c.args.leaf.now (tree_of b.compiled.now.tree).params b.values.now) (bound_values b r c.args.leaf.now c.requires.variables) (param_rows c.args.leaf.now (tree_of b.compiled.now.tree).params b.compiled.now.code.params b.values.now) (bound_rows b r c.args.leaf.now c.requires.variables) c.requires.kind c.in_ok-uniforms.uniforms.items (c.in_ok-uniforms.ensures ∙ uniforms_given c.args.leaf.now b _ c.parameters_of-parameters.ensures)
-
-pub left_behind-requires-clause-rows : goal.left_behind-requires-clause-rows
-left_behind-requires-clause-rows c =
-    let b = c.args.bound.now in
-    let r = c.requires.runs in
-    volume_long c.args.leaf.now (tree_of b.compiled.now.tree) b.compiled.now.code b.values.now b.space.now r.code (values_at c.args.leaf.now (tree_of b.compiled.now.tree).params b.values.now) (bound_values b r c.args.leaf.now c.requires.variables) (param_rows c.args.leaf.now (tree_of b.compiled.now.tree).params b.compiled.now.code.params b.values.now) (bound_rows b r c.args.leaf.now c.requires.variables) c.requires.kind c.args.variables.now c.in_ok-rows.rows.now (λ f h. subst (λ rs. AreRows (point_count c.args.leaf.now) (λ i. varying_values Volume b.compiled.now.code.params (values_at c.args.leaf.now (tree_of b.compiled.now.tree).params b.values.now i) (f i)) rs) (sym (c.in_ok-rows.ensures ∙ ap (λ params. volume_rows params c.args.variables.now) (rows_given c.args.leaf.now b _ c.parameters_of-parameters.ensures))) (volume_given c.args.leaf.now c.args.variables.now f b.compiled.now.code.params (values_at c.args.leaf.now (tree_of b.compiled.now.tree).params b.values.now) (param_rows c.args.leaf.now (tree_of b.compiled.now.tree).params b.compiled.now.code.params b.values.now) (bound_rows b r c.args.leaf.now c.requires.variables) h c.requires.sized.points c.requires.sized.sights c.requires.coloured.colours c.requires.coloured.opacities))
+    let r = c.requires.on.runs in
+    record {
+      kind = ap is_light (r.code.kind ∙ c.requires.on.kind);
+      written = ap (λ k. rows_of (written_names k)) (r.code.kind ∙ c.requires.on.kind);
+      lamps = (λ k d m. absurd (omega arith));
+      uniforms =
+          volume_shapes c.args.leaf.now (tree_of b.compiled.now.tree) b.compiled.now.code b.values.now b.space.now r.code (values_at c.args.leaf.now (tree_of b.compiled.now.tree).params b.values.now) (bound_values b r c.args.leaf.now c.requires.on.variables) (param_rows c.args.leaf.now (tree_of b.compiled.now.tree).params b.compiled.now.code.params b.values.now) (bound_rows b r c.args.leaf.now c.requires.on.variables) c.requires.on.kind c.in_ok-uniforms.uniforms.items (c.in_ok-uniforms.ensures ∙ uniforms_given c.args.leaf.now b _ c.parameters_of-parameters.ensures);
+      rows =
+          volume_long c.args.leaf.now (tree_of b.compiled.now.tree) b.compiled.now.code b.values.now b.space.now r.code (values_at c.args.leaf.now (tree_of b.compiled.now.tree).params b.values.now) (bound_values b r c.args.leaf.now c.requires.on.variables) (param_rows c.args.leaf.now (tree_of b.compiled.now.tree).params b.compiled.now.code.params b.values.now) (bound_rows b r c.args.leaf.now c.requires.on.variables) c.requires.on.kind c.args.variables.now c.in_ok-rows.rows.now (λ f h. subst (λ rs. AreRows (point_count c.args.leaf.now) (λ i. varying_values Volume b.compiled.now.code.params (values_at c.args.leaf.now (tree_of b.compiled.now.tree).params b.values.now i) (f i)) rs) (sym (c.in_ok-rows.ensures ∙ ap (λ params. volume_rows params c.args.variables.now) (rows_given c.args.leaf.now b _ c.parameters_of-parameters.ensures))) (volume_given c.args.leaf.now c.args.variables.now f b.compiled.now.code.params (values_at c.args.leaf.now (tree_of b.compiled.now.tree).params b.values.now) (param_rows c.args.leaf.now (tree_of b.compiled.now.tree).params b.compiled.now.code.params b.values.now) (bound_rows b r c.args.leaf.now c.requires.on.variables) h c.requires.sized.points c.requires.sized.sights c.requires.coloured.colours c.requires.coloured.opacities));
+    }
 
 pub returns-clause-coloured : goal.returns-clause-coloured
 returns-clause-coloured c =
@@ -44,8 +40,8 @@ returns-clause-coloured c =
 pub returns-clause-hold : goal.returns-clause-hold
 returns-clause-hold c =
     let b = c.args.bound.now in
-    let r = c.requires.runs in
+    let r = c.requires.on.runs in
     let n = point_count c.args.leaf.now in
-    λ f h. volume_law c.args.leaf.now (tree_of b.compiled.now.tree) b.compiled.now.code b.values.now b.space.now r.code (values_at c.args.leaf.now (tree_of b.compiled.now.tree).params b.values.now) (bound_values b r c.args.leaf.now c.requires.variables) (param_rows c.args.leaf.now (tree_of b.compiled.now.tree).params b.compiled.now.code.params b.values.now) (bound_rows b r c.args.leaf.now c.requires.variables) c.requires.kind b.compiled.now.code.placed c.args.variables.now _ c.in_ok-uniforms.uniforms.items c.in_ok-rows.rows.now c.in_ok-left.ensures.out
-    (λ f h. subst (λ rs. AreRows (point_count c.args.leaf.now) (λ i. varying_values Volume b.compiled.now.code.params (values_at c.args.leaf.now (tree_of b.compiled.now.tree).params b.values.now i) (f i)) rs) (sym (c.in_ok-rows.ensures ∙ ap (λ params. volume_rows params c.args.variables.now) (rows_given c.args.leaf.now b _ c.parameters_of-parameters.ensures))) (volume_given c.args.leaf.now c.args.variables.now f b.compiled.now.code.params (values_at c.args.leaf.now (tree_of b.compiled.now.tree).params b.values.now) (param_rows c.args.leaf.now (tree_of b.compiled.now.tree).params b.compiled.now.code.params b.values.now) (bound_rows b r c.args.leaf.now c.requires.variables) h c.requires.sized.points c.requires.sized.sights c.requires.coloured.colours c.requires.coloured.opacities)) (c.in_ok-uniforms.ensures ∙ uniforms_given c.args.leaf.now b _ c.parameters_of-parameters.ensures) c.in_ok-left.ensures.left
+    λ f h. volume_law c.args.leaf.now (tree_of b.compiled.now.tree) b.compiled.now.code b.values.now b.space.now r.code (values_at c.args.leaf.now (tree_of b.compiled.now.tree).params b.values.now) (bound_values b r c.args.leaf.now c.requires.on.variables) (param_rows c.args.leaf.now (tree_of b.compiled.now.tree).params b.compiled.now.code.params b.values.now) (bound_rows b r c.args.leaf.now c.requires.on.variables) c.requires.on.kind b.compiled.now.code.placed c.args.variables.now _ c.in_ok-uniforms.uniforms.items c.in_ok-rows.rows.now c.in_ok-left.ensures.out
+    (λ f h. subst (λ rs. AreRows (point_count c.args.leaf.now) (λ i. varying_values Volume b.compiled.now.code.params (values_at c.args.leaf.now (tree_of b.compiled.now.tree).params b.values.now i) (f i)) rs) (sym (c.in_ok-rows.ensures ∙ ap (λ params. volume_rows params c.args.variables.now) (rows_given c.args.leaf.now b _ c.parameters_of-parameters.ensures))) (volume_given c.args.leaf.now c.args.variables.now f b.compiled.now.code.params (values_at c.args.leaf.now (tree_of b.compiled.now.tree).params b.values.now) (param_rows c.args.leaf.now (tree_of b.compiled.now.tree).params b.compiled.now.code.params b.values.now) (bound_rows b r c.args.leaf.now c.requires.on.variables) h c.requires.sized.points c.requires.sized.sights c.requires.coloured.colours c.requires.coloured.opacities)) (c.in_ok-uniforms.ensures ∙ uniforms_given c.args.leaf.now b _ c.parameters_of-parameters.ensures) c.in_ok-left.ensures.left
     c.in_ok-left.ensures.in_first c.in_ok-left.ensures.in_second refl refl refl f h

@@ -1,4 +1,4 @@
-use Rattle.std.proofs.Common.{length, refl, ap, ◌∙◌, [], ◌∷◌, ◌++◌}
+use Rattle.std.proofs.Common.{arith, length, refl, ap, ◌∙◌, [], ◌∷◌, ◌++◌}
 use Rattle.sl_ast.specs.Names.{is_light}
 use Rattle.sl_ast.specs.TreeView.{tree_of}
 use Rattle.sl_ast.specs.declared.typed.Value.TheVariants.{Number}
@@ -14,23 +14,19 @@ use Rattle.displace_shade.proofs.Laws.{displace_law, displace_shapes, displace_l
 use Rattle.displace_shade.proofs.BoundLaws.{bound_values, bound_rows, rows_given, uniforms_given}
 use Rattle.displace_shade.proofs.runs.displace.Goals as goal
 
-pub left_behind-requires-clause-kind : goal.left_behind-requires-clause-kind
-left_behind-requires-clause-kind c = ap is_light (c.requires.runs.code.kind ∙ c.requires.kind)
-
-pub left_behind-requires-clause-written : goal.left_behind-requires-clause-written
-left_behind-requires-clause-written c = ap (λ k. rows_of (written_names k)) (c.requires.runs.code.kind ∙ c.requires.kind)
-
-pub left_behind-requires-clause-uniforms : goal.left_behind-requires-clause-uniforms
-left_behind-requires-clause-uniforms c =
+pub left_behind-requires : goal.left_behind-requires
+left_behind-requires c =
     let b = c.args.bound.now in
-    let r = c.requires.runs in
-    displace_shapes c.args.leaf.now (tree_of b.compiled.now.tree) b.compiled.now.code b.values.now b.space.now r.code (values_at c.args.leaf.now (tree_of b.compiled.now.tree).params b.values.now) (bound_values b r c.args.leaf.now c.requires.variables) (param_rows c.args.leaf.now (tree_of b.compiled.now.tree).params b.compiled.now.code.params b.values.now) (bound_rows b r c.args.leaf.now c.requires.variables) c.requires.kind c.in_ok-uniforms.uniforms.items (c.in_ok-uniforms.ensures ∙ ap (λ vs. vs ++ Number (lines c.args.leaf.now).du ∷ Number (lines c.args.leaf.now).dv ∷ []) (uniforms_given c.args.leaf.now b _ c.parameters_of-parameters.ensures))
-
-pub left_behind-requires-clause-rows : goal.left_behind-requires-clause-rows
-left_behind-requires-clause-rows c =
-    let b = c.args.bound.now in
-    let r = c.requires.runs in
-    displace_long c.args.leaf.now (tree_of b.compiled.now.tree) b.compiled.now.code b.values.now b.space.now r.code (values_at c.args.leaf.now (tree_of b.compiled.now.tree).params b.values.now) (bound_values b r c.args.leaf.now c.requires.variables) (param_rows c.args.leaf.now (tree_of b.compiled.now.tree).params b.compiled.now.code.params b.values.now) (bound_rows b r c.args.leaf.now c.requires.variables) c.requires.kind c.args.places.now c.args.variables.now c.in_ok-rows.rows.now c.requires.places c.requires.sized (c.in_ok-rows.ensures ∙ ap (λ params. displacement_rows params c.args.places.now c.args.variables.now) (rows_given c.args.leaf.now b _ c.parameters_of-parameters.ensures))
+    let r = c.requires.on.runs in
+    record {
+      kind = ap is_light (r.code.kind ∙ c.requires.on.kind);
+      written = ap (λ k. rows_of (written_names k)) (r.code.kind ∙ c.requires.on.kind);
+      lamps = (λ k d m. absurd (omega arith));
+      uniforms =
+          displace_shapes c.args.leaf.now (tree_of b.compiled.now.tree) b.compiled.now.code b.values.now b.space.now r.code (values_at c.args.leaf.now (tree_of b.compiled.now.tree).params b.values.now) (bound_values b r c.args.leaf.now c.requires.on.variables) (param_rows c.args.leaf.now (tree_of b.compiled.now.tree).params b.compiled.now.code.params b.values.now) (bound_rows b r c.args.leaf.now c.requires.on.variables) c.requires.on.kind c.in_ok-uniforms.uniforms.items (c.in_ok-uniforms.ensures ∙ ap (λ vs. vs ++ Number (lines c.args.leaf.now).du ∷ Number (lines c.args.leaf.now).dv ∷ []) (uniforms_given c.args.leaf.now b _ c.parameters_of-parameters.ensures));
+      rows =
+          displace_long c.args.leaf.now (tree_of b.compiled.now.tree) b.compiled.now.code b.values.now b.space.now r.code (values_at c.args.leaf.now (tree_of b.compiled.now.tree).params b.values.now) (bound_values b r c.args.leaf.now c.requires.on.variables) (param_rows c.args.leaf.now (tree_of b.compiled.now.tree).params b.compiled.now.code.params b.values.now) (bound_rows b r c.args.leaf.now c.requires.on.variables) c.requires.on.kind c.args.places.now c.args.variables.now c.in_ok-rows.rows.now c.requires.places c.requires.sized (c.in_ok-rows.ensures ∙ ap (λ params. displacement_rows params c.args.places.now c.args.variables.now) (rows_given c.args.leaf.now b _ c.parameters_of-parameters.ensures));
+    }
 
 pub returns-clause-sized : goal.returns-clause-sized
 returns-clause-sized c =
@@ -44,8 +40,8 @@ returns-clause-sized c =
 pub returns-clause-hold : goal.returns-clause-hold
 returns-clause-hold c =
     let b = c.args.bound.now in
-    let r = c.requires.runs in
+    let r = c.requires.on.runs in
     let n = point_count c.args.leaf.now in
-    λ f h. displace_law c.args.leaf.now (tree_of b.compiled.now.tree) b.compiled.now.code b.values.now b.space.now r.code (values_at c.args.leaf.now (tree_of b.compiled.now.tree).params b.values.now) (bound_values b r c.args.leaf.now c.requires.variables) (param_rows c.args.leaf.now (tree_of b.compiled.now.tree).params b.compiled.now.code.params b.values.now) (bound_rows b r c.args.leaf.now c.requires.variables) c.requires.kind c.args.places.now c.args.variables.now _ c.in_ok-uniforms.uniforms.items c.in_ok-rows.rows.now c.in_ok-left.ensures.out
+    λ f h. displace_law c.args.leaf.now (tree_of b.compiled.now.tree) b.compiled.now.code b.values.now b.space.now r.code (values_at c.args.leaf.now (tree_of b.compiled.now.tree).params b.values.now) (bound_values b r c.args.leaf.now c.requires.on.variables) (param_rows c.args.leaf.now (tree_of b.compiled.now.tree).params b.compiled.now.code.params b.values.now) (bound_rows b r c.args.leaf.now c.requires.on.variables) c.requires.on.kind c.args.places.now c.args.variables.now _ c.in_ok-uniforms.uniforms.items c.in_ok-rows.rows.now c.in_ok-left.ensures.out
     c.requires.places c.requires.sized (c.in_ok-uniforms.ensures ∙ ap (λ vs. vs ++ Number (lines c.args.leaf.now).du ∷ Number (lines c.args.leaf.now).dv ∷ []) (uniforms_given c.args.leaf.now b _ c.parameters_of-parameters.ensures)) (c.in_ok-rows.ensures ∙ ap (λ params. displacement_rows params c.args.places.now c.args.variables.now) (rows_given c.args.leaf.now b _ c.parameters_of-parameters.ensures)) c.in_ok-left.ensures.left
     c.in_ok-left.ensures.in_first c.in_ok-left.ensures.in_second refl refl refl f h

@@ -11,13 +11,13 @@ use Rattle.displace_shade.proofs.LampLaws.{lamp_runs}
 use Rattle.displace_shade.proofs.runs.run_into.Goals as goal
 
 pub run-requires-clause-kind : goal.run-requires-clause-kind
-run-requires-clause-kind c = subst (λ k. is_light k.kind ≡ false) (sym c.code-code.ensures.code) c.requires.kind
+run-requires-clause-kind c = subst (λ k. is_light k.kind ≡ false) (sym c.code-code.ensures.code) c.requires.given.kind
 
 pub run-requires-clause-lights : goal.run-requires-clause-lights
-run-requires-clause-lights c = λ n l. lamp_runs c.args.leaf.now _ (c.requires.lamps n _ l)
+run-requires-clause-lights c = λ n l. lamp_runs c.args.leaf.now _ (c.requires.given.lamps n _ l)
 
 pub run-requires-clause-uniforms : goal.run-requires-clause-uniforms
-run-requires-clause-uniforms c = subst (λ k. map shape c.args.uniforms.now ≡ map register_shape (uniform_inputs k.kind k.params)) (sym c.code-code.ensures.code) c.requires.uniforms
+run-requires-clause-uniforms c = subst (λ k. map shape c.args.uniforms.now ≡ map register_shape (uniform_inputs k.kind k.params)) (sym c.code-code.ensures.code) c.requires.given.uniforms
 
 pub run-requires-clause-raws : goal.run-requires-clause-raws
 run-requires-clause-raws c = c.requires.small
@@ -25,7 +25,7 @@ run-requires-clause-raws c = c.requires.small
 pub run-requires-clause-varyings : goal.run-requires-clause-varyings
 run-requires-clause-varyings c =
     read_long (λ k. rows_of (varying_inputs k.kind k.params)) c.code-code.result.now c.args.bound.now.compiled.now.code c.columns.result (columns c.args.leaf.now) c.rows.result (rows c.args.leaf.now) (length c.args.raws.now) c.code-code.ensures.code c.columns.ensures.value c.rows.ensures.value
-    c.requires.rows
+    c.requires.given.rows
 
 pub run-requires-clause-out : goal.run-requires-clause-out
 run-requires-clause-out c =

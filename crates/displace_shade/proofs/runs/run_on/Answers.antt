@@ -1,7 +1,7 @@
 use Rattle.std.proofs.Common.{◌≡◌, ◌*◌, length, refl, sym, ap, ◌∙◌, subst}
 use Rattle.place_rows.specs.Layout.{row_length}
 use Rattle.grid_variables.specs.Places.{point_count}
-use Rattle.displace_shade.specs.Lamps.{IsLeft}
+use Rattle.displace_shade.specs.Lamps.{IsGiven, IsLeft}
 use Rattle.displace_shade.specs.Shop.{bound_value}
 use Rattle.displace_shade.proofs.runs.run_on.Goals as goal
 
@@ -11,8 +11,8 @@ run_into-requires-clause-spaces c = c.in_ok-spaces.ensures ∙ c.spaces_of.ensur
 pub run_into-requires-clause-small : goal.run_into-requires-clause-small
 run_into-requires-clause-small c = c.in_ok-raws.ensures.small
 
-pub run_into-requires-clause-rows : goal.run_into-requires-clause-rows
-run_into-requires-clause-rows c = ap (λ xs. length xs) c.in_ok-raws.ensures.value ∙ c.requires.rows
+pub run_into-requires-clause-given : goal.run_into-requires-clause-given
+run_into-requires-clause-given c = subst (IsGiven c.args.leaf.now c.args.bound.now c.args.lamps.now c.args.uniforms.now) (sym c.in_ok-raws.ensures.value) c.requires
 
 pub run_into-requires-clause-out : goal.run_into-requires-clause-out
 run_into-requires-clause-out c =

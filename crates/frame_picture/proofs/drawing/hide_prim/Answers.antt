@@ -26,6 +26,7 @@ loop-leaf-init c =
       grid = refl;
       parts = subst (PartsOf n) (sym all) (leaves_are_parts n d);
       set = refl;
+      least = omega arith;
       count = ap (λ ps. c.args.shop.now.count + length ps) all;
     }
 
@@ -67,7 +68,8 @@ loop-leaf-preserved c =
           c.args.tile.now old new c.loop-leaf.invariant.hides c.in-Some.ensures.leaf more;
       grid = c.hide_leaf.ensures.grid ∙ c.loop-leaf.invariant.grid;
       parts = parts.1;
-      set = c.in_ok-hide_leaf.ensures.set ∙ c.loop-leaf.invariant.set;
+      set = c.hide_leaf.ensures.set ∙ c.loop-leaf.invariant.set;
+      least = omega (arith, c.loop-leaf.invariant.least, c.in_ok-hide_leaf.ensures.count);
       count = omega (arith, some, c.loop-leaf.invariant.count, c.in_ok-hide_leaf.ensures.count);
     }
 

@@ -1,4 +1,4 @@
-use Rattle.std.proofs.Common.{◌≡◌, ◌+◌, length}
+use Rattle.std.proofs.Common.{◌≡◌, ◌≤◌, ◌+◌, length}
 use Rattle.bound_split.specs.Leaves.{pending}
 use Rattle.frame_picture.specs.Pictures.{decide, prim_leaves, leaf_micropolygons, prim_micropolygons}
 use Rattle.frame_picture.specs.Shopped.{shaded_by}
@@ -15,6 +15,7 @@ invariant-loop-leaf l =
       grid : l.tile.grid ≡ l.initial.tile.grid;
       parts : PartsOf l.number (pending (decide f.camera l.prim) l.walk);
       set : l.shop.set ≡ l.initial.shop.set;
+      least : l.initial.shop.count ≤ l.shop.count;
       count : l.shop.count + length (pending (decide f.camera l.prim) l.walk) ≡ l.initial.shop.count + length (prim_leaves f l.number l.prim);
     }
 

@@ -1,6 +1,7 @@
 use Rattle.std.proofs.Common.{◌≡◌, ◌<◌, Some, All, take, ap, sym, ◌∙◌, subst, List, length, arith}
 use Rattle.std.specs.Prelude.{slice_get}
-use Rattle.std.proofs.lemmas.List.{take_all}
+use Rattle.std.proofs.lemmas.Result.{err_from_is_err_and}
+use Rattle.std.proofs.lemmas.List.{take_all, length-take}
 use Rattle.std.proofs.lemmas.List.Elements.{All-get_or}
 use Rattle.std.proofs.lemmas.Option.{slice_get-get_or}
 use Rattle.scene.specs.Scene.{PrimValue}
@@ -8,12 +9,12 @@ use Rattle.shader_binding.specs.Sets.{Fits}
 use Rattle.shader_binding.specs.Bindings.{FitsPrim}
 use Rattle.displace_shade.specs.Shop.{set_value}
 use Rattle.displace_shade.specs.declared.set.ShaderSet.{ShaderSet}
-use Rattle.frame_picture.specs.Shopped.{shaded_by}
+use Rattle.frame_picture.specs.Shopped.{shaded_by, RisesBy}
 use Rattle.hider.specs.Fragments.{fragments}
 use Rattle.hider.specs.Tiles.{Shows}
-use Rattle.frame_picture.specs.Pictures.{prim_micropolygons, micropolygons}
+use Rattle.frame_picture.specs.Pictures.{prim_micropolygons, micropolygons, frame_leaves}
 use Rattle.frame_picture.specs.Sampled.{ShowsMore, prims_micropolygons}
-use Rattle.frame_picture.proofs.Hiding.{prims-next, counts-next, few-next}
+use Rattle.frame_picture.proofs.Hiding.{prims-next, counts-next, counts-refused, few_frame, few_all}
 use Rattle.frame_picture.proofs.drawing.tile_in.Goals as goal
 
 pub hide_prim-requires-clause-fits : goal.hide_prim-requires-clause-fits
@@ -37,8 +38,12 @@ hide_prim-requires-clause-variables c =
 
 pub hide_prim-requires-clause-count : goal.hide_prim-requires-clause-count
 hide_prim-requires-clause-count c =
-    let low : c.loop-number.number < length c.prims_of-prims.result.now = c.loop-number-test.true in
-    omega (arith, low, c.prims_of-prims.ensures.few, c.loop-number.invariant.count, c.loop-number.invariant.few, c.requires.count)
+    let f = c.args.shown.now.frame.now in
+    let prims = c.prims_of-prims.result.now in
+    let low : c.loop-number.number < length prims = c.loop-number-test.true in
+    let few = few_frame f (take c.loop-number.number prims) in
+    let first = length-take c.loop-number.number prims in
+    omega (arith, low, few, first, c.prims_of-prims.ensures.few, c.loop-number.invariant.count, c.requires.count)
 
 pub loop-number-preserved : goal.loop-number-preserved
 loop-number-preserved c =
@@ -54,10 +59,9 @@ loop-number-preserved c =
     record {
       shows = prims-next a f c.prims_of-prims.result.now n p old new c.loop-number-test.true c.index-prims-number.is c.loop-number.invariant.shows more;
       grid = c.hide_prim.ensures.grid ∙ c.loop-number.invariant.grid;
-      set = c.in_ok-hide_prim.ensures.set ∙ c.loop-number.invariant.set;
+      set = c.hide_prim.ensures.set ∙ c.loop-number.invariant.set;
       count = counts-next f c.prims_of-prims.result.now n p c.args.shop.now.count c.loop-number.shop.count c.hide_prim.new.shop.count
           c.loop-number-test.true c.index-prims-number.is c.loop-number.invariant.count c.in_ok-hide_prim.ensures.count;
-      few = few-next f c.prims_of-prims.result.now n p c.loop-number-test.true c.index-prims-number.is c.loop-number.invariant.few;
     }
 
 pub returns-clause-shows : goal.returns-clause-shows
@@ -67,3 +71,22 @@ returns-clause-shows c =
     let prims = c.prims_of-prims.result.now in
     let all : take c.loop-number.number prims ≡ f.prims = take_all c.loop-number.number prims (omega (arith, c.loop-number-test.false)) ∙ c.prims_of-prims.ensures.prims in
     subst (λ ps. Shows c.loop-number.tile (fragments f.camera (prims_micropolygons (shaded_by c.args.shown.now.scene.now c.args.shop.now) f ps))) all c.loop-number.invariant.shows
+
+pub returns-in_err-tile-clause-few : goal.returns-in_err-tile-clause-few
+returns-in_err-tile-clause-few c = few_all c.args.shown.now.frame.now c.prims_of-prims.result.now c.prims_of-prims.ensures.prims c.prims_of-prims.ensures.few
+
+pub returns-in_err-hide_prim-clause-few : goal.returns-in_err-hide_prim-clause-few
+returns-in_err-hide_prim-clause-few c = few_all c.args.shown.now.frame.now c.prims_of-prims.result.now c.prims_of-prims.ensures.prims c.prims_of-prims.ensures.few
+
+pub returns-clause-few : goal.returns-clause-few
+returns-clause-few c = few_all c.args.shown.now.frame.now c.prims_of-prims.result.now c.prims_of-prims.ensures.prims c.prims_of-prims.ensures.few
+
+pub returns-in_err-hide_prim-clause-count : goal.returns-in_err-hide_prim-clause-count
+returns-in_err-hide_prim-clause-count c =
+    let f = c.args.shown.now.frame.now in
+    let p = c.index-prims-number.result in
+    let r = c.from_residual-in_err-hide_prim.result in
+    let e = err_from_is_err_and r c.from_residual-in_err-hide_prim.ensures.1 in
+    subst (λ q. RisesBy (length (frame_leaves f)) q c.args.shop.now.count c.hide_prim.new.shop.count) (sym e.1)
+    (counts-refused f c.prims_of-prims.result.now f.prims c.loop-number.number p c.args.shop.now.count c.loop-number.shop.count c.hide_prim.new.shop.count
+    c.loop-number-test.true c.index-prims-number.is c.prims_of-prims.ensures.prims c.loop-number.invariant.count c.in_err-hide_prim.ensures.count)

@@ -1,4 +1,4 @@
-use Rattle.std.proofs.Common.{◌≡◌, ◌≤◌, ◌+◌, ◌*◌, length, take}
+use Rattle.std.proofs.Common.{◌≡◌, ◌+◌, length, take}
 use Rattle.hider.specs.Fragments.{fragments}
 use Rattle.hider.specs.Tiles.{Shows}
 use Rattle.filter_ppm.specs.Sampled.{frame_grid}
@@ -15,5 +15,4 @@ invariant-loop-number l =
       grid : l.tile.grid ≡ frame_grid f.camera.width f.camera.height f.options;
       set : l.shop.set ≡ l.initial.shop.set;
       count : l.shop.count ≡ l.initial.shop.count + length (leaves_of f (take l.number l.prims));
-      few : length (leaves_of f (take l.number l.prims)) ≤ 65536 * l.number;
     }

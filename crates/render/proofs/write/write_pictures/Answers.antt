@@ -1,7 +1,7 @@
 use Rattle.std.proofs.Common.{sym, subst}
 use Rattle.displace_shade.specs.Shop.{set_value}
 use Rattle.displace_shade.specs.declared.set.ShaderSet.{ShaderSet}
-use Rattle.acceptance.specs.PrimBindings.{FitPrims}
+use Rattle.acceptance.specs.PrimFit.{FitPrims}
 use Rattle.render.proofs.write.write_pictures.Goals as goal
 
 pub write_frames-requires-clause-variables : goal.write_frames-requires-clause-variables

@@ -1,14 +1,15 @@
-use Rattle.std.proofs.Common.{◌++◌, ◌∷◌, [], map, ap, ◌∙◌}
+use Rattle.std.proofs.Common.{◌++◌, ◌∷◌, [], All, map, ap, sym, subst, ◌∙◌}
 use Rattle.std.proofs.lemmas.List.{map-append}
+use Rattle.std.proofs.lemmas.List.Elements.{All-push}
 use Rattle.grid_machine.specs.Asked.{asked}
-use Rattle.grid_machine.specs.Lamps.{places_by, asked_by}
+use Rattle.grid_machine.specs.Lamps.{IsLevel, asked_by}
 use Rattle.grid_machine.specs.State.{lines_of}
 use Rattle.grid_machine.proofs.lamps.Lamps.add.Goals as goal
 
-pub returns-clause-places : goal.returns-clause-places
-returns-clause-places g c =
-    let xs = c.args.lamps.now.items in
-    ap (map places_by) c.in_ok-push.ensures.items ∙ map-append places_by xs (c.in_ok-lamp.lamp ∷ []) ∙ ap (λ p. map places_by xs ++ p ∷ []) c.in_ok-lamp.ensures.places
+pub returns-clause-level : goal.returns-clause-level
+returns-clause-level g c all =
+    let level = IsLevel c.args.grid.now.places c.args.room in
+    subst (All level) (sym c.in_ok-push.ensures.items) (All-push level c.args.lamps.now.items c.in_ok-lamp.lamp all c.in_ok-lamp.ensures.level)
 
 pub returns-clause-asked : goal.returns-clause-asked
 returns-clause-asked g c =

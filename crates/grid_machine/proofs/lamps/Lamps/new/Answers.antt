@@ -1,19 +1,21 @@
-use Rattle.std.proofs.Common.{◌++◌, ◌∷◌, [], ap, ◌∙◌}
-use Rattle.std.specs.Prelude.{◌==◌}
-use Rattle.std.specs.List.{list_all}
-use Rattle.grid_machine.specs.Asked.{asked}
+use Rattle.std.proofs.Common.{ap, ◌∙◌}
+use Rattle.grid_machine.specs.Asked.{asked_all}
 use Rattle.grid_machine.specs.State.{lines_of}
-use Rattle.grid_machine.proofs.Level.{level_more, asked_more}
+use Rattle.grid_machine.proofs.Roomy.{some_lights}
 use Rattle.grid_machine.proofs.lamps.Lamps.new.Goals as goal
 
-pub loop-n-preserved : goal.loop-n-preserved
-loop-n-preserved g c =
+pub first_frame-requires : goal.first_frame-requires
+first_frame-requires g c =
     let grid = c.args.grid.now in
-    let c0 = grid.places in
-    let n = c.loop-n.n in
-    let spaces = g.L.Lights.places c.args.lights.now in
-    let codes = g.L.Lights.codes c.args.lights.now in
-    let values = g.L.Lights.params c.args.lights.now in (
-      ap (list_all (λ p. p == c0)) c.in_ok-add.ensures.places ∙ level_more c0 _ c.loop-n.invariant.0,
-      c.in_ok-add.ensures.asked ∙ ap (λ ls. ls ++ asked (lines_of grid) c0 (spaces n) (codes n) (values n) ∷ []) c.loop-n.invariant.1 ∙ asked_more (lines_of grid) c0 n spaces codes values,
-    )
+    let lights = c.args.lights.now in
+    some_lights (lines_of grid) grid.places (g.L.Lights.many lights) (g.L.Lights.places lights) (g.L.Lights.codes lights) (g.L.Lights.params lights) c.in_ok-lamps.lamps.now c.requires.some c.in_ok-lamps.ensures.lights
+
+pub invariant_of-result : goal.invariant_of-result
+invariant_of-result g c =
+    let level = c.in_ok-lamps.ensures.level in
+    let first = c.first_frame.ensures c.args.grid.now.places c.room_of-room.result level in
+    record {
+      level = level;
+      whole = c.in_ok-machine.ensures.whole;
+      of_room = record { places = ap (λ f. f.places) c.in_ok-machine.ensures.frame ∙ first.0; room = ap (λ f. f.room) c.in_ok-machine.ensures.frame ∙ first.1 };
+    }
