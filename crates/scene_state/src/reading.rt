@@ -1,3 +1,4 @@
+// The scene of a list of requests.
 ghost use Rattle.std.specs.Prelude.{◌≡◌, map, IfOk};
 ghost use Rattle.rib_reader.specs.Reading.{plain};
 ghost use Rattle.scene_state.specs.State.{first_state};

@@ -1,3 +1,4 @@
+// How a statement ends.
 ghost use Rattle.std.specs.Prelude.{◌≡◌};
 ghost use Rattle.sl_evaluation.specs.Signals.{is_break, signal_of};
 
