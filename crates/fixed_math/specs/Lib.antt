@@ -13,4 +13,5 @@ pub mod Names
 pub mod NameTable
 pub mod formers
 pub mod Spots
+pub mod Buckets
 pub mod Edges
