@@ -3,7 +3,7 @@ use Rattle.std.specs.Prelude.{List, map}
 use Rattle.scene.specs.Scene.{FrameValue}
 use Rattle.outside.specs.Frames.{Picture}
 use Rattle.shader_binding.specs.Sets.{AcceptedValue}
-use Rattle.frame_picture.specs.Pictures.{picture_bytes}
+use Rattle.buckets.specs.Pictures.{picture_bytes}
 
 abbrev pub picture_of : AcceptedValue → FrameValue → Picture
 picture_of a f = record { name = f.name; bytes = picture_bytes a f }

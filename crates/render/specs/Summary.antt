@@ -1,7 +1,7 @@
 -- The note that tells what was done for a frame.
 use Rattle.std.specs.Prelude.{ℕ, Bool, true, false, List, ◌++◌, length, codes, decimal, Option, Some, None}
 use Rattle.scene.specs.Scene.{FrameValue}
-use Rattle.frame_picture.specs.Pictures.{frame_leaves}
+use Rattle.buckets.specs.Pictures.{frame_leaves}
 
 -- the line: how many grids were shaded for a frame of that name, and in how many epochs
 abbrev pub summary_line : List ℕ → ℕ → ℕ → List ℕ

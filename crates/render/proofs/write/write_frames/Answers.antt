@@ -10,7 +10,7 @@ use Rattle.displace_shade.specs.Shop.{set_value}
 use Rattle.displace_shade.specs.declared.set.ShaderSet.{ShaderSet}
 use Rattle.acceptance.specs.PrimFit.{FitPrims}
 use Rattle.render.specs.Pictures.{picture_of}
-use Rattle.frame_picture.specs.Shopped.{shaded_by}
+use Rattle.buckets.specs.Shopped.{shaded_by}
 use Rattle.render.proofs.write.write_frames.Goals as goal
 
 pub write_frame-requires-clause-fits : goal.write_frame-requires-clause-fits

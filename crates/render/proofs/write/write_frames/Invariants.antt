@@ -1,7 +1,7 @@
 use Rattle.std.proofs.Common.{◌≡◌, ◌≤◌, ◌*◌, ◌^◌, false, map, take}
 use Rattle.outside.specs.Frames.{whole, Adds}
 use Rattle.render.specs.Pictures.{picture_of}
-use Rattle.frame_picture.specs.Shopped.{shaded_by}
+use Rattle.buckets.specs.Shopped.{shaded_by}
 use Rattle.render.proofs.write.write_frames.Given as goal
 
 abbrev pub invariant-loop-index : goal.invariant-loop-index

@@ -9,13 +9,13 @@ use Rattle.shader_binding.specs.Sets.{Fits}
 use Rattle.shader_binding.specs.Bindings.{FitsPrim}
 use Rattle.displace_shade.specs.Shop.{set_value}
 use Rattle.displace_shade.specs.declared.set.ShaderSet.{ShaderSet}
-use Rattle.frame_picture.specs.Shopped.{shaded_by, RisesBy}
+use Rattle.buckets.specs.Shopped.{shaded_by, RisesBy}
 use Rattle.hider.specs.Fragments.{fragments}
 use Rattle.hider.specs.Tiles.{Shows}
-use Rattle.frame_picture.specs.Pictures.{prim_micropolygons, micropolygons, frame_leaves}
-use Rattle.frame_picture.specs.Sampled.{ShowsMore, prims_micropolygons}
-use Rattle.frame_picture.proofs.Hiding.{prims-next, counts-next, counts-refused, few_frame, few_all}
-use Rattle.frame_picture.proofs.drawing.tile_in.Goals as goal
+use Rattle.buckets.specs.Pictures.{prim_micropolygons, micropolygons, frame_leaves}
+use Rattle.buckets.specs.Sampled.{ShowsMore, prims_micropolygons}
+use Rattle.buckets.proofs.Hiding.{prims-next, counts-next, counts-refused, few_frame, few_all}
+use Rattle.buckets.proofs.drawing.tile_in.Goals as goal
 
 pub hide_prim-requires-clause-fits : goal.hide_prim-requires-clause-fits
 hide_prim-requires-clause-fits c =

@@ -7,7 +7,7 @@ use Rattle.hider.specs.Cells.{Micropolygon}
 use Rattle.hider.specs.Fragments.{fragments}
 use Rattle.hider.specs.Tiles.{TileValue, Shows}
 use Rattle.shader_binding.specs.Sets.{AcceptedValue}
-use Rattle.frame_picture.specs.Pictures.{prim_micropolygons}
+use Rattle.buckets.specs.Pictures.{prim_micropolygons}
 
 -- behind whatever micropolygons the tile showed it shows these as well
 abbrev pub ShowsMore : View → List Micropolygon → TileValue → TileValue → Type 0

@@ -10,10 +10,10 @@ use Rattle.hider.specs.Composite.{composite}
 use Rattle.hider.specs.Fragments.{fragments}
 use Rattle.filter_ppm.specs.Levels.{header, band}
 use Rattle.filter_ppm.specs.Film.{FilmValues, pixels, picture}
-use Rattle.frame_picture.specs.Pictures.{picture_bytes, micropolygons}
+use Rattle.buckets.specs.Pictures.{picture_bytes, micropolygons}
 use Rattle.filter_ppm.specs.Sampled.{FilmFormat, film_with, frame_grid}
 use Rattle.filter_ppm.proofs.Within.{pixels_within}
-use Rattle.frame_picture.proofs.drawing.picture.Goals as goal
+use Rattle.buckets.proofs.drawing.picture.Goals as goal
 
 pub pixels-requires : goal.pixels-requires
 pixels-requires c =

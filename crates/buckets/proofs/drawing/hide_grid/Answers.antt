@@ -1,7 +1,7 @@
 use Rattle.std.proofs.Common.{ap}
 use Rattle.scene.specs.Scene.{PrimValue, FrameValue}
-use Rattle.frame_picture.proofs.Hiding.{grid_hidden}
-use Rattle.frame_picture.proofs.drawing.hide_grid.Goals as goal
+use Rattle.buckets.proofs.Hiding.{grid_hidden}
+use Rattle.buckets.proofs.drawing.hide_grid.Goals as goal
 
 pub returns-clause-shows : goal.returns-clause-shows
 returns-clause-shows c =

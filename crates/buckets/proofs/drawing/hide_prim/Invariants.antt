@@ -1,10 +1,10 @@
 use Rattle.std.proofs.Common.{◌≡◌, ◌≤◌, ◌+◌, length}
 use Rattle.bound_split.specs.Leaves.{pending}
-use Rattle.frame_picture.specs.Pictures.{decide, prim_leaves, leaf_micropolygons, prim_micropolygons}
-use Rattle.frame_picture.specs.Shopped.{shaded_by}
-use Rattle.frame_picture.proofs.Hiding.{Hides}
-use Rattle.frame_picture.proofs.LeafParts.{PartsOf}
-use Rattle.frame_picture.proofs.drawing.hide_prim.Given as goal
+use Rattle.buckets.specs.Pictures.{decide, prim_leaves, leaf_micropolygons, prim_micropolygons}
+use Rattle.buckets.specs.Shopped.{shaded_by}
+use Rattle.buckets.proofs.Hiding.{Hides}
+use Rattle.buckets.proofs.LeafParts.{PartsOf}
+use Rattle.buckets.proofs.drawing.hide_prim.Given as goal
 
 abbrev pub invariant-loop-leaf : goal.invariant-loop-leaf
 invariant-loop-leaf l =

@@ -9,11 +9,11 @@ ghost use Rattle.displace_shade.specs.Diced.{grid_value};
 ghost use Rattle.hider.specs.Cells.{still};
 ghost use Rattle.hider.specs.Fragments.{fragments};
 ghost use Rattle.hider.specs.Tiles.{Shows};
-ghost use Rattle.frame_picture.specs.Pictures.{decide, prim_leaves, frame_leaves, grid_cells, leaf_micropolygons, prim_micropolygons, micropolygons, picture_bytes};
+ghost use Rattle.buckets.specs.Pictures.{decide, prim_leaves, frame_leaves, grid_cells, leaf_micropolygons, prim_micropolygons, micropolygons, picture_bytes};
 ghost use Rattle.filter_ppm.specs.Sampled.{frame_grid};
-ghost use Rattle.frame_picture.specs.Sampled.{ShowsMore, ShowsSome};
+ghost use Rattle.buckets.specs.Sampled.{ShowsMore, ShowsSome};
 ghost use Rattle.shader_binding.specs.Sets.{AcceptedValue};
-ghost use Rattle.frame_picture.specs.Shopped.{shaded_by, RisesBy};
+ghost use Rattle.buckets.specs.Shopped.{shaded_by, RisesBy};
 
 use crate::frame_in::FrameIn;
 use bound_split::{Leaf, Walk};

@@ -2,10 +2,10 @@ use Rattle.std.proofs.Common.{◌≡◌, ◌+◌, length, take}
 use Rattle.hider.specs.Fragments.{fragments}
 use Rattle.hider.specs.Tiles.{Shows}
 use Rattle.filter_ppm.specs.Sampled.{frame_grid}
-use Rattle.frame_picture.specs.Sampled.{prims_micropolygons}
-use Rattle.frame_picture.specs.Shopped.{shaded_by}
-use Rattle.frame_picture.proofs.Hiding.{leaves_of}
-use Rattle.frame_picture.proofs.drawing.tile_in.Given as goal
+use Rattle.buckets.specs.Sampled.{prims_micropolygons}
+use Rattle.buckets.specs.Shopped.{shaded_by}
+use Rattle.buckets.proofs.Hiding.{leaves_of}
+use Rattle.buckets.proofs.drawing.tile_in.Given as goal
 
 abbrev pub invariant-loop-number : goal.invariant-loop-number
 invariant-loop-number l =

@@ -7,10 +7,10 @@ use Rattle.bound_split.specs.declared.splits.Decision.{Decision}
 use Rattle.displace_shade.specs.Shaded.{GridValue}
 use Rattle.shader_binding.specs.Bindings.{FitsPrim}
 use Rattle.displace_shade.specs.Shop.{set_value}
-use Rattle.frame_picture.specs.Pictures.{grid_cells, diced_cells, leaf_cells, leaf_micropolygons}
-use Rattle.frame_picture.specs.Sampled.{ShowsMore}
-use Rattle.frame_picture.specs.Shopped.{shaded_by}
-use Rattle.frame_picture.proofs.drawing.hide_leaf.Goals as goal
+use Rattle.buckets.specs.Pictures.{grid_cells, diced_cells, leaf_cells, leaf_micropolygons}
+use Rattle.buckets.specs.Sampled.{ShowsMore}
+use Rattle.buckets.specs.Shopped.{shaded_by}
+use Rattle.buckets.proofs.drawing.hide_leaf.Goals as goal
 
 pub shade-requires-clause-variables : goal.shade-requires-clause-variables
 shade-requires-clause-variables c f prim frame there =

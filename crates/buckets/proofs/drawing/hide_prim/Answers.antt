@@ -6,12 +6,12 @@ use Rattle.shader_binding.specs.Sets.{Fits}
 use Rattle.shader_binding.specs.Bindings.{FitsPrim}
 use Rattle.displace_shade.specs.Shop.{set_value}
 use Rattle.displace_shade.specs.declared.set.ShaderSet.{ShaderSet}
-use Rattle.frame_picture.specs.Pictures.{decide, leaf_micropolygons, prim_micropolygons}
-use Rattle.frame_picture.specs.Sampled.{ShowsMore}
-use Rattle.frame_picture.specs.Shopped.{shaded_by}
-use Rattle.frame_picture.proofs.Hiding.{hides_begun, hides_next, hides_all}
-use Rattle.frame_picture.proofs.LeafParts.{PartsOf, leaves_are_parts, few_leaves}
-use Rattle.frame_picture.proofs.drawing.hide_prim.Goals as goal
+use Rattle.buckets.specs.Pictures.{decide, leaf_micropolygons, prim_micropolygons}
+use Rattle.buckets.specs.Sampled.{ShowsMore}
+use Rattle.buckets.specs.Shopped.{shaded_by}
+use Rattle.buckets.proofs.Hiding.{hides_begun, hides_next, hides_all}
+use Rattle.buckets.proofs.LeafParts.{PartsOf, leaves_are_parts, few_leaves}
+use Rattle.buckets.proofs.drawing.hide_prim.Goals as goal
 
 pub loop-leaf-init : goal.loop-leaf-init
 unfolding prim_micropolygons

@@ -14,9 +14,9 @@ use Rattle.hider.specs.Tiles.{TileValue, Shows, with_covering}
 use Rattle.hider.proofs.Frames.{shows_grid}
 use Rattle.scene.specs.Scene.{PrimValue, FrameValue}
 use Rattle.shader_binding.specs.Sets.{AcceptedValue}
-use Rattle.frame_picture.specs.Pictures.{decide, prim_leaves, prim_micropolygons}
-use Rattle.frame_picture.specs.Sampled.{ShowsMore, prims_micropolygons}
-use Rattle.frame_picture.proofs.LeafParts.{few_leaves}
+use Rattle.buckets.specs.Pictures.{decide, prim_leaves, prim_micropolygons}
+use Rattle.buckets.specs.Sampled.{ShowsMore, prims_micropolygons}
+use Rattle.buckets.proofs.LeafParts.{few_leaves}
 
 pub flat_map-append : {A B : Type 0} (g : A → List B) (xs ys : List A) → flat_map g (xs ++ ys) ≡ flat_map g xs ++ flat_map g ys
 flat_map-append g [] ys = refl
