@@ -20,7 +20,10 @@ mod means;
 mod moving;
 mod near;
 mod order;
+mod places;
 mod quad;
+mod rooms;
+mod runs;
 mod sample;
 mod sample_grid;
 mod sampling;
@@ -29,7 +32,6 @@ mod sight;
 mod spans;
 mod spot;
 mod tile;
-mod tile_sample;
 
 pub use bounds::Bounds;
 pub use cell::{Cell, CellCorner};
