@@ -12,10 +12,10 @@ use Rattle.hider.specs.Kept.{IsKeptIn, IsPlace, kept_list, keep, hides, blocks, 
 use Rattle.hider.proofs.Cuts.{by_bool}
 use Rattle.hider.proofs.Keeps.{keep_is_kept, nothing_kept}
 
-le_true : (a b : ℤ) → a ≤ℤ b → int_le a b ≡ true
+pub le_true : (a b : ℤ) → a ≤ℤ b → int_le a b ≡ true
 le_true a b h = let d : true ≡ int_le a b = omega (arith, ints) in sym d
 
-le_false : (a b : ℤ) → b <ℤ a → int_le a b ≡ false
+pub le_false : (a b : ℤ) → b <ℤ a → int_le a b ≡ false
 le_false a b h = let d : false ≡ int_le a b = omega (arith, ints) in sym d
 
 -- ---- the place, found from the front
@@ -119,7 +119,7 @@ put_behind f b (g ∷ gs) s h =
     let i = put_behind f b gs (rest_sorted g.depth (gs ++ b ∷ []) s) h in
     rw d (ap (λ r. g ∷ r) i)
 
-le_from : (a b : ℤ) → int_le a b ≡ true → a ≤ℤ b
+pub le_from : (a b : ℤ) → int_le a b ≡ true → a ≤ℤ b
 le_from a b e = omega (arith, ints, e)
 
 pub kept_behind : (f : Fragment) (front : List Fragment) (back : Option Fragment) → IsKeptIn front back → is_behind back f.depth ≡ true → keep f (kept_list front back) ≡ kept_list front back

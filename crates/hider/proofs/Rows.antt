@@ -9,7 +9,7 @@ use Rattle.hider.specs.declared.sample_grid.SampleGrid.{SampleGrid}
 use Rattle.hider.specs.Searching.{column_of, row_of, IsPartOf, LiesBeside, StaysIn}
 use Rattle.hider.specs.Tiles.{IsSampleGrid, HasPut, HavePutBetween, HaveKept, sample_count, sample_of}
 
-by_lt : {P : Type 0} (a b : ℕ) → (a < b → P) → (b ≤ a → P) → P
+pub by_lt : {P : Type 0} (a b : ℕ) → (a < b → P) → (b ≤ a → P) → P
 by_lt a zero f g = g (omega arith)
 by_lt zero (suc b) f g = f (omega arith)
 by_lt (suc a) (suc b) f g = by_lt a b (λ h. f (omega (arith, h))) (λ h. g (omega (arith, h)))

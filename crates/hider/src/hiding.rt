@@ -12,10 +12,12 @@ use crate::bounds::Bounds;
 use crate::cell::Cell;
 use crate::cells::Cells;
 use crate::extents::{have_same_points, high_of_two, low_of_two};
+use crate::flat_hiding::{fill_points, hide_grid};
 use crate::list::FragmentList;
 use crate::moving::{MovingCell, cell_when};
 use crate::near::put_near;
 use crate::places::Places;
+use crate::raster_point::RasterPoint;
 use crate::runs::put_between;
 use crate::sight::quad_of;
 use fixed_math::{NoMemory, Vec3};
@@ -113,7 +115,7 @@ fn hide_cell<C: Cells>(
 }
 
 /// Puts in what the cells show at each sample, one cell after another.
-pub(crate) fn hide_all<C: Cells>(
+fn hide_all<C: Cells>(
     lists: &mut [FragmentList],
     places: &Places<'_>,
     cells: &C,
@@ -127,5 +129,27 @@ pub(crate) fn hide_all<C: Cells>(
     for cell in 0..cells.count() {
         hide_cell(lists, places, cells, cell, camera, one_sided, flip)?;
     }
+    Ok(())
+}
+
+/// Puts in what the cells show at each sample. The points of a grid that stays where it is are put on the raster once, into a
+/// row for them.
+pub(crate) fn hide_cells<C: Cells>(
+    lists: &mut [FragmentList],
+    places: &Places<'_>,
+    seen: &mut Vec<RasterPoint>,
+    cells: &C,
+    camera: &Camera,
+    one_sided: bool,
+    flip: bool,
+) -> Result<(), NoMemory>
+    requires enough { sample_count places.now.grid ≤ length lists.old }
+    ensures { OnOk result (HavePut places.now.grid (covering camera.now (micropolygons_of (C.values cells.now) one_sided flip)) lists.old lists.new) }
+{
+    let Some(grid) = cells.still_grid() else {
+        return hide_all(lists, places, cells, camera, one_sided, flip);
+    };
+    fill_points(seen, camera, grid.p)?;
+    hide_grid(lists, places, &grid, seen.as_slice(), one_sided, flip)?;
     Ok(())
 }

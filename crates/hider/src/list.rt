@@ -1,11 +1,16 @@
 // The fragments of a sample that can show.
-ghost use Rattle.std.specs.Prelude.{◌≡◌, [], List, OnOk};
+ghost use Rattle.std.specs.Prelude.{◌≡◌, ◌≤◌, ◌^◌, [], List, true, unsigned_abs, MatchOption, OnOk};
 ghost use Rattle.hider.specs.declared.fragment.Fragment.{Fragment};
 ghost use Rattle.hider.specs.Composite.{composite};
+ghost use Rattle.hider.specs.Coverage.{mean_at};
+ghost use Rattle.hider.specs.Weighing.{AreAreas};
 ghost use Rattle.hider.specs.Kept.{IsPlace, IsKeptIn, kept_list, keep, is_behind, blocks, blocks_by};
 
+use crate::areas::Areas;
 use crate::compositing::composite_before;
 use crate::fragment::Fragment;
+use crate::means::mean_at;
+use crate::weighed::Weighed;
 use fixed_math::{NoMemory, Num, Vec3};
 use std::alloc::Global;
 use std::marker::Model;
@@ -60,6 +65,23 @@ fn blocks_by(back: &Option<Fragment>, depth: Num) -> bool
     }
 }
 
+/// The mean of three depths by areas; None where it lies behind an opaque fragment.
+fn depth_before(back: &Option<Fragment>, areas: &Areas, a: Num, b: Num, c: Num) -> Option<Num>
+    requires parts { AreAreas areas.now }
+    requires small { unsigned_abs areas.now.whole ≤ 2 ^ 59 }
+    ensures { MatchOption result (is_behind back.now (mean_at areas.now a b c) ≡ true) (λ z. z ≡ mean_at areas.now a b c) }
+{
+    match Weighed::of(areas, a, b, c) {
+        None => Some(mean_at(areas, a, b, c)),
+        Some(weighed) => {
+            if weighed.is_behind(back) {
+                return None;
+            }
+            Some(weighed.mean())
+        }
+    }
+}
+
 impl FragmentList {
     /// No fragment.
     pub(crate) fn new(alloc: Global) -> FragmentList
@@ -94,6 +116,15 @@ impl FragmentList {
         }
         self.front.insert(place, f)?;
         Ok(())
+    }
+
+    /// The mean of three depths by areas; None where a fragment of this depth doesn't show, which mostly needs no division.
+    pub(crate) fn visible_depth(&self, areas: &Areas, a: Num, b: Num, c: Num) -> Option<Num>
+        requires parts { AreAreas areas.now }
+        requires small { unsigned_abs areas.now.whole ≤ 2 ^ 59 }
+        ensures { MatchOption result ((f : Fragment) → f.depth ≡ mean_at areas.now a b c → keep f self.now ≡ self.now) (λ z. z ≡ mean_at areas.now a b c) }
+    {
+        depth_before(&self.back, areas, a, b, c)
     }
 
     /// Whether an opaque fragment lies nearer than `z`.

@@ -10,9 +10,10 @@ ghost use Rattle.hider.specs.Tiles.{TileValue, IsTile, IsSampleGrid, Shows, Bloc
 
 use crate::cells::Cells;
 use crate::grid_cells::GridCells;
-use crate::hiding::hide_all;
+use crate::hiding::hide_cells;
 use crate::list::FragmentList;
 use crate::places::Places;
+use crate::raster_point::RasterPoint;
 use crate::rooms::{all_block, fill_lists, fill_places};
 use crate::sample_grid::SampleGrid;
 use crate::spot::Spot;
@@ -29,6 +30,8 @@ pub struct Tile {
     // of at least as many samples as the grid has, so that the memory serves for further grids
     spots: Vec<Spot>,
     lists: Vec<FragmentList>,
+    // room for the points of a grid
+    points: Vec<RasterPoint>,
 }
 
 impl Model for Tile {
@@ -67,7 +70,13 @@ impl Tile {
         let mut lists = Vec::with_capacity(alloc, grid.count())?;
         fill_places(&mut spots, &grid);
         fill_lists(&mut lists, grid.count());
-        Ok(Tile { grid, spots, lists })
+        let points = Vec::new(alloc);
+        Ok(Tile {
+            grid,
+            spots,
+            lists,
+            points,
+        })
     }
 
     /// Makes it a tile of other pixels, with as many samples a pixel, at which nothing shows, as `new` would: over the memory
@@ -104,7 +113,15 @@ impl Tile {
             grid: self.grid,
             spots: self.spots.as_slice(),
         };
-        hide_all(&mut self.lists, &places, cells, camera, one_sided, flip)?;
+        hide_cells(
+            &mut self.lists,
+            &places,
+            &mut self.points,
+            cells,
+            camera,
+            one_sided,
+            flip,
+        )?;
         Ok(())
     }
 

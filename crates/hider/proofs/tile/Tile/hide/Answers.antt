@@ -12,7 +12,7 @@ returns-clause-shows g c = λ f s.
     let v : t ≡ c.args.self.now = c.self.view_is in
     let h = covering c.args.camera.now (micropolygons_of (g.C.Cells.values c.args.cells.now) c.args.one_sided c.args.flip) in
     let shown : Shows t f = rw (← v) at s in
-    let p : HavePut t.grid h t.lists c.hide_all.new.lists = rw c.deref_mut.ensures.value at c.in_ok-hide_all.ensures in
+    let p : HavePut t.grid h t.lists c.hide_cells.new.lists = rw c.deref_mut.ensures.value at c.in_ok-hide_cells.ensures in
     let l = c.self.inside.lists in
-    let same : length c.hide_all.new.lists ≡ l.len = omega (arith, c.hide_all.auto.lists, ap length c.deref_mut.ensures.value, l.ok.0) in
-    rw (with_items_is l c.hide_all.new.lists same) (shows_more t.grid t.lists c.hide_all.new.lists h f p shown)
+    let same : length c.hide_cells.new.lists ≡ l.len = omega (arith, c.hide_cells.auto.lists, ap length c.deref_mut.ensures.value, l.ok.0) in
+    rw (with_items_is l c.hide_cells.new.lists same) (shows_more t.grid t.lists c.hide_cells.new.lists h f p shown)
