@@ -1,5 +1,5 @@
 use Rattle.std.proofs.Common.{◌≡◌, arith}
-use Rattle.hider.proofs.tile_sample.put_between.Goals as goal
+use Rattle.hider.proofs.runs.put_between.Goals as goal
 
 pub returns-clause-others : goal.returns-clause-others
 returns-clause-others g c =
