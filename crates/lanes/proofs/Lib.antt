@@ -1,0 +1,3 @@
+pub mod Products
+pub mod Choices
+pub mod Places

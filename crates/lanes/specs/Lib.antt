@@ -1,0 +1,3 @@
+pub mod Masks
+pub mod Kernels
+pub mod Rows

@@ -1,0 +1,10 @@
+//! Kernels on rows of numbers, one number for each place, and the same kernels on single numbers.
+//!
+//! A number is a raw of 32 bits: it stands for raw / 65536. Each element of a row is the formula of the elements at its place, for
+//! every number of 32 bits. The loops are plain ones over one small function; the compiler turns them into lanes.
+#![tactic(auto)]
+
+pub mod kernels;
+pub mod mask;
+pub mod raw;
+pub mod rows;
