@@ -1,3 +1,4 @@
 pub mod Masks
 pub mod Kernels
 pub mod Rows
+pub mod Signs

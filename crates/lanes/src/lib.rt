@@ -4,7 +4,13 @@
 //! every number of 32 bits. The loops are plain ones over one small function; the compiler turns them into lanes.
 #![tactic(auto)]
 
+pub mod direction;
 pub mod kernels;
 pub mod mask;
+mod power;
+mod quotient;
 pub mod raw;
+mod root;
 pub mod rows;
+mod sine;
+mod tables;

@@ -1,8 +1,13 @@
-// Sums, products and choices of single numbers.
+// Operations on single numbers.
 ghost use Rattle.std.specs.Prelude.{◌≡◌, ◌≤◌, ℤ, pos, neg_ℤ, ◌≤ℤ◌, ◌<ℤ◌, ◌+ℤ◌, unsigned_abs, cond, int_lt};
 ghost use Rattle.fixed_math.specs.Fixed.{sat, IsRaw, add, sub, mul};
 ghost use Rattle.fixed_math.specs.Whole.{floor_by};
 ghost use Rattle.lanes.specs.Kernels.{negated, magnitude, least, greatest, floor};
+
+pub use crate::power::{Four, exp2, log2, pow, pow_of_four};
+pub use crate::quotient::div;
+pub use crate::root::sqrt;
+pub use crate::sine::{cos, sin};
 
 const LIMIT: i32 = 2147483647;
 
