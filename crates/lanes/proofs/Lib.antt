@@ -6,3 +6,4 @@ pub mod Quotients
 pub mod Roots
 pub mod Bits
 pub mod Numbers
+pub mod Fours

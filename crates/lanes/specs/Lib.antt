@@ -2,3 +2,5 @@ pub mod Masks
 pub mod Kernels
 pub mod Rows
 pub mod Signs
+pub mod Directions
+pub mod Powers

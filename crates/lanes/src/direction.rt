@@ -112,6 +112,10 @@ pub fn unit_of_four(
     ensures dx { result.d.x ≡ unit_part dx dx dy dz }
     ensures dy { result.d.y ≡ unit_part dy dx dy dz }
     ensures dz { result.d.z ≡ unit_part dz dx dy dz }
+    ensures raws_a { IsRaw result.a.x × IsRaw result.a.y × IsRaw result.a.z }
+    ensures raws_b { IsRaw result.b.x × IsRaw result.b.y × IsRaw result.b.z }
+    ensures raws_c { IsRaw result.c.x × IsRaw result.c.y × IsRaw result.c.z }
+    ensures raws_d { IsRaw result.d.x × IsRaw result.d.y × IsRaw result.d.z }
 {
     let a = norm(ax, ay, az);
     let b = norm(bx, by, bz);
