@@ -4,6 +4,7 @@
 //! every number of 32 bits. The loops are plain ones over one small function; the compiler turns them into lanes.
 #![tactic(auto)]
 
+mod calls;
 pub mod direction;
 pub mod kernels;
 pub mod mask;
@@ -16,3 +17,5 @@ pub mod rows;
 mod sine;
 mod tables;
 pub mod units;
+
+pub use calls::{add, and, any, equal, less, less_equal, max, min, mul, not, or, select, sub};
