@@ -7,3 +7,4 @@ pub mod Roots
 pub mod Bits
 pub mod Numbers
 pub mod Fours
+pub mod Sides

@@ -11,6 +11,9 @@ use Rattle.fixed_math.proofs.Root.{isqrt_lt}
 pub root_small : (n r : ℕ) → n < 18446744073709551616 → r ≡ isqrt n → r < 4294967296
 root_small n r h e = omega (arith, e, isqrt_lt n 4294967296 (omega arith) (omega arith))
 
+pub wide_root_small : (n r : ℕ) → n < 19807040628566084398385987584 → r ≡ isqrt n → r < 140737488355328
+wide_root_small n r h e = omega (arith, e, isqrt_lt n 140737488355328 (omega arith) (omega arith))
+
 none : isqrt 0 ≡ 0
 unfolding isqrt isqrt_from
 none = refl

@@ -4,3 +4,4 @@ pub mod Rows
 pub mod Signs
 pub mod Directions
 pub mod Powers
+pub mod Edges

@@ -6,6 +6,7 @@
 
 mod calls;
 pub mod direction;
+mod edges;
 pub mod kernels;
 pub mod mask;
 mod power;
@@ -17,5 +18,7 @@ pub mod rows;
 mod sine;
 mod tables;
 pub mod units;
+pub mod wide;
 
 pub use calls::{add, and, any, equal, less, less_equal, max, min, mul, not, or, select, sub};
+pub use edges::edge;

@@ -30,7 +30,7 @@ pub fn inverse_of(d: u64) -> Inverse {
 }
 
 #[inline(always)]
-fn guess(n: u64, by: Inverse) -> u64
+pub(crate) fn guess(n: u64, by: Inverse) -> u64
     ensures { result < 2 ^ 32 }
 {
     let high = ((n as u128).wrapping_mul(by.factor as u128) >> 64) as u64;
@@ -41,8 +41,7 @@ fn guess(n: u64, by: Inverse) -> u64
 #[inline(always)]
 fn settled(n: u64, d: u64, q: u64) -> u64
     requires some { 0 < d }
-    requires d_small { d < 2 ^ 32 }
-    requires q_small { q < 2 ^ 32 }
+    requires fits { q * d < 2 ^ 64 }
     ensures { result ≡ n / d }
 {
     let product = q * d;
@@ -62,12 +61,24 @@ fn settled(n: u64, d: u64, q: u64) -> u64
 
 /// The quotient by `d`, of which `by` should be the inverse.
 #[inline(always)]
+#[tactic(auto, using(crate::proofs::Products::room_of_halves))]
 pub fn quotient(n: u64, d: u64, by: Inverse) -> u64
     requires some { 0 < d }
     requires d_small { d < 2 ^ 32 }
     ensures { result ≡ n / d }
 {
     settled(n, d, guess(n, by))
+}
+
+/// The same by a divisor of 47 bits, at once where the quotient has at most 17.
+#[inline(always)]
+#[tactic(auto, using(crate::proofs::Products::room_of_part))]
+fn wide_quotient(n: u64, d: u64, by: Inverse) -> u64
+    requires some { 0 < d }
+    requires d_small { d < 2 ^ 47 }
+    ensures { result ≡ n / d }
+{
+    settled(n, d, guess(n, by) % 131072)
 }
 
 #[inline(always)]
@@ -97,6 +108,17 @@ pub fn floor_by(n: i64, d: u64, by: Inverse) -> i64
     ensures value { result ≡ floor_by n d }
 {
     signed_as(n, quotient(magnitude(n), d, by))
+}
+
+/// The same by a divisor of 47 bits.
+#[inline(always)]
+#[tactic(auto, using(crate::proofs::Signs::floor_by_signed, crate::proofs::Signs::quotient_small))]
+pub(crate) fn floor_by_wide(n: i64, d: u64, by: Inverse) -> i64
+    requires some { 0 < d }
+    requires d_small { d < 2 ^ 47 }
+    ensures value { result ≡ floor_by n d }
+{
+    signed_as(n, wide_quotient(magnitude(n), d, by))
 }
 
 // `a` with the sign of the quotient by `b`.
