@@ -1,6 +1,5 @@
-use Rattle.std.proofs.Common.{◌≡◌, ◌+◌, ◌*◌, ◌<◌, ◌≤◌, ℕ, length, slice_index_or, vec_capacity, arith}
-use Rattle.fixed_math.specs.Spots.{Spot, pixel_count, pixel_x, pixel_y}
-use Rattle.hider.specs.Samples.{sample_at}
+use Rattle.std.proofs.Common.{◌≡◌, ◌+◌, ◌*◌, ◌<◌, length, vec_capacity, arith}
+use Rattle.fixed_math.specs.Spots.{pixel_count}
 use Rattle.hider.specs.Tiles.{rect_of}
 use Rattle.hider.proofs.Numbers.{room_more, more_pixels}
 use Rattle.hider.proofs.rooms.fill_places.Goals as goal

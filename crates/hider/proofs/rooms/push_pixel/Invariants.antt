@@ -1,4 +1,4 @@
-use Rattle.std.proofs.Common.{◌≡◌, ◌+◌, ◌*◌, ◌≤◌, ◌<◌, ℕ, length, slice_index_or, vec_capacity}
+use Rattle.std.proofs.Common.{◌≡◌, ◌+◌, ◌<◌, ℕ, length, slice_index_or, vec_capacity}
 use Rattle.fixed_math.specs.Spots.{Spot}
 use Rattle.hider.specs.Samples.{sample_at}
 use Rattle.hider.proofs.rooms.push_pixel.Given as goal
