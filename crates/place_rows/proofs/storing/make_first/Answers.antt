@@ -1,7 +1,7 @@
 use Rattle.std.proofs.Common.{◌∙◌, arith, refl}
 use Rattle.std.proofs.lemmas.List.{length-set}
 use Rattle.place_rows.proofs.Sets.{set_next}
-use Rattle.place_rows.proofs.bank.make_first.Goals as goal
+use Rattle.place_rows.proofs.storing.make_first.Goals as goal
 
 pub loop-n-preserved : goal.loop-n-preserved
 loop-n-preserved g c =

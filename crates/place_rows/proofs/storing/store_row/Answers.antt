@@ -3,8 +3,8 @@ use Rattle.std.specs.Prelude.{◌==◌}
 use Rattle.std.proofs.lemmas.Bool.{cond-false}
 use Rattle.std.proofs.lemmas.List.{length-set, get_or_default}
 use Rattle.place_rows.proofs.Rows.{stored, passed, none_stored, all_stored}
-use Rattle.place_rows.proofs.bank.store_row.Goals as goal
-use Rattle.place_rows.proofs.bank.store_row.Goals.{then-live-i, else-live-i}
+use Rattle.place_rows.proofs.storing.store_row.Goals as goal
+use Rattle.place_rows.proofs.storing.store_row.Goals.{then-live-i, else-live-i}
 
 pub loop-i-init : goal.loop-i-init
 loop-i-init T c = (refl, λ d r j l. sym (cond-false _ _ _ (none_stored (r == c.args.register) (get_or c.args.live.now j _) j)))
