@@ -128,7 +128,7 @@ fn powers(alloc: Global, count: usize) -> Result<Vec<i32>, NoMemory>
     Ok(powers)
 }
 
-/// How many powers are kept for a frame: all that its filter can want, where it has more than these samples look up.
+/// How many powers are kept for a frame of so many pixels: all that a gaussian can want, unless it looks up fewer than that.
 fn kept(filter: Filter, pixels: usize) -> usize
     ensures { result ≤ 131073 }
 {
