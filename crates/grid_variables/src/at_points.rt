@@ -6,7 +6,7 @@ ghost use Rattle.grid_variables.specs.Points.{turned as turned_by, normal_of};
 ghost use Rattle.grid_variables.specs.Variables.{spread_by, spread as spread_of, triple_or, variable_named as variable_of, is_pair as is_pair_of, setter as setter_of, texture_part, texture_or as coordinate_or, cs_at, os_at, given_normal, n_at};
 ghost use Rattle.grid_variables.specs.Places.{point_count, over, parameter_at};
 
-use crate::corners::{between, corners_of, is_varying};
+use crate::corners::{between, corners_of};
 use crate::leaf::{Along, Leaf};
 use crate::moves::turned;
 use crate::named::{is_pair, setter, variable_named};
@@ -27,7 +27,7 @@ pub fn spread<'a>(
     ensures { IfOk result (λ ts. ts.now ≡ over (point_count leaf.now) (spread_by turn leaf.now variable.now)) }
 {
     let corners = corners_of(turn, variable, leaf.object());
-    let varying = is_varying(variable);
+    let varying = variable.is_varying();
     let mut values = Vec::new(arena);
     for i in 0..leaf.point_count() {
         values.push(between(varying, &corners, leaf.own_u(i), leaf.own_v(i)))?;
@@ -57,7 +57,7 @@ fn triples_or<'a>(
 {
     match variable_named(leaf.variables(), name) {
         None => same(arena, leaf.point_count(), triple),
-        Some(variable) => spread(arena, leaf, variable, false),
+        Some(variable) => spread(arena, leaf, &variable, false),
     }
 }
 
@@ -118,7 +118,7 @@ pub(crate) fn texture_or<'a>(
 {
     match setter(leaf.variables(), name) {
         None => parameters(arena, leaf, along),
-        Some(variable) => texture_by(arena, leaf, variable, axis),
+        Some(variable) => texture_by(arena, leaf, &variable, axis),
     }
 }
 
@@ -157,6 +157,6 @@ pub(crate) fn normals_or<'a>(
 {
     match variable_named(leaf.variables(), "N") {
         None => Ok(geometric),
-        Some(variable) => given_normals(arena, leaf, variable),
+        Some(variable) => given_normals(arena, leaf, &variable),
     }
 }

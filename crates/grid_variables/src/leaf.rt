@@ -7,7 +7,7 @@ ghost use Rattle.grid_variables.specs.Places.{point_count, parameter_at, derivat
 use dice::{line_at, placed_derivative, placed_parameter, placed_step};
 use fixed_math::{Num, Vec3};
 use patches::{Dyadic, Piece, Surface};
-use scene::{Prim, Variable};
+use scene::{LightPlaces, Prim, PrimitiveVariables};
 use std::marker::Model;
 use transforms::{Affine, Camera};
 
@@ -205,18 +205,18 @@ impl<'s> Leaf<'s> {
     }
 
     /// The variables of its primitive.
-    pub fn variables(&self) -> &[Variable]
+    pub fn variables(&self) -> &PrimitiveVariables
         ensures { result.now ≡ self.now.prim.vars }
     {
         let prim = self.prim;
-        prim.vars.as_slice()
+        &prim.vars
     }
 
     /// The uses of its primitive's lights.
-    pub fn lights(&self) -> &[u32]
+    pub fn lights(&self) -> &LightPlaces
         ensures { result.now ≡ self.now.prim.lights }
     {
         let prim = self.prim;
-        prim.lights.as_slice()
+        &prim.lights
     }
 }

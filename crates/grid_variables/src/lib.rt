@@ -20,5 +20,5 @@ pub use leaf::Leaf;
 pub use named::bound_variable;
 pub use places::Places;
 pub use stages::{Start, begun, grid_of};
-pub use values::{kind_of, value_or};
+pub use values::value_or;
 pub use variables::Variables;
