@@ -18,15 +18,21 @@ def world(kind, requests, before=""):
 
 
 VARIABLES = "".join(f' "constant float p{i}" 1' for i in range(600_000))
+FEWER_VARIABLES = "".join(f' "constant float p{i}" 1' for i in range(560_000))
+SQUARE = ' "P" [0 0 1 1 0 1 0 1 1 1 1 1]'
+# patches of one request each, and between them a light that is turned off and on
+ALONE = 'LightSource "pointlight" 1\n' + f'Patch "bilinear"{SQUARE} Illuminate 1 0\nPatch "bilinear"{SQUARE} Illuminate 1 1\n' * 32_768
 KINDS = {
     # each of a shader's parameters is looked for among a primitive's variables
     "variables": world("variables", f'Surface "many"\nPatch "bilinear" {CORNERS}{VARIABLES}'),
     # each leaf is under all lights that are in force, whether its shader asks them or not
     "lights_unasked": world("lights_unasked", f'Surface "constant"\nPatch "bilinear" {CORNERS}', LIT_FRAMES),
     "lights_asked": world("lights_asked", f'Surface "matte"\nPatch "bilinear" {CORNERS}', LIT_FRAMES),
-    # each patch of a mesh has the mesh's constant values, and each primitive the lights in force
+    # each patch of a mesh has the mesh's constant values and variables, and each primitive the lights in force
     "string_of_a_mesh": world("string_of_a_mesh", f'{MESH} "constant string a" ["{"x" * 15_000_000}"]'),
+    "variables_of_a_mesh": world("variables_of_a_mesh", f'{MESH}{FEWER_VARIABLES}'),
     "patches_under_lights": world("patches_under_lights", f'Surface "constant"\n{MESH}', LIT_FRAMES),
+    "requests_under_lights": world("requests_under_lights", f'Surface "constant"\n{ALONE}', LIT_FRAMES),
 }
 for kind, text in KINDS.items():
     with open(f"{to}/{kind}.rib", "w", encoding="ascii") as it:

@@ -6,6 +6,7 @@ pub mod FileNames
 pub mod ReadAll
 pub mod Firsts
 pub mod Declared
+pub mod ByParameter
 pub mod Fitting
 pub mod Bound
 pub mod Fetched

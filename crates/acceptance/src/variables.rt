@@ -1,6 +1,7 @@
 // How the variables of primitives fit the parameters of their shaders.
-ghost use Rattle.std.specs.Prelude.{◌≡◌, IsErrOf, map, option_map, slice_get};
+ghost use Rattle.std.specs.Prelude.{◌≡◌, ◌&&◌, not, IsErrOf, map, option_map, slice_get};
 ghost use Rattle.std.specs.List.{list_any};
+ghost use Rattle.shader_binding.specs.Predefined.{sets_predefined as sets_of};
 ghost use Rattle.sl_ast.specs.TypedView.{local_of};
 ghost use Rattle.sl_ast.specs.TreeView.{tree_of};
 ghost use Rattle.acceptance.specs.PrimFit as spec;
@@ -13,7 +14,7 @@ use crate::shaders::UsedShaders;
 use crate::use_fit::all_declared;
 use crate::{FaultCode, Refusal, in_scene, is_of_type};
 use fixed_math::Names;
-use scene_state::{Frame, Prim, Scene, Variable};
+use scene_state::{Frame, Prim, PrimitiveVariables, Scene, Variable};
 use shader_binding::sets_predefined;
 use sl_ast::{ParamDecl, Tree};
 use std::alloc::Global;
@@ -22,9 +23,9 @@ use std::alloc::Global;
 fn is_unfit(variable: &Variable, param: &ParamDecl) -> bool
     ensures { result ≡ spec.is_unfit variable.now (local_of param.now) }
 {
-    let other_kind = !is_of_type(param.kind, variable.kind);
-    let varies = variable.varying && param.uniform;
-    let named = param.name.as_str() == variable.name.as_str();
+    let other_kind = !is_of_type(param.kind, variable.kind());
+    let varies = variable.is_varying() && param.uniform;
+    let named = param.name.as_str() == variable.name().as_str();
     named && (other_kind || varies)
 }
 
@@ -40,7 +41,7 @@ fn is_unfit_named(shader: &ReadShader, names: &Names<'_>, variable: &Variable) -
     requires { names.now ≡ declared_by shader.now }
     ensures { result ≡ list_any (spec.is_unfit variable.now) (tree_read shader.now).params }
 {
-    let Some(place) = names.place_of(&variable.name) else {
+    let Some(place) = names.place_of(variable.name()) else {
         return false;
     };
     match declared_at(&shader.tree, place) {
@@ -54,20 +55,64 @@ fn binds_unfit(shader: &ReadShader, names: &Names<'_>, variable: &Variable) -> b
     requires { names.now ≡ declared_by shader.now }
     ensures { result ≡ spec.binds_unfit (tree_read shader.now).params variable.now }
 {
-    !sets_predefined(&variable.name) && is_unfit_named(shader, names, variable)
+    !sets_predefined(variable.name()) && is_unfit_named(shader, names, variable)
 }
 
-// Whether one of these variables doesn't fit the shader.
-fn unfit_for(shader: &ReadShader, names: &Names<'_>, variables: &[Variable]) -> bool
+// Whether one of these variables doesn't fit the shader, each looked for among the parameters.
+fn unfit_by_variables(
+    shader: &ReadShader,
+    names: &Names<'_>,
+    variables: &PrimitiveVariables,
+) -> bool
     requires { names.now ≡ declared_by shader.now }
     ensures { result ≡ list_any (spec.binds_unfit (tree_read shader.now).params) variables.now }
 {
-    for variable in variables {
-        if binds_unfit(shader, names, variable) {
+    for k in 0..variables.len() {
+        if binds_unfit(shader, names, &variables.at(k)) {
             return true;
         }
     }
     false
+}
+
+// Whether a variable that binds doesn't fit the parameter.
+fn is_unfit_param(variables: &PrimitiveVariables, param: &ParamDecl) -> bool
+    ensures { result ≡ list_any (λ x. not (sets_of x.name) && spec.is_unfit x (local_of param.now)) variables.now }
+{
+    if sets_predefined(&param.name) {
+        return false;
+    }
+    variables.names_known();
+    match variables.place_of(param.name.as_str()) {
+        Some(k) => is_unfit(&variables.at(k), param),
+        None => false,
+    }
+}
+
+// The same by each parameter, which is looked for among the variables.
+fn unfit_by_params(params: &[ParamDecl], variables: &PrimitiveVariables) -> bool
+    ensures { result ≡ list_any (λ l. list_any (λ x. not (sets_of x.name) && spec.is_unfit x l) variables.now) (map local_of params.now) }
+{
+    for param in params {
+        if is_unfit_param(variables, param) {
+            return true;
+        }
+    }
+    false
+}
+
+// Whether one of these variables doesn't fit the shader. A scene may have very many of them, and patches by the ten thousand that
+// share them, or a shader very many parameters: the fewer ones are looked for among the others.
+fn unfit_for(shader: &ReadShader, names: &Names<'_>, variables: &PrimitiveVariables) -> bool
+    requires { names.now ≡ declared_by shader.now }
+    ensures { result ≡ list_any (spec.binds_unfit (tree_read shader.now).params) variables.now }
+{
+    let params = shader.tree.params();
+    if variables.len() <= params.len() {
+        unfit_by_variables(shader, names, variables)
+    } else {
+        unfit_by_params(params, variables)
+    }
 }
 
 // The same for the shader at that place, where there is one.
@@ -75,7 +120,7 @@ fn unfit_placed(
     read: &[ReadShader],
     declared: &[Names<'_>],
     place: usize,
-    variables: &[Variable],
+    variables: &PrimitiveVariables,
 ) -> bool
     requires { declared.now ≡ map declared_by read.now }
     ensures { result ≡ spec.unfit_for (slice_get (map tree_read read.now) place) variables.now }
@@ -91,7 +136,7 @@ fn unfit_at(
     shaders: &UsedShaders,
     declared: &[Names<'_>],
     shader: Option<u32>,
-    variables: &[Variable],
+    variables: &PrimitiveVariables,
 ) -> bool
     requires { declared.now ≡ map declared_by shaders.now.read }
     ensures { result ≡ spec.unfit_at (map tree_read shaders.now.read) shaders.now.of_use shader variables.now }
@@ -117,7 +162,7 @@ fn is_unfit_prim(shaders: &UsedShaders, declared: &[Names<'_>], prim: &Prim) -> 
     requires { declared.now ≡ map declared_by shaders.now.read }
     ensures { result ≡ spec.is_unfit_prim (map tree_read shaders.now.read) shaders.now.of_use prim.now }
 {
-    let variables = prim.vars.as_slice();
+    let variables = &prim.vars;
     unfit_at(shaders, declared, Some(prim.surface), variables)
         || unfit_at(shaders, declared, prim.displacement, variables)
         || unfit_at(shaders, declared, prim.atmosphere, variables)

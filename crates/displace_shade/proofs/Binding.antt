@@ -17,7 +17,8 @@ use Rattle.sl_meaning.specs.Lowered.{slots}
 use Rattle.place_rows.specs.Layout.{same_class}
 use Rattle.shader_binding.specs.Sets.{AreValuesOf}
 use Rattle.grid_variables.specs.Points.{Leaf, own_u, own_v}
-use Rattle.grid_variables.specs.Variables.{numbers_of, corners_of, between, last_passing, variable_named, bound_variable, text_of, value_by, value_or, values_at}
+use Rattle.scene.specs.Seats.{numbers_of, text_of}
+use Rattle.grid_variables.specs.Variables.{corners_of, between, last_passing, variable_named, bound_variable, value_by, value_or, values_at}
 use Rattle.shader_binding.specs.Predefined.{sets_predefined}
 use Rattle.shader_binding.specs.Bindings.{kind_of, Binds, FitVariables}
 use Rattle.grid_rows.specs.Rows.{values_of}

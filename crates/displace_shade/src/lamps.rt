@@ -87,7 +87,7 @@ pub(crate) fn lamps_of<'a, 's>(
     let lights = leaf.lights();
     let mut lamps = Vec::new(arena);
     for k in 0..lights.len() {
-        let lamp = lamp_at(arena, set, uses, leaf, lights[k])?;
+        let lamp = lamp_at(arena, set, uses, leaf, lights.at(k))?;
         lamps.push(lamp)?;
     }
     Ok(lamps)

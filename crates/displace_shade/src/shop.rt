@@ -11,37 +11,28 @@ use crate::set::ShaderSet;
 use bumpalo::Bump;
 use dice::GridRef;
 use fixed_math::NoMemory;
-use grid_variables::{Leaf, NamedVariables};
+use grid_variables::Leaf;
 use patches::Piece;
 use scene::{Frame, Scene, ShaderUse};
 use std::alloc::Global;
 
 /// The leaf of a piece of a primitive of a frame.
-fn leaf_at<'s>(
-    alloc: Global,
-    frame: &'s Frame,
-    piece: &'s Piece,
-    p: u8,
-    q: u8,
-) -> Result<Leaf<'s>, NoMemory>
+fn leaf_at<'s>(frame: &'s Frame, piece: &'s Piece, p: u8, q: u8) -> Leaf<'s>
     requires prim { piece.now.prim < length frame.now.prims }
     requires columns { p ≤ 4 }
     requires rows { q ≤ 4 }
-    ensures leaf { IfOk result (λ l. (prim : PrimValue) → slice_get frame.now.prims piece.now.prim ≡ Some prim → l ≡ leaf_of frame.now prim piece.now p q) }
-    ensures prim { IfOk result (λ l. slice_get frame.now.prims piece.now.prim ≡ Some l.prim) }
+    ensures leaf { (prim : PrimValue) → slice_get frame.now.prims piece.now.prim ≡ Some prim → result ≡ leaf_of frame.now prim piece.now p q }
+    ensures prim { slice_get frame.now.prims piece.now.prim ≡ Some result.prim }
 {
     let prims = frame.prims.as_slice();
-    let prim = &prims[piece.prim as usize];
-    let named = NamedVariables::new(alloc, prim.vars.as_slice())?;
-    Ok(Leaf {
+    Leaf {
         camera: &frame.camera,
         world: &frame.world,
-        prim,
-        named,
+        prim: &prims[piece.prim as usize],
         piece,
         p,
         q,
-    })
+    }
 }
 
 /// The shaded grid of a piece of a primitive of a frame.
@@ -62,7 +53,7 @@ fn shaded_piece<'a>(
     requires rows { q ≤ 4 }
     ensures { IfOk result (IsShadedIn (set_value shaders.now.set.now) shaders.now.uses.now frame.now piece.now p q) }
 {
-    let leaf = leaf_at(shaders.alloc, frame, piece, p, q)?;
+    let leaf = leaf_at(frame, piece, p, q);
     shaded_leaf(shaders, work, arena, &leaf)
 }
 

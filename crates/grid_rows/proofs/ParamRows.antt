@@ -14,7 +14,8 @@ use Rattle.builtins.specs.declared.shape.Shape.TheVariants as shapes
 use Rattle.builtins.specs.Shapes.{shape}
 use Rattle.grid_code.specs.declared.slot.Slot.{Slot}
 use Rattle.grid_variables.specs.Points.{Leaf}
-use Rattle.grid_variables.specs.Variables.{spread, bound_variable, text_of, value_by, value_or, values_at}
+use Rattle.scene.specs.Seats.{text_of}
+use Rattle.grid_variables.specs.Variables.{spread, bound_variable, value_by, value_or, values_at}
 use Rattle.place_rows.specs.Layout.{row_length, same_class}
 use Rattle.grid_rows.specs.Rows.{HoldList, heights, AreRows, AreRowable, row_of, triple_rows, value_rows, values_of}
 use Rattle.grid_variables.specs.Places.{point_count, over}

@@ -12,7 +12,7 @@ use crate::rows::{Rows, push_parts, push_triples, push_value};
 use bumpalo::Bump;
 use fixed_math::{Axis, NoMemory, Text, Vec3};
 use grid_code::Slot;
-use grid_variables::{Leaf, kind_of, spread, value_or};
+use grid_variables::{Leaf, spread, value_or};
 use scene::{Kind, Variable};
 use sl_ast::{ParamDecl, Value};
 use std::alloc::Global;
@@ -40,7 +40,7 @@ fn push_variable(
 {
     let _points = leaf.point_count();
     let numbers = spread(arena, leaf, variable, false)?;
-    push_by(rows, kind_of(variable), numbers)
+    push_by(rows, variable.kind(), numbers)
 }
 
 /// Appends the rows of a parameter's value at all points.
@@ -55,7 +55,7 @@ fn push_or(
 {
     match leaf.bound_variable(name) {
         None => push_value(rows, value, leaf.point_count()),
-        Some(variable) => push_variable(rows, arena, leaf, variable),
+        Some(variable) => push_variable(rows, arena, leaf, &variable),
     }
 }
 

@@ -1,5 +1,4 @@
 pub mod Passing
-pub mod LastNamed
 pub mod Results
 pub mod Bounded
 pub mod Over

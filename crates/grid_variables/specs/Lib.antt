@@ -1,4 +1,5 @@
 pub mod Points
 pub mod Variables
+pub mod ByPlace
 pub mod Places
 pub mod Kept

@@ -11,9 +11,9 @@ use Rattle.patches.specs.Nets.{bilinear_point}
 use Rattle.transforms.specs.Map.{Map, identity}
 use Rattle.scene.specs.declared.params.Kind.{Kind}
 use Rattle.scene.specs.declared.params.Kind.TheVariants as kinds
-use Rattle.scene.specs.declared.params.Values.{Values}
 use Rattle.scene.specs.declared.params.Values.TheVariants as held
 use Rattle.scene.specs.Scene.{VariableValue}
+use Rattle.scene.specs.Seats.{numbers_of, text_of}
 use Rattle.sl_ast.specs.declared.kinds.SlType.TheVariants as types
 use Rattle.sl_ast.specs.declared.typed.Value.{Value}
 use Rattle.sl_ast.specs.declared.typed.Value.TheVariants.{Number, Triple, Word}
@@ -22,11 +22,6 @@ use Rattle.builtins.specs.Table.{image}
 use Rattle.builtins.specs.Triples.{normalize}
 use Rattle.shader_binding.specs.Predefined.{sets_predefined}
 use Rattle.grid_variables.specs.Points.{Leaf, own_u, own_v, u_at, v_at, normal_of, turned}
-
--- the numbers of a variable's value, one behind another; a string has none
-abbrev pub numbers_of : Values → List ℤ
-numbers_of (held.Numbers xs) = xs
-numbers_of (held.Strings ts) = []
 
 -- three numbers from place k on
 abbrev pub triple_from : List ℤ → ℕ → Vec3
@@ -61,9 +56,6 @@ spread l x i = spread_by false l x i
 abbrev pub last_passing : (VariableValue → Bool) → List VariableValue → Option VariableValue
 last_passing test [] = None
 last_passing test (x ∷ xs) = option_or (last_passing test xs) (cond (test x) (Some x) None)
-
-abbrev pub variable_name : VariableValue → List ℕ
-variable_name x = x.name
 
 abbrev pub variable_named : List ℕ → List VariableValue → Option VariableValue
 variable_named name xs = last_passing (λ x. bytes_eq x.name name) xs
@@ -116,10 +108,6 @@ n_at l i = normal_or l i (variable_named (codes "N") l.prim.vars)
 -- ---- what the parameters of a surface, displacement or volume take
 abbrev pub bound_variable : List ℕ → List VariableValue → Option VariableValue
 bound_variable name xs = cond (sets_predefined name) None (variable_named name xs)
-
-abbrev pub text_of : Values → List ℕ
-text_of (held.Numbers xs) = []
-text_of (held.Strings ts) = get_or ts 0 []
 
 -- a variable's value at place i, as a shader has it
 abbrev pub value_by : Kind → List ℕ → Vec3 → Value

@@ -6,7 +6,7 @@ ghost use Rattle.grid_variables.specs.Points.{turned as turned_by};
 ghost use Rattle.grid_variables.specs.Variables.{spread_by, spread as spread_of, triple_or, variable_named as variable_of, is_pair as is_pair_of, setter as setter_of, texture_part, texture_or as coordinate_or, cs_at, os_at, s_at, t_at, given_normal, n_at};
 ghost use Rattle.grid_variables.specs.Places.{point_count, over, parameter_at};
 
-use crate::corners::{between, corners_of, is_varying};
+use crate::corners::{between, corners_of};
 use crate::leaf::{Along, Leaf};
 use crate::moves::{same, turned};
 use crate::named::{is_pair, setter, variable_named};
@@ -28,7 +28,7 @@ pub fn spread<'a>(
     ensures { IfOk result (λ ts. ts.now ≡ over (point_count leaf.now) (spread_by turn leaf.now variable.now)) }
 {
     let corners = corners_of(turn, variable, leaf.object());
-    let varying = is_varying(variable);
+    let varying = variable.is_varying();
     let mut values = Vec::with_capacity(arena, leaf.point_count())?;
     for i in 0..leaf.point_count() {
         values.push(between(varying, &corners, leaf.own_u(i), leaf.own_v(i)))?;
@@ -47,7 +47,7 @@ fn triples_or<'a>(
 {
     match variable_named(leaf.variables(), name) {
         None => same(arena, leaf.point_count(), triple),
-        Some(variable) => spread(arena, leaf, variable, false),
+        Some(variable) => spread(arena, leaf, &variable, false),
     }
 }
 
@@ -108,7 +108,7 @@ fn texture_or<'a>(
 {
     match setter(leaf.variables(), name) {
         None => parameters(arena, leaf, along),
-        Some(variable) => texture_by(arena, leaf, variable, axis),
+        Some(variable) => texture_by(arena, leaf, &variable, axis),
     }
 }
 
@@ -156,6 +156,6 @@ pub fn first_normals<'a>(arena: &'a Bump, leaf: &Leaf) -> Result<&'a [Vec3], NoM
 {
     match variable_named(leaf.variables(), "N") {
         None => geometric_normals(arena, leaf),
-        Some(variable) => given_normals(arena, leaf, variable),
+        Some(variable) => given_normals(arena, leaf, &variable),
     }
 }

@@ -1,15 +1,15 @@
 // A leaf of a primitive, and what is known of a place of its grid.
-ghost use Rattle.std.specs.Prelude.{◌≡◌, ◌≤◌, ◌<◌, ◌*◌, ◌≤ℤ◌, pos, option_map};
+ghost use Rattle.std.specs.Prelude.{◌≡◌, ◌≤◌, ◌<◌, ◌*◌, ◌≤ℤ◌, pos};
 ghost use Rattle.dice.specs.Grids.{line_count};
 ghost use Rattle.grid_variables.specs.Points.{Leaf as LeafValue, columns, rows, own_u, own_v, lines};
 ghost use Rattle.grid_variables.specs.Places.{point_count, parameter_at, derivative_at};
 ghost use Rattle.grid_variables.specs.Variables.{bound_variable as bound_of};
 
-use crate::named::NamedVariables;
+use crate::named::bound_variable;
 use dice::{line_at, placed_derivative, placed_parameter, placed_step};
 use fixed_math::{Num, Text, Vec3};
 use patches::{Dyadic, Piece, Surface};
-use scene::{Prim, Variable};
+use scene::{LightPlaces, Prim, PrimitiveVariables, Variable};
 use std::marker::Model;
 use transforms::{Affine, Camera};
 
@@ -21,13 +21,11 @@ pub enum Along {
 }
 
 /// A part of a primitive of a frame, to be cut into 2^`p` cells by 2^`q`; `p` and `q` are at most 4.
-/// `named` are the primitive's variables.
 #[derive(Drop)]
 pub struct Leaf<'s> {
     pub camera: &'s Camera,
     pub world: &'s Affine,
     pub prim: &'s Prim,
-    pub named: NamedVariables<'s>,
     pub piece: &'s Piece,
     pub p: u8,
     pub q: u8,
@@ -38,7 +36,7 @@ impl<'s> Model for Leaf<'s> {
 
     ghost view = { λ l. record { camera = l.camera.now; world = l.world.now; prim = l.prim.now; part = l.piece.now; p = l.p; q = l.q } };
 
-    ghost invariant = { λ l. (l.p ≤ 4) × ((l.q ≤ 4) × (l.named ≡ l.prim.now.vars)) };
+    ghost invariant = { λ l. (l.p ≤ 4) × (l.q ≤ 4) };
 }
 
 /// The number of lines that bound 2^`p` cells.
@@ -218,25 +216,25 @@ impl<'s> Leaf<'s> {
     }
 
     /// The variables of its primitive.
-    pub fn variables(&self) -> &[Variable]
+    pub fn variables(&self) -> &PrimitiveVariables
         ensures { result.now ≡ self.now.prim.vars }
     {
         let prim = self.prim;
-        prim.vars.as_slice()
+        &prim.vars
     }
 
     /// The variable of its primitive that binds to the parameter of that name.
-    pub fn bound_variable(&self, name: &Text) -> Option<&'s Variable>
-        ensures { option_map (λ x. x.now) result ≡ bound_of name.now self.now.prim.vars }
+    pub fn bound_variable(&self, name: &Text) -> Option<Variable<'_>>
+        ensures { result ≡ bound_of name.now self.now.prim.vars }
     {
-        self.named.bound(name)
+        bound_variable(self.variables(), name)
     }
 
     /// The uses of its primitive's lights.
-    pub fn lights(&self) -> &[u32]
+    pub fn lights(&self) -> &LightPlaces
         ensures { result.now ≡ self.now.prim.lights }
     {
         let prim = self.prim;
-        prim.lights.as_slice()
+        &prim.lights
     }
 }

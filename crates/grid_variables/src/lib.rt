@@ -19,8 +19,7 @@ pub use at_points::{
 };
 pub use kept::kept_near;
 pub use leaf::{Along, Leaf};
-pub use named::NamedVariables;
 pub use places::{derivatives, parameters};
 pub use stages::{begun, geometric_normals, grid_of};
-pub use values::{kind_of, value_or};
+pub use values::value_or;
 pub use variables::Variables;

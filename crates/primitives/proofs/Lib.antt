@@ -1,5 +1,6 @@
 pub mod Lists
 pub mod Runs
+pub mod Distinct
 pub mod Values
 pub mod Seating
 pub mod Room

@@ -22,7 +22,7 @@ use Rattle.scene_parts.specs.Bases.{BasisValues, patch_shape, mesh_shape}
 use Rattle.scene_parts.specs.Faces.{FaceValues, one_face, faces_in}
 use Rattle.scene_parts.specs.declared.code.StateCode.{StateCode}
 use Rattle.scene_parts.specs.declared.code.StateCode.TheVariants.{G5, M3, M7}
-use Rattle.primitives.specs.declared.seat.Seat.{Seat}
+use Rattle.scene.specs.declared.seat.Seat.{Seat}
 use Rattle.primitives.specs.declared.fault.PrimitiveFault.{PrimitiveFault}
 use Rattle.primitives.specs.declared.fault.PrimitiveFault.TheVariants as faults
 use Rattle.primitives.specs.Variables.{are_counted, mesh_extent, mesh_seat, faces_extent, face_seat}

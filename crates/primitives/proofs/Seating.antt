@@ -19,7 +19,7 @@ use Rattle.mesh_basis.specs.Polygons.{point, piece_count}
 use Rattle.mesh_basis.proofs.Runs.{all_step}
 use Rattle.scene_parts.specs.Faces.{FaceValues, use_up}
 use Rattle.scene_parts.specs.declared.code.StateCode.TheVariants.{G5, M3, M7}
-use Rattle.primitives.specs.declared.seat.Seat.{Seat}
+use Rattle.scene.specs.declared.seat.Seat.{Seat}
 use Rattle.primitives.specs.Variables.{are_counted, mesh_extent, mesh_seat, faces_extent, face_seat}
 use Rattle.primitives.specs.Points.{face_points}
 use Rattle.primitives.specs.Patches.{PatchValue, Made, patch_with, seated, mesh_seated, mesh_counted, mesh_patches, face_patches, faces_from, faces_patches}

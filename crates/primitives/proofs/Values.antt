@@ -1,19 +1,15 @@
 -- The values that a patch has of the variables of its primitive.
-use Rattle.std.proofs.Common.{◌≡◌, ◌∙◌, ap, sym, refl, subst, arith, ℕ, zero, suc, ◌+◌, ◌-◌, ◌*◌, ◌/◌, ◌%◌, ◌^◌, ◌<◌, ◌≤◌, ◌==◌, Bool, true, false, ◌&&◌, not, cond, nat_lt, nat_le, List, [], ◌∷◌, ◌++◌, length, map, take, drop, filter, Option, Some, None, All, slice_get, slice_index_or, append_assoc, length-append}
+use Rattle.std.proofs.Common.{◌≡◌, ◌∙◌, ap, sym, refl, subst, arith, ℕ, zero, suc, ◌+◌, ◌-◌, ◌*◌, ◌/◌, ◌%◌, ◌^◌, ◌<◌, ◌≤◌, ◌==◌, Bool, true, false, ◌&&◌, not, cond, nat_lt, nat_le, List, [], ◌∷◌, length, map, take, drop, filter, Option, Some, None, All, slice_get, slice_index_or}
 use Rattle.std.proofs.Math.Nat.{div-le_self, mul-le-mul_left, mod-lt}
-use Rattle.std.proofs.Math.Seq.{drop-cons}
-use Rattle.std.proofs.Math.ListN.{drop_of_length-le}
 use Rattle.std.proofs.lemmas.Bool.Decides.{nat_tests}
 use Rattle.std.proofs.lemmas.Bool.{and_parts}
-use Rattle.std.proofs.lemmas.List.{append-nil, length-map, length-take-le, length-drop}
+use Rattle.std.proofs.lemmas.List.{length-map}
 use Rattle.std.proofs.lemmas.List.Elements.{All-filter}
 use Rattle.std.specs.List.{list_all}
 use Rattle.scene.specs.declared.params.Class.{Class}
 use Rattle.scene.specs.declared.params.Class.TheVariants.{Constant, Uniform, Varying, Vertex, FaceVarying}
 use Rattle.scene.specs.declared.params.Kind.{Kind}
 use Rattle.scene.specs.declared.params.Kind.TheVariants as kinds
-use Rattle.scene.specs.declared.params.Values.{Values}
-use Rattle.scene.specs.declared.params.Values.TheVariants.{Numbers, Strings}
 use Rattle.scene.specs.declared.params.Param.{Param}
 use Rattle.rib_reader.specs.Holding.{holding, is_named}
 use Rattle.rib_reader.specs.Lists.{is_points}
@@ -23,10 +19,10 @@ use Rattle.mesh_basis.specs.declared.counts.Counts.{Counts}
 use Rattle.mesh_basis.specs.Counts.{linear_count, cubic_count, count_along, both, counts_of}
 use Rattle.mesh_basis.specs.Polygons.{piece_count}
 use Rattle.scene_parts.specs.Faces.{are_places}
-use Rattle.scene.specs.Scene.{IsVariable, corners}
 use Rattle.primitives.specs.declared.seat.Extent.{Extent}
-use Rattle.primitives.specs.declared.seat.Seat.{Seat}
-use Rattle.primitives.specs.Variables.{variables_in, values_in, is_counted, are_counted, value_places, varies, items_at, taken, variable_of, IsIn, IsOfKind, IsThere, IsBelow, IsSeat, corners_along, HasSides, mesh_extent, corner_in, mesh_seat, face_seat}
+use Rattle.scene.specs.declared.seat.Seat.{Seat}
+use Rattle.scene.specs.Seats.{value_places, IsIn, IsOfKind, IsThere}
+use Rattle.primitives.specs.Variables.{variables_in, values_in, is_counted, are_counted, IsBelow, IsSeat, corners_along, HasSides, mesh_extent, corner_in, mesh_seat, face_seat}
 use Rattle.primitives.proofs.Lists.{all_none, all_one, all_first, all_then, all_either}
 
 -- ---- lists of what stands behind others
@@ -244,58 +240,3 @@ pub places_drop : (n : ℕ) (ks : List ℕ) (k : ℕ) → are_places n ks ≡ tr
 places_drop n ks zero h = h
 places_drop n [] (suc k) h = refl
 places_drop n (j ∷ js) (suc k) h = places_drop n js k (and_parts (nat_lt j n) (are_places n js) h).1
-
--- ---- items of values
-
-items_length : {A : Type 0} (w : ℕ) (xs : List A) (ns : List ℕ) → All (λ n. w * n + w ≤ length xs) ns → length (items_at w xs ns) ≡ w * length ns
-items_length w xs [] all = grind arith
-items_length w xs (n ∷ ns) all =
-    let parts = all_rest (λ n. w * n + w ≤ length xs) n ns all in
-    let fits = parts.0 in
-    let rest = items_length w xs ns parts.1 in
-    let behind = length-drop (w * n) xs in
-    let long : length (take w (drop (w * n) xs)) ≡ w = length-take-le w (drop (w * n) xs) (omega (arith, fits, behind)) in
-    let next : w * (length ns + 1) ≡ w * length ns + w = grind arith in
-    let all_long = length-append (take w (drop (w * n) xs)) (items_at w xs ns) in
-    omega (arith, long, rest, next, all_long)
-
--- a value more
-pub item_next : {A : Type 0} (w : ℕ) (xs done more all : List A) (ns : List ℕ) (k d : ℕ) → k < length ns → more ≡ done ++ take w (drop (w * slice_index_or ns k d) xs)
-    → done ++ items_at w xs (drop k ns) ≡ all → more ++ items_at w xs (drop (k + 1) ns) ≡ all
-item_next w xs done more all ns k d h e inv =
-    let n = slice_index_or ns k d in
-    let cut : drop k ns ≡ n ∷ drop (k + 1) ns = drop-cons ns k d h ∙ ap (λ m. n ∷ drop m ns) (next k) in
-    ap (λ ys. ys ++ items_at w xs (drop (k + 1) ns)) e
-    ∙ append_assoc done (take w (drop (w * n) xs)) (items_at w xs (drop (k + 1) ns))
-    ∙ sym (ap (λ ms. done ++ items_at w xs ms) cut) ∙ inv
-  where
-    next : (k : ℕ) → suc k ≡ k + 1
-    next k = omega arith
-
-pub item_end : {A : Type 0} (w : ℕ) (xs done all : List A) (ns : List ℕ) (k : ℕ) → length ns ≤ k → done ++ items_at w xs (drop k ns) ≡ all → done ≡ all
-item_end w xs done all ns k h inv = sym (append-nil done) ∙ sym (ap (λ ms. done ++ items_at w xs ms) (drop_of_length-le ns h)) ∙ inv
-
--- ---- a variable of a patch
-
-kind_taken : (k : Kind) (values : Values) (ns : List ℕ) → is_of_kind k values ≡ true → is_of_kind k (taken k values ns) ≡ true
-kind_taken k (Numbers xs) ns h = h
-kind_taken k (Strings ts) ns h = h
-
-count_taken : (k : Kind) (values : Values) (ns : List ℕ) → All (λ n. width k * n + width k ≤ count values) ns → count (taken k values ns) ≡ width k * length ns
-count_taken k (Numbers xs) ns all = items_length (width k) xs ns all
-count_taken k (Strings ts) ns all = items_length (width k) ts ns all
-
--- one place, or four
-places_length : (class : Class) (seat : Seat) → length seat.points ≡ 4 → length seat.corners ≡ 4 → length (value_places class seat) ≡ corners (varies class)
-places_length Constant seat p c = refl
-places_length Uniform seat p c = refl
-places_length Varying seat p c = p
-places_length Vertex seat p c = p
-places_length FaceVarying seat p c = c
-
--- it has values of its kind, as many as one value or four have
-pub is_variable : (seat : Seat) (p : Param) → length seat.points ≡ 4 → length seat.corners ≡ 4 → IsThere seat p → IsVariable (variable_of seat p)
-is_variable seat p points corner there = record {
-  kind = kind_taken p.kind p.values (value_places p.class seat) there.kind;
-  counted = count_taken p.kind p.values (value_places p.class seat) there.within ∙ ap (λ n. width p.kind * n) (places_length p.class seat points corner);
-}

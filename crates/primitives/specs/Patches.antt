@@ -1,8 +1,7 @@
 -- The patches of a primitive by its request, its bases, its map to camera space, and the room that its frame has left
 -- (RenderMan Interface 3.2, sections 5.1 and 5.2).
-use Rattle.std.specs.Prelude.{ℕ, ◌+◌, ◌*◌, nat_lt, not, List, [], ◌∷◌, ◌++◌, length, take, drop, map, Option, Some, None, Result, Ok, Err, if◌then◌else◌}
+use Rattle.std.specs.Prelude.{ℕ, ◌+◌, ◌*◌, nat_lt, not, List, [], ◌∷◌, ◌++◌, length, take, drop, Option, Some, None, Result, Ok, Err, if◌then◌else◌}
 use Rattle.std.specs.List.{sum_by}
-use Rattle.std.specs.Borrow.{Bor}
 use Rattle.fixed_math.specs.declared.vec3.Vec3.{Vec3}
 use Rattle.transforms.specs.Map.{Map}
 use Rattle.patches.specs.declared.patch.Patch.{Patch}
@@ -23,8 +22,9 @@ use Rattle.scene_parts.specs.Bases.{BasisValues, patch_shape, mesh_shape}
 use Rattle.scene_parts.specs.Faces.{FaceValues, one_face, faces_in}
 use Rattle.scene_parts.specs.declared.code.StateCode.{StateCode}
 use Rattle.scene_parts.specs.declared.code.StateCode.TheVariants.{G5, M3, M7}
-use Rattle.primitives.specs.declared.seat.Seat.{Seat}
-use Rattle.primitives.specs.Variables.{variables_in, are_counted, variables_of, mesh_extent, mesh_seat, faces_extent, face_seat}
+use Rattle.scene.specs.declared.seat.Seat.{Seat}
+use Rattle.scene.specs.Seats.{variables_of}
+use Rattle.primitives.specs.Variables.{variables_in, are_counted, mesh_extent, mesh_seat, faces_extent, face_seat}
 use Rattle.primitives.specs.Points.{placed_points, face_points}
 
 -- a patch of a primitive: its surface in camera space, the normal of the flat face that it is a piece of, its place in its mesh as
@@ -34,10 +34,6 @@ pub record PatchValue : Type 0 where
   pub flat : Option Vec3
   pub place : List ℕ
   pub vars : List VariableValue
-
--- variables that are borrowed
-abbrev pub held_of : List (Bor Param) → List Param
-held_of params = map (λ p. p.now) params
 
 -- the patch that stands there in its primitive, with its values of these variables
 abbrev pub patch_with : List Param → Option Vec3 → Seat → Patch → PatchValue

@@ -1,25 +1,23 @@
--- The variables of primitives: how many values each has by its storage class, and those that a patch has of them (RenderMan
+-- The variables of primitives: how many values each has by its storage class, and where patches stand among them (RenderMan
 -- Interface 3.2, section 5).
-use Rattle.std.specs.Prelude.{◌≡◌, refl, ℕ, ◌+◌, ◌*◌, ◌/◌, ◌%◌, ◌^◌, ◌==◌, ◌<◌, ◌≤◌, pos, Bool, true, false, not, List, [], ◌∷◌, ◌++◌, take, drop, length, map, filter, All, slice_index_or, codes}
+use Rattle.std.specs.Prelude.{◌≡◌, refl, ℕ, ◌+◌, ◌*◌, ◌/◌, ◌%◌, ◌^◌, ◌==◌, ◌<◌, pos, Bool, true, false, not, List, [], ◌∷◌, length, map, filter, All, slice_index_or, codes}
 use Rattle.std.specs.List.{list_all}
 use Rattle.scene.specs.declared.params.Class.{Class}
 use Rattle.scene.specs.declared.params.Class.TheVariants.{Constant, Uniform, Varying, Vertex, FaceVarying}
-use Rattle.scene.specs.declared.params.Kind.{Kind}
 use Rattle.scene.specs.declared.params.Kind.TheVariants as kinds
-use Rattle.scene.specs.declared.params.Values.{Values}
-use Rattle.scene.specs.declared.params.Values.TheVariants.{Numbers, Strings}
+use Rattle.scene.specs.declared.params.Values.TheVariants.{Numbers}
 use Rattle.scene.specs.declared.params.Param.{Param}
 use Rattle.rib_reader.specs.Holding.{holding}
 use Rattle.rib_reader.specs.Lists.{is_points}
-use Rattle.scene.specs.Kinds.{width, count, is_of_kind}
+use Rattle.scene.specs.Kinds.{width, count}
 use Rattle.mesh_basis.specs.declared.basis.Basis.TheVariants.{Bezier}
 use Rattle.mesh_basis.specs.declared.shape.Shape.{Shape}
 use Rattle.mesh_basis.specs.declared.counts.Counts.{Counts}
 use Rattle.mesh_basis.specs.Polygons.{piece_corners}
 use Rattle.scene_parts.specs.Faces.{FaceValues}
-use Rattle.scene.specs.Scene.{VariableValue}
 use Rattle.primitives.specs.declared.seat.Extent.{Extent}
-use Rattle.primitives.specs.declared.seat.Seat.{Seat}
+use Rattle.scene.specs.declared.seat.Seat.{Seat}
+use Rattle.scene.specs.Seats.{variable_of}
 
 -- the variables that a primitive has: those of its list that hold, without its points P
 abbrev pub variables_in : List Param → List Param
@@ -40,47 +38,7 @@ is_counted e p = count p.values == width p.kind * values_in p.class e
 abbrev pub are_counted : Extent → List Param → Bool
 are_counted e ps = list_all (is_counted e) ps
 
--- ---- the values that a patch has
-
--- where they stand among those of the primitive: one value, or one at each corner of the patch
-abbrev pub value_places : Class → Seat → List ℕ
-value_places Constant seat = 0 ∷ []
-value_places Uniform seat = seat.face ∷ []
-value_places Varying seat = seat.points
-value_places Vertex seat = seat.points
-value_places FaceVarying seat = seat.corners
-
-abbrev pub varies : Class → Bool
-varies Constant = false
-varies Uniform = false
-varies _ = true
-
--- the w items of each value at these places
-abbrev pub items_at : {A : Type 0} → ℕ → List A → List ℕ → List A
-items_at w xs [] = []
-items_at w xs (n ∷ ns) = take w (drop (w * n) xs) ++ items_at w xs ns
-
-abbrev pub taken : Kind → Values → List ℕ → Values
-taken k (Numbers xs) ns = Numbers (items_at (width k) xs ns)
-taken k (Strings ts) ns = Strings (items_at (width k) ts ns)
-
-abbrev pub variable_of : Seat → Param → VariableValue
-variable_of seat p = record { name = p.name; kind = p.kind; varying = varies p.class; values = taken p.kind p.values (value_places p.class seat) }
-
-abbrev pub variables_of : Seat → List Param → List VariableValue
-variables_of seat ps = map (variable_of seat) ps
-
--- a value at that place is there
-abbrev pub IsIn : Param → ℕ → Type 0
-IsIn p n = width p.kind * n + width p.kind ≤ count p.values
-
-abbrev pub IsOfKind : Param → Type 0
-IsOfKind p = is_of_kind p.kind p.values ≡ true
-
--- the variable has values of its kind, and one at each place of the patch
-pub record IsThere (seat : Seat) (p : Param) : Type 0 where
-  pub kind : IsOfKind p
-  pub within : All (IsIn p) (value_places p.class seat)
+-- ---- where a patch stands
 
 abbrev pub IsBelow : ℕ → ℕ → Type 0
 IsBelow most n = n < most

@@ -1,15 +1,12 @@
 // A patch of a primitive.
 ghost use Rattle.std.specs.Prelude.{◌≡◌, All, IfOk};
 ghost use Rattle.scene.specs.Scene.{IsPlace};
-ghost use Rattle.primitives.specs.Variables.{IsThere};
-ghost use Rattle.primitives.specs.Patches.{PatchValue, held_of, patch_with};
+ghost use Rattle.scene.specs.Seats.{IsThere};
+ghost use Rattle.primitives.specs.Patches.{PatchValue, patch_with};
 
-use crate::seat::Seat;
-use crate::variables::variables_of;
-use fixed_math::{List, NoMemory, Vec3};
+use fixed_math::{NoMemory, Vec3};
 use patches::Patch;
-use scene::{Param, Variable};
-use std::alloc::Global;
+use scene::{PrimitiveVariables, RequestVariables, Seat, Shared};
 use std::marker::Model;
 
 /// A patch of a primitive: its surface in camera space, the normal of the flat face that it is a piece of, the column c of m and the
@@ -19,7 +16,7 @@ pub struct PrimitivePatch {
     pub patch: Patch,
     pub flat: Option<Vec3>,
     pub place: [u32; 4],
-    pub vars: List<Variable>,
+    pub vars: PrimitiveVariables,
 }
 
 impl Model for PrimitivePatch {
@@ -32,17 +29,16 @@ impl Model for PrimitivePatch {
 
 /// The patch that stands there in its primitive, with its values of these variables.
 pub(crate) fn patch_with(
-    alloc: Global,
-    params: &[&Param],
+    variables: &Shared<RequestVariables>,
     flat: Option<Vec3>,
     seat: Seat,
     patch: Patch,
 ) -> Result<PrimitivePatch, NoMemory>
     requires place { IsPlace seat.place }
-    requires there { All (IsThere seat) (held_of params.now) }
-    ensures { IfOk result (λ p. p ≡ patch_with (held_of params.now) flat seat patch) }
+    requires there { All (IsThere seat) variables.now }
+    ensures { IfOk result (λ p. p ≡ patch_with variables.now flat seat patch) }
 {
-    let vars = variables_of(alloc, &seat, params)?;
+    let vars = PrimitiveVariables::new(variables, seat)?;
     let place = seat.place;
     Ok(PrimitivePatch {
         patch,

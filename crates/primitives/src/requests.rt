@@ -4,8 +4,8 @@ ghost use Rattle.rib_reader.specs.Reading.{plain};
 ghost use Rattle.rib_reader.specs.Table.{row_of};
 ghost use Rattle.rib_reader.specs.Lists.{is_geometry};
 ghost use Rattle.scene.specs.Scene.{most_prims};
-ghost use Rattle.primitives.specs.Variables.{IsOfKind};
-ghost use Rattle.primitives.specs.Patches.{held_of, patches_over, patches_of};
+ghost use Rattle.scene.specs.Seats.{IsOfKind};
+ghost use Rattle.primitives.specs.Patches.{patches_over, patches_of};
 ghost use Rattle.primitives.specs.Answers.{GivesMade};
 
 use crate::faces::faces_patches;
@@ -16,7 +16,7 @@ use crate::points::placed_points;
 use crate::variables::variables_in;
 use fixed_math::{List, Vec3};
 use rib_reader::{Req, Request};
-use scene::Param;
+use scene::{RequestVariables, Shared};
 use scene_parts::{Bases, StateCode, faces_in, one_face};
 use std::alloc::Global;
 use transforms::Affine;
@@ -26,30 +26,30 @@ fn patches_over(
     alloc: Global,
     request: &Request,
     bases: Bases,
-    params: &[&Param],
+    variables: &Shared<RequestVariables>,
     room: usize,
     points: &[Vec3],
 ) -> Result<List<PrimitivePatch>, PrimitiveFault>
     requires room { room ≤ most_prims }
-    requires kinds { All IsOfKind (held_of params.now) }
-    ensures { GivesMade result (patches_over request.now.name request.now.args bases (held_of params.now) room points.now) }
+    requires kinds { All IsOfKind variables.now }
+    ensures { GivesMade result (patches_over request.now.name request.now.args bases variables.now room points.now) }
 {
     match request.name {
         Req::Patch => {
             let shape = bases.patch_shape(request);
-            mesh_patches(alloc, params, &shape, room, points)
+            mesh_patches(alloc, variables, &shape, room, points)
         }
         Req::PatchMesh => {
             let shape = bases.mesh_shape(request);
-            mesh_patches(alloc, params, &shape, room, points)
+            mesh_patches(alloc, variables, &shape, room, points)
         }
         Req::Polygon => {
             let faces = one_face(alloc, points.len())?;
-            faces_patches(alloc, params, room, points, faces)
+            faces_patches(alloc, variables, room, points, faces)
         }
         Req::PointsPolygons => {
             let faces = faces_in(alloc, request, points.len())?;
-            faces_patches(alloc, params, room, points, faces)
+            faces_patches(alloc, variables, room, points, faces)
         }
         _ => Ok(List(Vec::new(alloc))),
     }
@@ -76,6 +76,6 @@ pub fn patches_of(
     let Some(points) = placed_points(alloc, object, request)? else {
         return Err(PrimitiveFault::Refused(StateCode::G5));
     };
-    let params = variables_in(alloc, request)?;
-    patches_over(alloc, request, bases, &params, room, points.as_slice())
+    let variables = variables_in(alloc, request)?;
+    patches_over(alloc, request, bases, &variables, room, points.as_slice())
 }

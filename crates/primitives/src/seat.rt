@@ -5,6 +5,7 @@ ghost use Rattle.scene.specs.Scene.{IsPlace, most_prims};
 ghost use Rattle.primitives.specs.Variables.{corners_along, corner_in, patch_corners, mesh_extent, mesh_place, mesh_corners, mesh_seat, faces_extent, face_seat, HasSides};
 
 use mesh_basis::{Counts, Shape, piece_corners};
+use scene::Seat;
 use scene_parts::Faces;
 
 /// How many faces, points and corners of faces a primitive has. The faces of a mesh are its patches, and both its points and its
@@ -14,16 +15,6 @@ pub(crate) struct Extent {
     pub(crate) faces: usize,
     pub(crate) points: usize,
     pub(crate) corners: usize,
-}
-
-/// Where a patch stands in its primitive: the column c of m and the row d of n that it has in its mesh, as [c, m, d, n], its face,
-/// and the places of its four corners, in the order of a bilinear patch, among the points and among the corners of all faces.
-#[derive(Clone, Copy)]
-pub(crate) struct Seat {
-    pub(crate) place: [u32; 4],
-    pub(crate) face: usize,
-    pub(crate) points: [usize; 4],
-    pub(crate) corners: [usize; 4],
 }
 
 /// A face: which of its primitive's faces it is, its first corner among the corners of all faces, and the places of its points.

@@ -62,7 +62,7 @@ fn write_picture<O: FrameSink>(
 fn name_of(frame: &Frame) -> &str
     ensures { result.now ≡ frame.now.name }
 {
-    frame.name.as_str()
+    frame.name.get().as_str()
 }
 
 // The line that tells how many grids were shaded for a frame, and in how many epochs.

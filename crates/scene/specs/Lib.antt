@@ -1,3 +1,4 @@
 pub mod Kinds
 pub mod Settings
 pub mod Scene
+pub mod Seats

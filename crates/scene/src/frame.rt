@@ -1,31 +1,15 @@
 ghost use Rattle.std.specs.Prelude.{◌≤◌, length};
-ghost use Rattle.scene.specs.Scene.{VariableValue, PrimValue, FrameValue, SceneValue, IsVariable, IsPrim, IsScene, most_prims};
+ghost use Rattle.scene.specs.Scene.{PrimValue, FrameValue, SceneValue, IsPrim, IsScene, most_prims};
 
+use crate::lights::LightPlaces;
 use crate::options::Options;
+use crate::shared::Shared;
 use crate::uses::ShaderUse;
-use crate::{Kind, Values};
+use crate::variables::PrimitiveVariables;
 use fixed_math::{List, Num, Text, Vec3};
 use patches::Patch;
 use std::marker::Model;
 use transforms::{Affine, Camera};
-
-/// A variable of a primitive: its value once, or where it is varying at the four corners of a patch in the order of a
-/// bilinear one, as the scene gives them. There are as many numbers or strings as its kind takes.
-#[derive(Drop)]
-pub struct Variable {
-    pub name: Text,
-    pub kind: Kind,
-    pub varying: bool,
-    pub values: Values,
-}
-
-impl Model for Variable {
-    ghost Value = { VariableValue };
-
-    ghost view = { λ v. record { name = v.name; kind = v.kind; varying = v.varying; values = v.values } };
-
-    ghost invariant = { λ v. IsVariable (record { name = v.name; kind = v.kind; varying = v.varying; values = v.values }) };
-}
 
 /// A primitive (RenderMan Interface 3.2, section 5).
 ///
@@ -43,12 +27,12 @@ pub struct Primitive {
     pub surface: u32,
     pub displacement: Option<u32>,
     pub atmosphere: Option<u32>,
-    pub lights: List<u32>,
+    pub lights: LightPlaces,
     pub bound: Num,
     pub rate: Num,
     pub one_sided: bool,
     pub flip: bool,
-    pub vars: List<Variable>,
+    pub vars: PrimitiveVariables,
     pub object: Affine,
     pub place: [u32; 4],
     pub line: u32,
@@ -66,7 +50,7 @@ impl Model for Primitive {
 /// 65,536 primitives in the order of the scene.
 #[derive(Drop)]
 pub struct Frame {
-    pub name: Text,
+    pub name: Shared<Text>,
     pub options: Options,
     pub camera: Camera,
     pub world: Affine,

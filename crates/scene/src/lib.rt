@@ -4,12 +4,22 @@
 
 mod filter;
 mod frame;
+mod lights;
 mod options;
 mod params;
+mod seat;
+mod shared;
 mod uses;
+mod variable;
+mod variables;
 
 pub use filter::Filter;
-pub use frame::{Frame, Primitive as Prim, Scene, Variable};
+pub use frame::{Frame, Primitive as Prim, Scene};
+pub use lights::LightPlaces;
 pub use options::Options;
 pub use params::{Class, Kind, Param, Values};
+pub use seat::Seat;
+pub use shared::Shared;
 pub use uses::{ShaderKind, ShaderUse, params_copy};
+pub use variable::Variable;
+pub use variables::{PrimitiveVariables, RequestVariables};

@@ -51,7 +51,7 @@ fn values_copy(alloc: Global, values: &Values) -> Result<Values, NoMemory>
     })
 }
 
-fn param_copy(alloc: Global, param: &Param) -> Result<Param, NoMemory>
+pub(crate) fn param_copy(alloc: Global, param: &Param) -> Result<Param, NoMemory>
     ensures { IfOk result (λ p. p ≡ param.now) }
 {
     Ok(Param {

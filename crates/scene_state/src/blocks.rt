@@ -167,7 +167,7 @@ impl State {
         ensures taken { IfOk result (λ _. self.new ≡ record self.old { prims = [] }) }
     {
         Ok(Frame {
-            name: self.name.copied(alloc)?,
+            name: self.name.shared()?,
             options: self.choices.picture(),
             camera: world.camera,
             world: world.to_camera,

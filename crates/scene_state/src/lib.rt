@@ -10,7 +10,6 @@ mod placing;
 mod prims;
 mod reading;
 mod shaders;
-mod shared_name;
 mod state;
 mod steps;
 mod turning;
@@ -18,5 +17,8 @@ mod turning;
 pub use fault::StateFault;
 pub use laws::surface_in_force;
 pub use reading::scene;
-pub use scene::{Filter, Frame, Options, Prim, Scene, ShaderKind, ShaderUse, Variable};
+pub use scene::{
+    Filter, Frame, LightPlaces, Options, Prim, PrimitiveVariables, Scene, ShaderKind, ShaderUse,
+    Variable,
+};
 pub use scene_parts::StateCode;

@@ -19,18 +19,8 @@ use scene_parts::{Look, StateCode};
 use std::alloc::Global;
 use transforms::Affine;
 
-// Places in memory of their own.
-fn places_copy(alloc: Global, places: &[u32]) -> Result<List<u32>, NoMemory>
-    ensures { IfOk result (λ copies. copies ≡ places.now) }
-{
-    let mut copies = Vec::new(alloc);
-    copies.extend_from_slice(places)?;
-    Ok(List(copies))
-}
-
 // The primitive of a patch, with this look and these shaders.
 fn primitive(
-    alloc: Global,
     request: &Request,
     object: Affine,
     look: Look,
@@ -39,7 +29,7 @@ fn primitive(
 ) -> Result<Prim, NoMemory>
     ensures { IfOk result (λ prim. prim ≡ prim_of (plain request.now) object look worn.now patch) }
 {
-    let lights = places_copy(alloc, worn.lights.as_slice())?;
+    let lights = worn.lights.shared()?;
     let place = patch.place;
     Ok(Prim {
         patch: patch.patch,
@@ -74,7 +64,7 @@ fn primitives(
 {
     let mut prims = Vec::new(alloc);
     for patch in patches.0 {
-        prims.push(primitive(alloc, request, object, look, worn, patch)?)?;
+        prims.push(primitive(request, object, look, worn, patch)?)?;
     }
     Ok(List(prims))
 }
@@ -94,7 +84,8 @@ impl State {
         if patches.len() == 0 {
             return Ok(());
         }
-        let worn = self.shaders.wear(alloc, &self.attributes)?;
+        let others = self.prims.last_lights();
+        let worn = self.shaders.wear(alloc, &self.attributes, others)?;
         let look = self.attributes.look;
         let prims = primitives(alloc, request, object, look, &worn, patches)?;
         self.prims.add(prims)?;

@@ -1,9 +1,9 @@
 // The primitives of an open world.
-ghost use Rattle.std.specs.Prelude.{◌≡◌, ◌≤◌, List as Items, [], ◌++◌, ◌+◌, ◌-◌, length, IfOk};
+ghost use Rattle.std.specs.Prelude.{◌≡◌, ◌≤◌, List as Items, [], ◌++◌, ◌+◌, ◌-◌, length, slice_get, option_map, IfOk};
 ghost use Rattle.scene.specs.Scene.{PrimValue, most_prims};
 
 use fixed_math::{List, NoMemory};
-use scene::Prim;
+use scene::{LightPlaces, Prim};
 use std::alloc::Global;
 use std::marker::Model;
 use std::mem;
@@ -41,6 +41,16 @@ impl Prims {
         ensures few { length self.now ≤ most_prims }
     {
         MOST_PRIMS - self.prims.len()
+    }
+
+    /// The lights of the last primitive.
+    pub(crate) fn last_lights(&self) -> Option<&LightPlaces>
+        ensures { option_map (λ l. l.now) result ≡ option_map (λ p. p.lights) (slice_get self.now (length self.now - 1)) }
+    {
+        match self.prims.as_slice().last() {
+            Some(prim) => Some(&prim.lights),
+            None => None,
+        }
     }
 
     /// Primitives more, in order.

@@ -4,7 +4,7 @@ ghost use Rattle.scene_state.specs.Shaders.{IsWaiting, first_shaders, with_reque
 
 use crate::attributes::Attributes;
 use fixed_math::{List, NoMemory, Text};
-use scene::{ShaderKind, ShaderUse};
+use scene::{LightPlaces, ShaderKind, ShaderUse};
 use std::alloc::Global;
 use std::mem;
 use transforms::Affine;
@@ -29,7 +29,7 @@ pub(crate) struct Worn {
     pub(crate) surface: u32,
     pub(crate) displacement: Option<u32>,
     pub(crate) atmosphere: Option<u32>,
-    pub(crate) lights: List<u32>,
+    pub(crate) lights: LightPlaces,
 }
 
 /// A light by the number that a scene calls it.
@@ -118,15 +118,21 @@ impl Shaders {
         Ok(List(places))
     }
 
-    /// The places of those that a primitive with these attributes has.
-    pub(crate) fn wear(&mut self, alloc: Global, attributes: &Attributes) -> Result<Worn, NoMemory>
+    /// The places of those that a primitive with these attributes has. Other lights may share places of its lights.
+    pub(crate) fn wear(
+        &mut self,
+        alloc: Global,
+        attributes: &Attributes,
+        others: Option<&LightPlaces>,
+    ) -> Result<Worn, NoMemory>
         ensures { IfOk result (λ worn. (self.new, worn) ≡ worn_by self.old attributes.now) }
     {
         let displacement = self.place_some(attributes.displacement)?;
         let surface = self.place(attributes.surface)?;
         let atmosphere = self.place_some(attributes.atmosphere)?;
         let in_force = attributes.lights.in_order(alloc)?;
-        let lights = self.place_all(alloc, in_force.as_slice())?;
+        let places = self.place_all(alloc, in_force.as_slice())?;
+        let lights = LightPlaces::new(alloc, places.as_slice(), others)?;
         Ok(Worn {
             surface,
             displacement,

@@ -5,9 +5,8 @@ ghost use Rattle.scene_state.specs.State.{first_state};
 use crate::attributes::Attributes;
 use crate::prims::Prims;
 use crate::shaders::{Handle, Shaders};
-use crate::shared_name::SharedName;
 use fixed_math::{List, NoMemory, Text};
-use scene::Frame;
+use scene::{Frame, Shared};
 use scene_parts::Choices;
 use std::alloc::Global;
 use transforms::{Affine, Camera};
@@ -19,7 +18,7 @@ pub(crate) enum Block {
         attributes: Attributes,
         current: Affine,
         choices: Choices,
-        name: SharedName,
+        name: Shared<Text>,
     },
     InWorld {
         attributes: Attributes,
@@ -47,7 +46,7 @@ pub(crate) struct World {
 #[derive(Drop)]
 pub(crate) struct State {
     pub(crate) choices: Choices,
-    pub(crate) name: SharedName,
+    pub(crate) name: Shared<Text>,
     pub(crate) attributes: Attributes,
     pub(crate) current: Affine,
     pub(crate) blocks: List<Block>,
@@ -59,10 +58,10 @@ pub(crate) struct State {
 }
 
 // The picture's name before the first request.
-fn first_name(alloc: Global) -> Result<SharedName, NoMemory>
+fn first_name(alloc: Global) -> Result<Shared<Text>, NoMemory>
     ensures { IfOk result (λ n. n ≡ codes "out.ppm") }
 {
-    SharedName::new(alloc, Text::from_bytes(alloc, b"out.ppm")?)
+    Shared::new(alloc, Text::from_bytes(alloc, b"out.ppm")?)
 }
 
 impl State {

@@ -7,9 +7,9 @@ ghost use Rattle.scene_state.specs.Steps.{look_set, bases_set, after};
 ghost use Rattle.scene_state.specs.Answers.{Steps};
 
 use crate::fault::StepFault;
-use crate::shared_name::SharedName;
 use crate::state::State;
 use rib_reader::{Req, Request};
+use scene::Shared;
 use scene_parts::StateCode;
 use std::alloc::Global;
 
@@ -51,7 +51,7 @@ impl State {
         }
         let name = request.word(0);
         if !name.as_str().starts_with('+') {
-            self.name = SharedName::new(alloc, name.copied(alloc)?)?;
+            self.name = Shared::new(alloc, name.copied(alloc)?)?;
         }
         Ok(())
     }

@@ -17,7 +17,7 @@ returns-in_default c =
     let ls = map local_of c.args.shader.now.tree.params in
     sym (ap (unfit_at_place x ls) c.in_default.is)
     ∙ found_in x ls c.args.names.now c.place_of.result c.requires c.args.shader.now.distinct
-    (c.place_of.ensures ∙ ap (λ (v : VariableValue). last_place v.name c.args.names.now) c.variable.view_is)
+    (c.place_of.ensures ∙ ap (λ n. last_place n c.args.names.now) c.name.ensures)
 
 pub returns-in-Some-declared_at : goal.returns-in-Some-declared_at
 returns-in-Some-declared_at c =
@@ -26,7 +26,7 @@ returns-in-Some-declared_at c =
     c.is_unfit.ensures ∙ sym (ap (unfit_seen x) c.in-Some-declared_at.is) ∙ ap (unfit_with x) c.declared_at.ensures
     ∙ sym (ap (unfit_at_place x ls) c.in-Some.is)
     ∙ found_in x ls c.args.names.now c.place_of.result c.requires c.args.shader.now.distinct
-    (c.place_of.ensures ∙ ap (λ (v : VariableValue). last_place v.name c.args.names.now) c.variable.view_is)
+    (c.place_of.ensures ∙ ap (λ n. last_place n c.args.names.now) c.name.ensures)
 
 pub returns-in-None : goal.returns-in-None
 returns-in-None c =
@@ -35,4 +35,4 @@ returns-in-None c =
     sym (ap (unfit_seen x) c.in-None.is) ∙ ap (unfit_with x) c.declared_at.ensures
     ∙ sym (ap (unfit_at_place x ls) c.in-Some.is)
     ∙ found_in x ls c.args.names.now c.place_of.result c.requires c.args.shader.now.distinct
-    (c.place_of.ensures ∙ ap (λ (v : VariableValue). last_place v.name c.args.names.now) c.variable.view_is)
+    (c.place_of.ensures ∙ ap (λ n. last_place n c.args.names.now) c.name.ensures)

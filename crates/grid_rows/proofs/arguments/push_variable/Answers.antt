@@ -18,4 +18,4 @@ pub returns : goal.returns
 returns c =
     let l = c.args.leaf.now in
     let x = c.args.variable.now in
-    if_ok c.push_by.result _ _ (λ _ h. h ∙ ap (λ k. c.args.rows.now ++ rows_by k c.in_ok-numbers.numbers.now) c.kind_of.ensures ∙ ap (λ ts. c.args.rows.now ++ rows_by x.kind ts) c.in_ok-numbers.ensures) c.push_by.ensures
+    if_ok c.push_by.result _ _ (λ _ h. h ∙ ap (λ k. c.args.rows.now ++ rows_by k c.in_ok-numbers.numbers.now) c.kind.ensures ∙ ap (λ ts. c.args.rows.now ++ rows_by x.kind ts) c.in_ok-numbers.ensures) c.push_by.ensures

@@ -1,6 +1,7 @@
 use Rattle.std.proofs.Common.{ap, ◌∙◌}
 use Rattle.grid_variables.specs.Points.{own_u}
-use Rattle.grid_variables.specs.Variables.{numbers_of, corners_of, between, spread_by}
+use Rattle.scene.specs.Seats.{numbers_of}
+use Rattle.grid_variables.specs.Variables.{corners_of, between, spread_by}
 use Rattle.grid_variables.proofs.Over.{over_more}
 use Rattle.grid_variables.proofs.at_points.spread.Goals as goal
 

@@ -1,6 +1,7 @@
 use Rattle.std.proofs.Common.{false, ap, ◌∙◌}
 use Rattle.grid_variables.specs.Points.{own_u}
-use Rattle.grid_variables.specs.Variables.{numbers_of, corners_of, between}
+use Rattle.scene.specs.Seats.{numbers_of}
+use Rattle.grid_variables.specs.Variables.{corners_of, between}
 use Rattle.grid_variables.proofs.values.first_of.Goals as goal
 
 pub returns : goal.returns

@@ -5,7 +5,7 @@ use Rattle.mesh_basis.specs.Ranges.{are_in_range}
 use Rattle.mesh_basis.specs.Polygons.{point, piece_count}
 use Rattle.scene.specs.Scene.{most_prims}
 use Rattle.primitives.specs.Variables.{face_seat}
-use Rattle.primitives.specs.Patches.{held_of, face_patches}
+use Rattle.primitives.specs.Patches.{face_patches}
 use Rattle.primitives.proofs.Seating.{face_near}
 use Rattle.primitives.proofs.faces.add_face.Goals as goal
 
@@ -37,5 +37,5 @@ add_pieces-requires-clause-few c =
 pub returns : goal.returns
 returns c =
     let face = c.args.face.now in
-    subst (λ ps. IfOk c.add_pieces.result (λ _. c.add_pieces.new.all.items ≡ c.args.all.now.items ++ face_patches (held_of c.args.params.now) (face_seat face.index face.first face.points.now) ps))
+    subst (λ ps. IfOk c.add_pieces.result (λ _. c.add_pieces.new.all.items ≡ c.args.all.now.items ++ face_patches c.args.variables.now (face_seat face.index face.first face.points.now) ps))
     (c.as_slice.ensures ∙ c.in_ok-corners.ensures) c.add_pieces.ensures

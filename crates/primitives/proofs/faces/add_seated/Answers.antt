@@ -1,15 +1,16 @@
 use Rattle.std.proofs.Common.{◌<◌, ◌∙◌, ap, sym, subst, ◌++◌, [], ◌∷◌, Some, All, length}
 use Rattle.patches.specs.declared.patch.Patch.{Patch}
 use Rattle.mesh_basis.specs.Polygons.{piece_of, piece_count}
-use Rattle.primitives.specs.declared.seat.Seat.{Seat}
-use Rattle.primitives.specs.Variables.{face_seat, IsThere}
-use Rattle.primitives.specs.Patches.{PatchValue, held_of, patch_with}
+use Rattle.scene.specs.declared.seat.Seat.{Seat}
+use Rattle.scene.specs.Seats.{IsThere}
+use Rattle.primitives.specs.Variables.{face_seat}
+use Rattle.primitives.specs.Patches.{PatchValue, patch_with}
 use Rattle.primitives.proofs.Seating.{piece_next, piece_end}
 use Rattle.primitives.proofs.faces.add_seated.Goals as goal
 
 pub loop-i-preserved : goal.loop-i-preserved
 loop-i-preserved c =
-    let params = held_of c.args.params.now in
+    let params = c.args.variables.now in
     let flat = Some c.args.flat.now in
     let face = c.args.face.now in
     let seats = face_seat face.index face.first face.points.now in
@@ -23,7 +24,7 @@ loop-i-preserved c =
 
 pub returns : goal.returns
 returns c =
-    let params = held_of c.args.params.now in
+    let params = c.args.variables.now in
     let face = c.args.face.now in
     let seats = face_seat face.index face.first face.points.now in
     piece_end (piece_of c.args.points.now) params (Some c.args.flat.now) seats c.loop-i.i (piece_count (length c.args.points.now)) c.loop-i.all.items _ c.loop-i-test.false c.loop-i.invariant
@@ -32,4 +33,4 @@ pub patch_with-requires-clause-there : goal.patch_with-requires-clause-there
 patch_with-requires-clause-there c =
     let face = c.args.face.now in
     let few : c.loop-i.i < piece_count (length face.points.now) = subst (λ n. c.loop-i.i < piece_count n) (sym c.requires.same) c.loop-i-test.true in
-    subst (λ seat. All (IsThere seat) (held_of c.args.params.now)) (sym c.face_seat-seat.ensures.value) (c.requires.there c.loop-i.i few)
+    subst (λ seat. All (IsThere seat) c.args.variables.now) (sym c.face_seat-seat.ensures.value) (c.requires.there c.loop-i.i few)

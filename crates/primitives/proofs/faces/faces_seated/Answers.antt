@@ -3,7 +3,7 @@ use Rattle.mesh_basis.specs.Polygons.{piece_count}
 use Rattle.scene_parts.specs.Faces.{are_places}
 use Rattle.primitives.specs.Variables.{faces_extent, face_seat}
 use Rattle.primitives.specs.Points.{face_points}
-use Rattle.primitives.specs.Patches.{held_of, face_patches, faces_from}
+use Rattle.primitives.specs.Patches.{face_patches, faces_from}
 use Rattle.primitives.proofs.Seating.{Left, face_fits, face_less, face_next, faces_end}
 use Rattle.primitives.proofs.Values.{all_there, face_inside, places_take, places_drop}
 use Rattle.primitives.proofs.faces.faces_seated.Goals as goal
@@ -36,7 +36,7 @@ add_face-requires-clause-few c =
 pub add_face-requires-clause-there : goal.add_face-requires-clause-there
 add_face-requires-clause-there c =
     let sizes = c.args.sizes.now in
-    let vars = held_of c.args.params.now in
+    let vars = c.args.variables.now in
     let extent = faces_extent (length c.args.points.now) (record { sizes = sizes; corners = c.args.corners.now }) in
     let face = c.split_at.result.0.now in
     let j = c.loop-size.index in
@@ -55,7 +55,7 @@ add_face-requires-clause-there c =
 
 pub loop-size-preserved : goal.loop-size-preserved
 loop-size-preserved c =
-    let params = held_of c.args.params.now in
+    let params = c.args.variables.now in
     let ps = c.args.points.now in
     let sizes = c.args.sizes.now in
     let k = c.loop-size.size-index in
@@ -98,6 +98,6 @@ returns c =
     let k = c.loop-size.size-index in
     let done = c.loop-size.all.items in
     let rest = c.loop-size.rest.now in
-    let params = held_of c.args.params.now in
+    let params = c.args.variables.now in
     faces_end params c.args.points.now c.loop-size.first sizes rest k done _ c.loop-size-test.false
     (ap (λ i. done ++ faces_from params c.args.points.now i c.loop-size.first (drop k sizes) rest) (sym c.loop-size.invariant.1.1.0) ∙ c.loop-size.invariant.0)

@@ -1,8 +1,9 @@
 use Rattle.std.proofs.Common.{◌∙◌, ap, sym, subst, ◌*◌, ◌++◌, [], ◌∷◌, None, All}
 use Rattle.mesh_basis.specs.Meshes.{patch_at, all_from}
-use Rattle.primitives.specs.declared.seat.Seat.{Seat}
-use Rattle.primitives.specs.Variables.{mesh_seat, IsThere}
-use Rattle.primitives.specs.Patches.{PatchValue, held_of, patch_with}
+use Rattle.scene.specs.declared.seat.Seat.{Seat}
+use Rattle.scene.specs.Seats.{IsThere}
+use Rattle.primitives.specs.Variables.{mesh_seat}
+use Rattle.primitives.specs.Patches.{PatchValue, patch_with}
 use Rattle.primitives.proofs.Seating.{mesh_start, mesh_next, mesh_none, mesh_end}
 use Rattle.primitives.proofs.meshes.mesh_seated.Goals as goal
 
@@ -11,7 +12,7 @@ returns-in_default c =
     let n = c.args.counts.along_u * c.args.counts.along_v in
     let f = patch_at c.args.points.now c.args.shape.now c.args.counts.along_u in
     let seats = mesh_seat c.args.shape.now c.args.counts in
-    let params = held_of c.args.params.now in
+    let params = c.args.variables.now in
     sym (mesh_start params seats (all_from f 0 n))
     ∙ mesh_none f params seats c.loop-k.k n c.loop-k.all.items _ c.loop-k-test.true (sym c.patch_at.ensures ∙ c.in_default.is) c.loop-k.invariant
 
@@ -20,7 +21,7 @@ loop-k-preserved c =
     let n = c.args.counts.along_u * c.args.counts.along_v in
     let f = patch_at c.args.points.now c.args.shape.now c.args.counts.along_u in
     let seats = mesh_seat c.args.shape.now c.args.counts in
-    let params = held_of c.args.params.now in
+    let params = c.args.variables.now in
     let p = c.in-Some.patch in
     let done = c.loop-k.all.items in
     mesh_next f params seats c.loop-k.k n p done c.push.new.self.items _ c.loop-k-test.true (sym c.patch_at.ensures ∙ c.in-Some.is)
@@ -32,10 +33,10 @@ returns c =
     let n = c.args.counts.along_u * c.args.counts.along_v in
     let f = patch_at c.args.points.now c.args.shape.now c.args.counts.along_u in
     let seats = mesh_seat c.args.shape.now c.args.counts in
-    let params = held_of c.args.params.now in
+    let params = c.args.variables.now in
     sym (mesh_start params seats (all_from f 0 n))
     ∙ mesh_end f params seats c.loop-k.k n c.loop-k.all.items _ c.loop-k-test.false c.loop-k.invariant
 
 pub patch_with-requires-clause-there : goal.patch_with-requires-clause-there
 patch_with-requires-clause-there c =
-    subst (λ seat. All (IsThere seat) (held_of c.args.params.now)) (sym c.mesh_seat-seat.ensures.value) (c.requires.there c.loop-k.k c.loop-k-test.true)
+    subst (λ seat. All (IsThere seat) c.args.variables.now) (sym c.mesh_seat-seat.ensures.value) (c.requires.there c.loop-k.k c.loop-k-test.true)

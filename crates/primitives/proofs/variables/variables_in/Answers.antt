@@ -1,17 +1,9 @@
-use Rattle.std.proofs.Common.{◌∙◌, ap, sym, subst, not, filter, map, All}
-use Rattle.rib_reader.specs.Lists.{is_points}
-use Rattle.scene.specs.declared.params.Param.{Param}
-use Rattle.rib_reader.specs.Holding.{holding}
-use Rattle.primitives.specs.Variables.{variables_in, IsOfKind}
-use Rattle.primitives.proofs.Values.{filter_map, kinds_in}
+use Rattle.std.proofs.Common.{◌∙◌, ap, sym, subst, map}
+use Rattle.scene.specs.Seats.{names_of, AreDistinct}
+use Rattle.primitives.proofs.Distinct.{variables_distinct}
 use Rattle.primitives.proofs.variables.variables_in.Goals as goal
 
-pub returns : goal.returns
-returns c =
-    let held = ap (map (λ p. p.now)) c.deref.ensures.value ∙ c.in_ok-held.ensures ∙ ap holding c.variables.ensures.same in
-    record {
-      value = ap (map (λ p. p.now)) c.in_ok-others.ensures
-          ∙ sym (filter_map (λ p. p.now) (λ (p : Param). not (is_points p.name)) c.deref.result.now)
-          ∙ ap (filter (λ (p : Param). not (is_points p.name))) held;
-      kinds = subst (λ ps. All IsOfKind (variables_in ps)) c.variables.ensures.same (kinds_in c.variables.result.now c.variables.ensures.kinds);
-    }
+pub new-requires : goal.new-requires
+new-requires c =
+    let same = ap (map (λ p. p.now)) c.deref.ensures.value ∙ c.in_ok-held.ensures.value in
+    subst AreDistinct (sym (ap names_of same)) (variables_distinct c.args.request.now.params)

@@ -1,6 +1,0 @@
-use Rattle.std.proofs.Common.{◌≡◌, ◌++◌, drop}
-use Rattle.primitives.specs.Variables.{items_at}
-use Rattle.primitives.proofs.variables.strings_at.Given as goal
-
-abbrev pub invariant-loop-place : goal.invariant-loop-place
-invariant-loop-place l = l.all.items ++ items_at l.width l.strings (drop l.place-index l.places) ≡ items_at l.width l.strings l.places
