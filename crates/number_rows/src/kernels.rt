@@ -6,6 +6,7 @@ ghost use Rattle.fixed_math.specs.Sine as sine;
 ghost use Rattle.builtins.specs.Numbers as n;
 
 use crate::raw::Raw;
+use lanes::raw;
 
 /// An operation on one number.
 pub trait One {
@@ -104,7 +105,7 @@ impl One for Sine {
 
     #[inline(always)]
     fn apply(x: Raw) -> Raw {
-        Raw::of(x.number().sin())
+        Raw::from_bits(raw::sin(x.bits()))
     }
 }
 
@@ -115,7 +116,7 @@ impl One for Cosine {
 
     #[inline(always)]
     fn apply(x: Raw) -> Raw {
-        Raw::of(x.number().cos())
+        Raw::from_bits(raw::cos(x.bits()))
     }
 }
 
@@ -125,8 +126,9 @@ impl One for Tangent {
     ghost formula = { n.tan };
 
     #[inline(always)]
+    #[tactic(auto, unfolding(builtins::specs::Numbers::tan))]
     fn apply(x: Raw) -> Raw {
-        Raw::of(builtins::tan(x.number()))
+        Raw::from_bits(raw::div(raw::sin(x.bits()), raw::cos(x.bits())))
     }
 }
 
@@ -137,7 +139,7 @@ impl One for Root {
 
     #[inline(always)]
     fn apply(x: Raw) -> Raw {
-        Raw::of(x.number().sqrt())
+        Raw::from_bits(raw::sqrt(x.bits()))
     }
 }
 
@@ -147,8 +149,9 @@ impl One for InverseRoot {
     ghost formula = { n.inversesqrt };
 
     #[inline(always)]
+    #[tactic(auto, unfolding(builtins::specs::Numbers::inversesqrt))]
     fn apply(x: Raw) -> Raw {
-        Raw::of(builtins::inversesqrt(x.number()))
+        Raw::from_bits(raw::div(65536, raw::sqrt(x.bits())))
     }
 }
 
@@ -159,7 +162,7 @@ impl One for Exponential {
 
     #[inline(always)]
     fn apply(x: Raw) -> Raw {
-        Raw::of(builtins::exp(x.number()))
+        Raw::from_bits(raw::exp2(raw::mul(x.bits(), 94548)))
     }
 }
 
@@ -169,8 +172,9 @@ impl One for Logarithm {
     ghost formula = { n.log };
 
     #[inline(always)]
+    #[tactic(auto, unfolding(builtins::specs::Numbers::log))]
     fn apply(x: Raw) -> Raw {
-        Raw::of(builtins::log(x.number()))
+        Raw::from_bits(raw::mul(raw::log2(x.bits()), 45426))
     }
 }
 
@@ -203,7 +207,7 @@ impl Two for Add {
 
     #[inline(always)]
     fn apply(x: Raw, y: Raw) -> Raw {
-        Raw::of(x.number().add(y.number()))
+        Raw::from_bits(raw::add(x.bits(), y.bits()))
     }
 }
 
@@ -214,7 +218,7 @@ impl Two for Subtract {
 
     #[inline(always)]
     fn apply(x: Raw, y: Raw) -> Raw {
-        Raw::of(x.number().sub(y.number()))
+        Raw::from_bits(raw::sub(x.bits(), y.bits()))
     }
 }
 
@@ -225,7 +229,7 @@ impl Two for Multiply {
 
     #[inline(always)]
     fn apply(x: Raw, y: Raw) -> Raw {
-        Raw::of(x.number().mul(y.number()))
+        Raw::from_bits(raw::mul(x.bits(), y.bits()))
     }
 }
 
@@ -236,7 +240,7 @@ impl Two for Divide {
 
     #[inline(always)]
     fn apply(x: Raw, y: Raw) -> Raw {
-        Raw::of(x.number().div(y.number()))
+        Raw::from_bits(raw::div(x.bits(), y.bits()))
     }
 }
 
@@ -281,7 +285,7 @@ impl Two for Power {
 
     #[inline(always)]
     fn apply(x: Raw, y: Raw) -> Raw {
-        Raw::of(x.number().pow(y.number()))
+        Raw::from_bits(raw::pow(x.bits(), y.bits()))
     }
 }
 
@@ -314,8 +318,10 @@ impl Three for Mixed {
     ghost formula = { n.mix };
 
     #[inline(always)]
+    #[tactic(auto, unfolding(builtins::specs::Numbers::mix))]
     fn apply(x: Raw, y: Raw, z: Raw) -> Raw {
-        Raw::of(builtins::mix(x.number(), y.number(), z.number()))
+        let rest = raw::sub(65536, z.bits());
+        Raw::from_bits(raw::add(raw::mul(x.bits(), rest), raw::mul(y.bits(), z.bits())))
     }
 }
 

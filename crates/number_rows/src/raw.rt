@@ -40,6 +40,24 @@ impl Raw {
         Raw { raw: 0 }
     }
 
+    // A raw value in range.
+    #[inline(always)]
+    pub(crate) fn from_bits(raw: i32) -> Raw
+        requires { IsRaw raw }
+        ensures { result ≡ raw }
+    {
+        Raw { raw }
+    }
+
+    // The raw value.
+    #[inline(always)]
+    pub(crate) fn bits(self) -> i32
+        ensures value { result ≡ self }
+        ensures raw { IsRaw result }
+    {
+        self.raw
+    }
+
     /// The number in its common form.
     #[inline(always)]
     #[tactic(auto, using(fixed_math::proofs::Sat::sat_of_raw))]

@@ -2,12 +2,14 @@
 ghost use Rattle.std.specs.Prelude.{◌≡◌, ℕ, ℤ, ◌<◌, pos, length, get_or};
 ghost use Rattle.fixed_math.specs.declared.vec3.Vec3.{Vec3 as AnyVec3};
 ghost use Rattle.builtins.specs.Triples as t;
+ghost use Rattle.fixed_math.specs.Fixed.{add, mul};
 ghost use Rattle.number_rows.specs.Planes.{triple_at, triple_in, ArePlanes};
 
 use crate::plane::Planes;
 use crate::raw::Raw;
 use builtins::faceforward;
 use fixed_math::{Num, Vec3};
+use lanes::{direction, raw};
 
 /// A number of a triple.
 pub trait OfTriple {
@@ -41,6 +43,47 @@ pub trait ToTriples {
         ensures { result ≡ formula a b };
 }
 
+#[inline(always)]
+fn product(x: Raw, y: Raw) -> Raw
+    ensures { result ≡ mul x y }
+{
+    Raw::from_bits(raw::mul(x.bits(), y.bits()))
+}
+
+#[inline(always)]
+fn sum(x: Raw, y: Raw) -> Raw
+    ensures { result ≡ add x y }
+{
+    Raw::from_bits(raw::add(x.bits(), y.bits()))
+}
+
+// The sum of the products of the parts.
+#[inline(always)]
+#[tactic(auto, unfolding(builtins::specs::Triples::dot))]
+fn products(a: &Vec3, b: &Vec3) -> Num
+    ensures { result ≡ t.dot a.now b.now }
+{
+    let x = product(Raw::of(a.x), Raw::of(b.x));
+    let y = product(Raw::of(a.y), Raw::of(b.y));
+    let z = product(Raw::of(a.z), Raw::of(b.z));
+    sum(sum(x, y), z).number()
+}
+
+// The vector of length 1 of a direction; 0 for one of no length.
+#[inline(always)]
+#[tactic(auto, unfolding(builtins::specs::Triples::normalize))]
+fn unit(a: &Vec3) -> Vec3
+    ensures { result ≡ t.normalize a.now }
+{
+    let (x, y, z) = (Raw::of(a.x), Raw::of(a.y), Raw::of(a.z));
+    let u = direction::unit(x.bits(), y.bits(), z.bits());
+    Vec3 {
+        x: Raw::from_bits(u.x).number(),
+        y: Raw::from_bits(u.y).number(),
+        z: Raw::from_bits(u.z).number(),
+    }
+}
+
 /// The length.
 pub struct Length;
 
@@ -61,7 +104,7 @@ impl OfTriples for Dot {
 
     #[inline(always)]
     fn apply(a: Vec3, b: Vec3) -> Num {
-        builtins::dot(a, b)
+        products(&a, &b)
     }
 }
 
@@ -85,7 +128,7 @@ impl ToTriple for Normalize {
 
     #[inline(always)]
     fn apply(a: Vec3) -> Vec3 {
-        builtins::normalize(a)
+        unit(&a)
     }
 }
 
