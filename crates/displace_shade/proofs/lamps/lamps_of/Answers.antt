@@ -10,7 +10,7 @@ loop-k-preserved c =
     let l = c.args.leaf.now in
     let n = c.at.result in
     let e = c.lights-lights.ensures in
-    let t = c.loop-k-test.true in
+    let t = subst (λ m. c.loop-k.k < m) c.len-k-end.ensures c.loop-k-test.true in
     record {
       lights =
           lamps_more l (set_value c.args.set.now) c.args.uses.now l.prim.lights c.loop-k.k n c.in_ok-lamp.lamp c.loop-k.lamps.items c.push.new.self.items (subst (λ xs. c.loop-k.k < length xs) e t) (c.at.ensures ∙ ap (λ xs. get_or xs c.loop-k.k 0) e) c.in_ok-lamp.ensures.found
