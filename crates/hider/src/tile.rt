@@ -37,6 +37,21 @@ impl Model for Tile {
     ghost invariant = { λ t. IsTile (record { grid = t.grid; samples = t.samples.items }) };
 }
 
+/// Which samples those of a rectangle are, given by its left, top, right and bottom.
+fn grid_of(rect: [u32; 4], xs: u32, ys: u32) -> SampleGrid
+    ensures { result ≡ grid_of rect xs ys }
+{
+    let [left, top, right, bottom] = rect;
+    SampleGrid {
+        left,
+        top,
+        right,
+        bottom,
+        xs,
+        ys,
+    }
+}
+
 /// The samples of a tile, at which nothing shows.
 fn samples_of(alloc: Global, grid: &SampleGrid) -> Result<Vec<TileSample>, NoMemory>
     requires { IsSampleGrid grid.now }
@@ -74,17 +89,21 @@ impl Tile {
         ensures grid { IfOk result (λ tile. tile.grid ≡ grid_of rect xs ys) }
         ensures empty { IfOk result (λ tile. Shows tile (λ s. [])) }
     {
-        let [left, top, right, bottom] = rect;
-        let grid = SampleGrid {
-            left,
-            top,
-            right,
-            bottom,
-            xs,
-            ys,
-        };
+        let grid = grid_of(rect, xs, ys);
         let samples = samples_of(alloc, &grid)?;
         Ok(Tile { grid, samples })
+    }
+
+    /// Makes it a tile of other pixels, with as many samples a pixel, at which nothing shows, as `new` would.
+    pub fn renew(&mut self, rect: [u32; 4]) -> Result<(), NoMemory>
+        requires { IsSampleGrid (grid_of rect self.old.grid.xs self.old.grid.ys) }
+        ensures grid { OnOk result (self.new.grid ≡ grid_of rect self.old.grid.xs self.old.grid.ys) }
+        ensures empty { OnOk result (Shows self.new (λ s. [])) }
+    {
+        let grid = grid_of(rect, self.grid.xs, self.grid.ys);
+        let samples = samples_of(*self.samples.allocator(), &grid)?;
+        *self = Tile { grid, samples };
+        Ok(())
     }
 
     /// Adds what the cells show, before the camera, at each sample: by depth, and behind what has an equal depth. Cells of one
