@@ -5,3 +5,4 @@ pub mod Fitting
 pub mod Seen
 pub mod Stacks
 mod Culls
+pub mod Meetings

@@ -3,3 +3,4 @@ pub mod Decisions
 pub mod Leaves
 pub mod Squares
 pub mod Culling
+pub mod Extents

@@ -5,10 +5,12 @@
 #![tactic(auto)]
 
 mod deciding;
+mod extents;
 mod lengths;
 mod splits;
 mod walk;
 
 pub use deciding::decide;
+pub use extents::{Extent, Reach, extent_of, meets};
 pub use splits::{Decision, halves};
 pub use walk::{Leaf, Walk};

@@ -1,6 +1,6 @@
 -- Normals of a surface: the unit of the exact cross product of its partial derivatives (RenderMan Interface 3.2, section 4.2.3,
 -- on the direction of normals).
-use Rattle.std.specs.Prelude.{ℕ, ℤ, pos, neg_ℤ, ◌*ℤ◌, ◌-ℤ◌, List, [], ◌∷◌, slice_index_or, ◌≡◌, refl}
+use Rattle.std.specs.Prelude.{ℕ, ◌<◌, ◌≤◌, ◌^◌, ℤ, pos, neg_ℤ, ◌*ℤ◌, ◌-ℤ◌, unsigned_abs, List, [], ◌∷◌, slice_index_or, ◌≡◌, refl}
 use Rattle.fixed_math.specs.declared.vec3.Vec3.{Vec3}
 use Rattle.fixed_math.specs.Unit.{unit_part}
 
@@ -26,6 +26,10 @@ direction c = record {
 -- the normal at u and v, from the derivatives along u and along v
 abbrev pub normal : (ℕ → ℕ → List ℤ) → (ℕ → ℕ → List ℤ) → ℕ → ℕ → Vec3
 normal du dv u v = direction (cross (du u v) (dv u v))
+
+-- for private contracts alone: each of three numbers has a magnitude of at most 2 ^ 22, so that their products are far from 64 bits
+abbrev pub AreShort : List ℤ → Type 0
+AreShort zs = (k : ℕ) → k < 3 → unsigned_abs (item zs k) ≤ 2 ^ 22
 
 -- worked values: x before y gives z, y before x its opposite; no direction gives no normal
 cross_of_axes : cross (pos 3 ∷ pos 0 ∷ pos 0 ∷ []) (pos 0 ∷ pos 5 ∷ pos 0 ∷ []) ≡ pos 0 ∷ pos 0 ∷ pos 15 ∷ []

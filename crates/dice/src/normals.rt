@@ -1,12 +1,14 @@
 // The normals of a diced grid.
-ghost use Rattle.std.specs.Prelude.{◌≡◌, ◌≤◌, ◌<◌, ◌*◌, ◌+◌, ◌^◌, ℕ, pos, ◌*ℤ◌, ◌-ℤ◌, List, ◌++◌, length, map, unsigned_abs, slice_index_or, IfOk};
+ghost use Rattle.std.specs.Prelude.{◌≡◌, ◌≤◌, ◌<◌, ◌*◌, ◌+◌, ◌^◌, ℕ, pos, true, ◌*ℤ◌, ◌-ℤ◌, List, ◌++◌, length, map, unsigned_abs, slice_index_or, IfOk};
 ghost use Rattle.std.specs.List.{range_with_len};
+ghost use Rattle.fixed_math.specs.Fixed.{IsRaw};
 ghost use Rattle.patches.specs.Slopes.{AreBelow};
 ghost use Rattle.dice.specs.Grids.{line_count, line_at, lines, row_points, diced_points};
-ghost use Rattle.dice.specs.Normals.{cross as cross_of, normal};
+ghost use Rattle.dice.specs.Normals.{item, cross as cross_of, direction, normal, AreShort};
 
 use crate::grid::line_at;
-use fixed_math::{NoMemory, Vec3, minus, times, unit};
+use fixed_math::{NoMemory, Num, Vec3, minus, times, unit};
+use lanes::wide::unit_wide;
 use patches::{Dyadic, Piece, Surface};
 use std::alloc::Allocator;
 
@@ -37,11 +39,88 @@ fn cross(a: [i64; 3], b: [i64; 3]) -> [i128; 3]
     [x, y, z]
 }
 
+/// The same number of a cross product of short vectors.
+fn short_minor(a: i64, b: i64, c: i64, d: i64) -> i64
+    requires small_a { unsigned_abs a ≤ 2 ^ 22 }
+    requires small_b { unsigned_abs b ≤ 2 ^ 22 }
+    requires small_c { unsigned_abs c ≤ 2 ^ 22 }
+    requires small_d { unsigned_abs d ≤ 2 ^ 22 }
+    ensures value { result ≡ a *ℤ d -ℤ b *ℤ c }
+    ensures bound { unsigned_abs result < 2 ^ 46 }
+{
+    a * d - b * c
+}
+
+/// The exact cross product of short vectors.
+fn short_cross(a: [i64; 3], b: [i64; 3]) -> [i64; 3]
+    requires short_a { AreShort a }
+    requires short_b { AreShort b }
+    ensures value { result ≡ cross_of a b }
+    ensures small { (i : ℕ) → i < 3 → unsigned_abs (item result i) < 2 ^ 46 }
+{
+    let x = short_minor(a[1], a[2], b[1], b[2]);
+    let y = short_minor(a[2], a[0], b[2], b[0]);
+    let z = short_minor(a[0], a[1], b[0], b[1]);
+    [x, y, z]
+}
+
+fn number(x: i32) -> Num
+    requires { IsRaw x }
+    ensures { result ≡ x }
+{
+    Num::sat(x as i128)
+}
+
+/// The unit vector in the direction of three numbers of 46 bits.
+fn short_unit(c: [i64; 3]) -> Vec3
+    requires { (i : ℕ) → i < 3 → unsigned_abs (item c i) < 2 ^ 46 }
+    ensures { result ≡ direction c }
+{
+    let u = unit_wide(c[0], c[1], c[2]);
+    Vec3 {
+        x: number(u.x),
+        y: number(u.y),
+        z: number(u.z),
+    }
+}
+
+/// Whether each number of a vector has at most 22 bits.
+fn is_short(a: [i64; 3]) -> bool
+    ensures { result ≡ true → AreShort a }
+{
+    a[0].unsigned_abs() <= 4194304
+        && a[1].unsigned_abs() <= 4194304
+        && a[2].unsigned_abs() <= 4194304
+}
+
+/// The unit vector in the direction of the cross product: of short vectors, as most are, without numbers of 128 bits.
+fn cross_direction(a: [i64; 3], b: [i64; 3]) -> Vec3
+    requires small_a { AreBelow (2 ^ 40) a }
+    requires small_b { AreBelow (2 ^ 40) b }
+    ensures { result ≡ direction (cross_of a b) }
+{
+    if !is_short(a) {
+        return wide_unit(cross(a, b));
+    }
+    if !is_short(b) {
+        return wide_unit(cross(a, b));
+    }
+    short_unit(short_cross(a, b))
+}
+
+/// The unit vector in the direction of three numbers.
+fn wide_unit(c: [i128; 3]) -> Vec3
+    requires { (i : ℕ) → i < 3 → unsigned_abs (slice_index_or c i (pos 0)) < 2 ^ 100 }
+    ensures { result ≡ direction c }
+{
+    unit(c)
+}
+
 /// The unit normal of the surface at `u` and `v`, by its derivatives.
 fn normal_at<S: Surface>(s: &S, u: Dyadic, v: Dyadic) -> Vec3
     ensures { result ≡ normal (S.du_of s.now) (S.dv_of s.now) u v }
 {
-    unit(cross(s.du_at(u, v), s.dv_at(u, v)))
+    cross_direction(s.du_at(u, v), s.dv_at(u, v))
 }
 
 /// Appends the normals of the row of the grid at `v`.

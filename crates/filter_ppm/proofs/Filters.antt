@@ -75,10 +75,10 @@ pub mul_low : (a b : ℤ) → pos 0 ≤ℤ a → pos 0 ≤ℤ b → pos 0 ≤ℤ
 mul_low a b h k = let e = mul_mono (pos 0) a b h k in rw (nothing_passes b) at e
 
 -- ---- samples of pixels farther away than the reach don't count
-left_of : (w : ℕ) (d : ℤ) → (pos 2 *ℤ d) <ℤ neg_ℤ (pos w) → counts w d ≡ false
+pub left_of : (w : ℕ) (d : ℤ) → (pos 2 *ℤ d) <ℤ neg_ℤ (pos w) → counts w d ≡ false
 left_of w d h = by_bool (counts w d) (λ e. let i = counts_within w d e in let l = i.left in absurd (omega (arith, ints))) (λ e. e)
 
-right_of : (w : ℕ) (d : ℤ) → pos w ≤ℤ (pos 2 *ℤ d) → counts w d ≡ false
+pub right_of : (w : ℕ) (d : ℤ) → pos w ≤ℤ (pos 2 *ℤ d) → counts w d ≡ false
 right_of w d h = by_bool (counts w d) (λ e. let i = counts_within w d e in let l = i.right in absurd (omega (arith, ints))) (λ e. e)
 
 -- a place in a pixel too far to the left or to the right of pixel x

@@ -6,3 +6,11 @@ pub mod Within
 pub mod Means
 pub mod Filters
 pub mod Bytes
+pub mod Spans
+pub mod Joins
+pub mod Totals
+pub mod SumsBelow
+pub mod Rows
+pub mod Windows
+pub mod Bands
+pub mod Puts

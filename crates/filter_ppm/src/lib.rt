@@ -1,20 +1,27 @@
 //! From samples to the bytes of a picture: the filter's weights, the weighted mean, exposure, quantizing, and the format PPM.
 #![tactic(auto)]
 
+mod adding;
 mod film;
 mod filtered;
 mod levels;
+mod pixel_filter;
 mod pixel_window;
 mod ppm;
+mod rect;
 mod sampling;
 mod shown;
+mod span;
 mod sums;
+mod tables;
+mod total;
 mod weights;
 mod window;
 
 pub use film::Film;
 pub use filtered::pixels;
 pub use levels::{expose, pixel_levels, quantize};
+pub use pixel_filter::PixelFilter;
 pub use ppm::{band_bytes, header};
 pub use sums::Sums;
 pub use weights::{reach, weight};

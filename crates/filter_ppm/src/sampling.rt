@@ -24,7 +24,7 @@ pub(crate) fn samples_per_pixel(o: &Options) -> usize
 }
 
 /// Sample `n` of the tile.
-fn sample_at(tile: &Tile, n: usize) -> ShownSample
+pub(crate) fn sample_at(tile: &Tile, n: usize) -> ShownSample
     requires grid { IsSampleGrid tile.now.grid }
     requires inside { n < tile_count tile.now.grid }
     ensures { (f : Sample → List Fragment) → Shows tile.now f → result ≡ shown_with (λ s. composite (f s)) (sample_of tile.now.grid n) }

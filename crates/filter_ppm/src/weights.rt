@@ -1,5 +1,7 @@
 // The filters' weights.
-ghost use Rattle.std.specs.Prelude.{◌≡◌, ◌≤◌, ◌≤ℤ◌, ◌*ℤ◌, ◌*◌, pos, true, unsigned_abs};
+ghost use Rattle.std.specs.Prelude.{◌≡◌, ◌≤◌, ◌≤ℤ◌, ◌*ℤ◌, ◌*◌, pos, neg_ℤ, true, unsigned_abs};
+ghost use Rattle.fixed_math.specs.Fixed.{mul};
+ghost use Rattle.fixed_math.specs.Power.{exp};
 ghost use Rattle.filter_ppm.specs.Weight.{counts, slope, across, bell, by_filter, weight, reach};
 
 use fixed_math::{Num, floor_by, minus, times};
@@ -15,7 +17,7 @@ fn is_within(width: u32, d: i64) -> bool
 
 /// One direction of the triangle filter.
 #[tactic(auto, unfolding(crate::specs::Weight::slope))]
-fn slope_at(width: u32, d: i64) -> Num
+pub(crate) fn slope_at(width: u32, d: i64) -> Num
     requires some { 1 ≤ width }
     requires within { counts width d ≡ true }
     ensures value { result ≡ slope width d }
@@ -30,12 +32,21 @@ fn slope_at(width: u32, d: i64) -> Num
 
 /// The place in the filter, 65536 for half of its width.
 #[tactic(auto, unfolding(crate::specs::Weight::across))]
-fn across_at(width: u32, d: i64) -> Num
+pub(crate) fn across_at(width: u32, d: i64) -> Num
     requires some { 1 ≤ width }
     requires within { counts width d ≡ true }
     ensures { result ≡ across width d }
 {
     Num::sat(floor_by(times::<17, 64>(131072, d as i128), width as u128))
+}
+
+/// The gaussian filter where the squares of both directions sum to `square`.
+pub(crate) fn bell_of(square: Num) -> Num
+    ensures value { result ≡ exp (mul (neg_ℤ (pos 131072)) square) }
+    ensures low { pos 0 ≤ℤ result }
+{
+    let power = Num::sat(-131072).mul(square);
+    power.mul(Num::sat(94548)).exp2()
 }
 
 /// The gaussian filter at `x`, `y`.
@@ -44,9 +55,7 @@ fn bell_at(x: Num, y: Num) -> Num
     ensures value { result ≡ bell x y }
     ensures low { pos 0 ≤ℤ result }
 {
-    let square = x.mul(x).add(y.mul(y));
-    let power = Num::sat(-131072).mul(square);
-    power.mul(Num::sat(94548)).exp2()
+    bell_of(x.mul(x).add(y.mul(y)))
 }
 
 /// How much a sample at `dx`, `dy` from the middle of a pixel, in 1/256 pixel, counts for it: by the filter within its

@@ -17,3 +17,5 @@ pub mod Stills
 pub mod Moves
 pub mod Showings
 pub mod Frames
+pub mod Depths
+pub mod Flats

@@ -65,7 +65,7 @@ corners_in w lo hi b k h i =
     }
 
 -- what isn't shown by the projected cell isn't by what is seen of it
-seen_none : (w : View) (one_sided flip : Bool) (k : Cell) (f : Quad → Option Fragment) → f (projected w k) ≡ None → option_and_then f (quad_of w one_sided flip k) ≡ None
+pub seen_none : (w : View) (one_sided flip : Bool) (k : Cell) (f : Quad → Option Fragment) → f (projected w k) ≡ None → option_and_then f (quad_of w one_sided flip k) ≡ None
 unfolding quad_of
 seen_none w one_sided flip k f e =
     by_bool (is_all_in_depth w k)

@@ -1,18 +1,24 @@
--- The place of a fragment, found from the front.
-use Rattle.std.proofs.Common.{◌≡◌, ℕ, zero, suc, ◌+◌, ◌<◌, ◌≤◌, ap, arith, refl, sym, ◌∙◌, true, false, List, [], ◌∷◌, ◌++◌, take, drop, length, insert, get_or, drop-cons, append_assoc}
-use Rattle.std.specs.Prelude.{ℤ, ◌≤ℤ◌, ◌<ℤ◌, int_le}
+-- A fragment put into a list that is kept as its opaque fragment and what lies in front of that.
+use Rattle.std.proofs.Common.{◌≡◌, ℕ, zero, suc, ◌+◌, ◌<◌, ◌≤◌, ap, arith, refl, sym, ◌∙◌, Bool, true, false, List, [], ◌∷◌, ◌++◌, take, drop, length, insert, get_or, drop-cons, append_assoc}
+use Rattle.std.specs.Prelude.{ℤ, ◌≤ℤ◌, ◌<ℤ◌, int_le, int_lt, Option, Some, None, ◌||◌}
+use Rattle.std.specs.List.{list_any, cons_option}
 use Rattle.std.proofs.lemmas.Int.{ints}
-use Rattle.std.proofs.lemmas.List.{take_more, take-append-drop, append_cancel_left}
+use Rattle.std.proofs.lemmas.List.{take_more}
+use Rattle.std.proofs.lemmas.List.Folds.{list_any-append}
 use Rattle.hider.specs.declared.fragment.Fragment.{Fragment}
 use Rattle.hider.specs.Composite.{is_opaque, cut}
-use Rattle.hider.specs.Kept.{keep}
+use Rattle.hider.specs.Fragments.{put_in, IsSorted, IsSortedFrom}
+use Rattle.hider.specs.Kept.{IsKeptIn, IsPlace, kept_list, keep, hides, blocks, blocks_by, is_behind}
+use Rattle.hider.proofs.Cuts.{by_bool}
+use Rattle.hider.proofs.Keeps.{keep_is_kept, nothing_kept}
 
-le_true : (a b : ℤ) → a ≤ℤ b → int_le a b ≡ true
+pub le_true : (a b : ℤ) → a ≤ℤ b → int_le a b ≡ true
 le_true a b h = let d : true ≡ int_le a b = omega (arith, ints) in sym d
 
-le_false : (a b : ℤ) → b <ℤ a → int_le a b ≡ false
+pub le_false : (a b : ℤ) → b <ℤ a → int_le a b ≡ false
 le_false a b h = let d : false ≡ int_le a b = omega (arith, ints) in sym d
 
+-- ---- the place, found from the front
 after : (l : List Fragment) (i : ℕ) (g : Fragment) → i < length l → g ≡ get_or l i g → drop i l ≡ g ∷ drop (i + 1) l
 after l i g h e =
     let n : i + 1 ≡ suc i = omega arith in
@@ -23,56 +29,167 @@ before l i g h e = take_more l i g h ∙ ap (λ (x : Fragment). take i l ++ x �
 
 -- before a farther one
 pub placed : (f : Fragment) (l : List Fragment) (i : ℕ) (g : Fragment) → i < length l → g ≡ get_or l i g → f.depth <ℤ g.depth →
-    keep f l ≡ take i l ++ keep f (drop i l) → keep f l ≡ take i l ++ cut (f ∷ drop i l)
+    put_in f l ≡ take i l ++ put_in f (drop i l) → put_in f l ≡ take i l ++ f ∷ drop i l
 placed f l i g h e d k =
     let a = after l i g h e in
     let n = le_false g.depth f.depth d in
-    let same : keep f (g ∷ drop (i + 1) l) ≡ cut (f ∷ g ∷ drop (i + 1) l) = rw n refl in
-    k ∙ ap (λ r. take i l ++ keep f r) a ∙ ap (λ r. take i l ++ r) same ∙ ap (λ r. take i l ++ cut (f ∷ r)) (sym a)
+    let same : put_in f (g ∷ drop (i + 1) l) ≡ f ∷ g ∷ drop (i + 1) l = rw n refl in
+    k ∙ ap (λ r. take i l ++ put_in f r) a ∙ ap (λ r. take i l ++ r) same ∙ ap (λ r. take i l ++ f ∷ r) (sym a)
 
--- behind an opaque one
-pub covered : (f : Fragment) (l : List Fragment) (i : ℕ) (g : Fragment) → i < length l → g ≡ get_or l i g → g.depth ≤ℤ f.depth → is_opaque g ≡ true →
-    cut l ≡ take i l ++ cut (drop i l) → keep f l ≡ take i l ++ keep f (drop i l) → keep f l ≡ cut l
-covered f l i g h e d o c k =
-    let a = after l i g h e in
-    let n = le_true g.depth f.depth d in
-    let same : keep f (g ∷ drop (i + 1) l) ≡ cut (g ∷ drop (i + 1) l) = simp (n, o) in
-    k ∙ ap (λ r. take i l ++ keep f r) a ∙ ap (λ r. take i l ++ r) same ∙ ap (λ r. take i l ++ cut r) (sym a) ∙ sym c
-
--- behind one that isn't
-pub cut_further : (l : List Fragment) (i : ℕ) (g : Fragment) → i < length l → g ≡ get_or l i g → is_opaque g ≡ false →
-    cut l ≡ take i l ++ cut (drop i l) → cut l ≡ take (i + 1) l ++ cut (drop (i + 1) l)
-cut_further l i g h e o c =
-    let a = after l i g h e in
-    let b = before l i g h e in
-    let same : cut (g ∷ drop (i + 1) l) ≡ g ∷ cut (drop (i + 1) l) = rw o refl in
-    c ∙ ap (λ r. take i l ++ cut r) a ∙ ap (λ r. take i l ++ r) same ∙ sym (append_assoc (take i l) (g ∷ []) (cut (drop (i + 1) l))) ∙ ap (λ t. t ++ cut (drop (i + 1) l)) (sym b)
-
-pub put_further : (f : Fragment) (l : List Fragment) (i : ℕ) (g : Fragment) → i < length l → g ≡ get_or l i g → g.depth ≤ℤ f.depth → is_opaque g ≡ false →
-    keep f l ≡ take i l ++ keep f (drop i l) → keep f l ≡ take (i + 1) l ++ keep f (drop (i + 1) l)
-put_further f l i g h e d o k =
+-- behind one that is no farther
+pub put_further : (f : Fragment) (l : List Fragment) (i : ℕ) (g : Fragment) → i < length l → g ≡ get_or l i g → g.depth ≤ℤ f.depth →
+    put_in f l ≡ take i l ++ put_in f (drop i l) → put_in f l ≡ take (i + 1) l ++ put_in f (drop (i + 1) l)
+put_further f l i g h e d k =
     let a = after l i g h e in
     let b = before l i g h e in
     let n = le_true g.depth f.depth d in
-    let same : keep f (g ∷ drop (i + 1) l) ≡ g ∷ keep f (drop (i + 1) l) = simp (n, o) in
-    k ∙ ap (λ r. take i l ++ keep f r) a ∙ ap (λ r. take i l ++ r) same ∙ sym (append_assoc (take i l) (g ∷ []) (keep f (drop (i + 1) l))) ∙ ap (λ t. t ++ keep f (drop (i + 1) l)) (sym b)
+    let same : put_in f (g ∷ drop (i + 1) l) ≡ g ∷ put_in f (drop (i + 1) l) = rw n refl in
+    k ∙ ap (λ r. take i l ++ put_in f r) a ∙ ap (λ r. take i l ++ r) same ∙ sym (append_assoc (take i l) (g ∷ []) (put_in f (drop (i + 1) l))) ∙ ap (λ t. t ++ put_in f (drop (i + 1) l)) (sym b)
 
--- ---- put at its place
-insert_last : (f : Fragment) (p : ℕ) (l : List Fragment) → p ≤ length l → insert (take p l) p f ≡ take p l ++ f ∷ []
-insert_last f zero l h = refl
-insert_last f (suc p) [] h = absurd (omega arith)
-insert_last f (suc p) (g ∷ gs) h = ap (λ r. g ∷ r) (insert_last f p gs (omega arith))
+drop_whole : (l : List Fragment) → drop (length l) l ≡ []
+drop_whole [] = refl
+drop_whole (x ∷ xs) = drop_whole xs
 
-pub opaque_put : (f : Fragment) (p : ℕ) (l k new : List Fragment) → p ≤ length l → is_opaque f ≡ true → keep f l ≡ take p l ++ cut (f ∷ drop p l) →
-    k ≡ take p l → new ≡ insert k p f → new ≡ keep f l
-opaque_put f p l k new h o e t n =
-    let last : cut (f ∷ drop p l) ≡ f ∷ [] = rw o refl in
-    n ∙ ap (λ x. insert x p f) t ∙ insert_last f p l h ∙ ap (λ r. take p l ++ r) (sym last) ∙ sym e
+-- behind all
+pub put_last : (f : Fragment) (l : List Fragment) (i : ℕ) → i ≡ length l → put_in f l ≡ take i l ++ put_in f (drop i l) → put_in f l ≡ take i l ++ f ∷ drop i l
+put_last f l i e k =
+    let d : drop i l ≡ [] = ap (λ n. drop n l) e ∙ drop_whole l in
+    k ∙ ap (λ r. take i l ++ put_in f r) d ∙ ap (λ r. take i l ++ f ∷ r) (sym d)
 
-pub clear_put : (f : Fragment) (p : ℕ) (l k new : List Fragment) → cut l ≡ l → is_opaque f ≡ false → cut l ≡ take p l ++ cut (drop p l) → keep f l ≡ take p l ++ cut (f ∷ drop p l) →
-    k ≡ l → new ≡ insert k p f → new ≡ keep f l
-clear_put f p l k new w o c e t n =
-    let parts : take p l ++ drop p l ≡ l = take-append-drop p l in
-    let rest : drop p l ≡ cut (drop p l) = append_cancel_left (take p l) (drop p l) (cut (drop p l)) (parts ∙ sym w ∙ c) in
-    let last : cut (f ∷ drop p l) ≡ f ∷ cut (drop p l) = rw o refl in
-    n ∙ ap (λ x. insert x p f) t ∙ ap (λ r. take p l ++ f ∷ r) rest ∙ ap (λ r. take p l ++ r) (sym last) ∙ sym e
+-- ---- lists without an opaque fragment
+any_first : (a b : Bool) → (a || b) ≡ false → a ≡ false
+any_first false b e = refl
+any_first true b e = e
+
+any_rest : (a b : Bool) → (a || b) ≡ false → b ≡ false
+any_rest false b e = e
+any_rest true b e = absurd (cc)
+
+cut-append : (x y : List Fragment) → list_any is_opaque x ≡ false → cut (x ++ y) ≡ x ++ cut y
+cut-append [] y e = refl
+cut-append (g ∷ gs) y e =
+    let o = any_first (is_opaque g) (list_any is_opaque gs) e in
+    let i = cut-append gs y (any_rest (is_opaque g) (list_any is_opaque gs) e) in
+    simp (o, i)
+
+take_clear : (n : ℕ) (l : List Fragment) → list_any is_opaque l ≡ false → list_any is_opaque (take n l) ≡ false
+take_clear zero l e = refl
+take_clear (suc n) [] e = refl
+take_clear (suc n) (g ∷ gs) e =
+    let o = any_first (is_opaque g) (list_any is_opaque gs) e in
+    let i = take_clear n gs (any_rest (is_opaque g) (list_any is_opaque gs) e) in
+    rw (o, i) refl
+
+put_in_clear : (f : Fragment) (l : List Fragment) → is_opaque f ≡ false → list_any is_opaque l ≡ false → list_any is_opaque (put_in f l) ≡ false
+put_in_clear f [] p e = rw p refl
+put_in_clear f (g ∷ gs) p e =
+    let o = any_first (is_opaque g) (list_any is_opaque gs) e in
+    let r = any_rest (is_opaque g) (list_any is_opaque gs) e in
+    let i = put_in_clear f gs p r in
+    by_bool (int_le g.depth f.depth)
+    (λ d. rw (d, o, i) refl)
+    (λ d. rw (d, p, o, r) refl)
+
+cut_back : (back : Option Fragment) → cut (cons_option back []) ≡ cons_option back []
+cut_back None = refl
+cut_back (Some b) = by_bool (is_opaque b) (λ o. rw o refl) (λ o. rw o refl)
+
+-- ---- before the opaque fragment
+put_before : (f : Fragment) (x : List Fragment) (back : Option Fragment) → is_behind back f.depth ≡ false → put_in f (x ++ cons_option back []) ≡ put_in f x ++ cons_option back []
+put_before f [] None e = refl
+put_before f [] (Some b) e = rw e refl
+put_before f (g ∷ gs) back e =
+    let i = put_before f gs back e in
+    by_bool (int_le g.depth f.depth) (λ d. simp (d, i)) (λ d. rw d refl)
+
+-- behind it
+below_last : (m : ℤ) (x : List Fragment) (b : Fragment) → IsSortedFrom m (x ++ b ∷ []) → m ≤ℤ b.depth
+below_last m [] b s = s.0
+below_last m (g ∷ gs) b s = let i = below_last g.depth gs b s.1 in let h = s.0 in omega (arith, ints, i, h)
+
+rest_sorted : (m : ℤ) (l : List Fragment) → IsSortedFrom m l → IsSorted l
+rest_sorted m [] s = tt
+rest_sorted m (g ∷ gs) s = s.1
+
+put_behind : (f b : Fragment) (x : List Fragment) → IsSorted (x ++ b ∷ []) → b.depth ≤ℤ f.depth → put_in f (x ++ b ∷ []) ≡ x ++ b ∷ f ∷ []
+put_behind f b [] s h = let d = le_true b.depth f.depth h in rw d refl
+put_behind f b (g ∷ gs) s h =
+    let l = below_last g.depth gs b s in
+    let d = le_true g.depth f.depth (omega (arith, ints, l, h)) in
+    let i = put_behind f b gs (rest_sorted g.depth (gs ++ b ∷ []) s) h in
+    rw d (ap (λ r. g ∷ r) i)
+
+pub le_from : (a b : ℤ) → int_le a b ≡ true → a ≤ℤ b
+le_from a b e = omega (arith, ints, e)
+
+pub kept_behind : (f : Fragment) (front : List Fragment) (back : Option Fragment) → IsKeptIn front back → is_behind back f.depth ≡ true → keep f (kept_list front back) ≡ kept_list front back
+kept_behind f front None k e = absurd (cc)
+kept_behind f front (Some b) k e =
+    let o = k.opaque b refl in
+    let p = put_behind f b front k.kept.sorted (le_from b.depth f.depth e) in
+    let last : cut (b ∷ f ∷ []) ≡ b ∷ [] = rw o refl in
+    ap cut p ∙ cut-append front (b ∷ f ∷ []) k.clear ∙ ap (λ r. front ++ r) last
+
+-- ---- put in front
+insert_is : (f : Fragment) (p : ℕ) (l : List Fragment) → p ≤ length l → insert l p f ≡ take p l ++ f ∷ drop p l
+insert_is f p l h = refl
+
+pub kept_clear : (f : Fragment) (front new : List Fragment) (back : Option Fragment) (p : ℕ) → IsKeptIn front back → is_behind back f.depth ≡ false → is_opaque f ≡ false → IsPlace f front p → new ≡ insert front p f →
+    kept_list new back ≡ keep f (kept_list front back)
+kept_clear f front new back p k h o i e =
+    let n : new ≡ put_in f front = e ∙ insert_is f p front i.inside ∙ sym i.put in
+    ap (λ r. r ++ cons_option back []) n
+    ∙ sym (ap cut (put_before f front back h) ∙ cut-append (put_in f front) (cons_option back []) (put_in_clear f front o k.clear) ∙ ap (λ r. put_in f front ++ r) (cut_back back))
+
+pub clear_is : (f : Fragment) (front new : List Fragment) (back : Option Fragment) (p : ℕ) → IsKeptIn front back → is_behind back f.depth ≡ false → is_opaque f ≡ false → IsPlace f front p → new ≡ insert front p f →
+    IsKeptIn new back
+clear_is f front new back p k h o i e =
+    let n : new ≡ put_in f front = e ∙ insert_is f p front i.inside ∙ sym i.put in
+    record {
+      kept = rw (kept_clear f front new back p k h o i e) (keep_is_kept f (kept_list front back) k.kept.sorted);
+      clear = rw n (put_in_clear f front o k.clear);
+      opaque = k.opaque;
+    }
+
+-- ---- in the opaque fragment's stead
+pub kept_opaque : (f : Fragment) (front new : List Fragment) (back : Option Fragment) (p : ℕ) → IsKeptIn front back → is_behind back f.depth ≡ false → is_opaque f ≡ true → IsPlace f front p → new ≡ take p front →
+    kept_list new (Some f) ≡ keep f (kept_list front back)
+kept_opaque f front new back p k h o i e =
+    let rest = drop p front ++ cons_option back [] in
+    let last : cut (f ∷ rest) ≡ f ∷ [] = rw o refl in
+    ap (λ r. r ++ f ∷ []) e
+    ∙ sym (ap cut (put_before f front back h ∙ ap (λ r. r ++ cons_option back []) i.put ∙ append_assoc (take p front) (f ∷ drop p front) (cons_option back []))
+    ∙ cut-append (take p front) (f ∷ rest) (take_clear p front k.clear) ∙ ap (λ r. take p front ++ r) last)
+
+pub opaque_is : (f : Fragment) (front new : List Fragment) (back : Option Fragment) (p : ℕ) → IsKeptIn front back → is_behind back f.depth ≡ false → is_opaque f ≡ true → IsPlace f front p → new ≡ take p front →
+    IsKeptIn new (Some f)
+opaque_is f front new back p k h o i e = record {
+  kept = rw (kept_opaque f front new back p k h o i e) (keep_is_kept f (kept_list front back) k.kept.sorted);
+  clear = rw e (take_clear p front k.clear);
+  opaque = λ b s. let same : f ≡ b = cc in rw (← same) o;
+}
+
+-- ---- nothing
+pub nothing_is : IsKeptIn [] None
+nothing_is = record { kept = nothing_kept; clear = refl; opaque = λ b s. absurd (cc) }
+
+-- ---- what the opaque fragment blocks, the list does
+clear_blocks : (z : ℤ) (x : List Fragment) → list_any is_opaque x ≡ false → blocks z x ≡ false
+clear_blocks z [] e = refl
+clear_blocks z (g ∷ gs) e =
+    let o = any_first (is_opaque g) (list_any is_opaque gs) e in
+    let i = clear_blocks z gs (any_rest (is_opaque g) (list_any is_opaque gs) e) in
+    rw (o, i) refl
+
+or_false : (a : Bool) → (a || false) ≡ a
+or_false true = refl
+or_false false = refl
+
+pub blocks_back : (z : ℤ) (front : List Fragment) (back : Option Fragment) → IsKeptIn front back → blocks_by back z ≡ blocks z (kept_list front back)
+blocks_back z front None k =
+    let c = clear_blocks z front k.clear in
+    sym (list_any-append (hides z) front [] ∙ rw c refl)
+blocks_back z front (Some b) k =
+    let c = clear_blocks z front k.clear in
+    let o = k.opaque b refl in
+    sym (list_any-append (hides z) front (b ∷ []) ∙ rw (c, o) (or_false (int_lt b.depth z)))

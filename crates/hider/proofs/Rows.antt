@@ -1,16 +1,15 @@
 -- Samples by rows of pixels.
-use Rattle.std.proofs.Common.{◌≡◌, ℕ, zero, suc, ◌+◌, ◌-◌, ◌*◌, ◌/◌, ◌%◌, ◌<◌, ◌≤◌, ap, arith, refl, ◌∙◌, List, [], length, inl, inr, slice_index_or}
+use Rattle.std.proofs.Common.{◌≡◌, ℕ, zero, suc, ◌+◌, ◌-◌, ◌*◌, ◌/◌, ◌%◌, ◌<◌, ◌≤◌, ap, arith, refl, ◌∙◌, List, [], inl, inr, slice_index_or}
 use Rattle.std.specs.Prelude.{Option, None}
 use Rattle.std.specs.List.{cons_option}
 use Rattle.std.proofs.Math.Nat.{mod-lt, div-add-mod, div-lt_iff_lt-mul, le-div_iff_mul-le, mul-le-mul_right, mul_comm, mul-pos}
 use Rattle.hider.specs.declared.fragment.Fragment.{Fragment}
 use Rattle.hider.specs.declared.sample.Sample.{Sample}
 use Rattle.hider.specs.declared.sample_grid.SampleGrid.{SampleGrid}
-use Rattle.hider.specs.declared.tile_sample.TileSample.{TileSample}
 use Rattle.hider.specs.Searching.{column_of, row_of, IsPartOf, LiesBeside, StaysIn}
-use Rattle.hider.specs.Tiles.{IsSampleGrid, AreSamplesOf, HasPut, HavePutBetween, HaveKept}
+use Rattle.hider.specs.Tiles.{IsSampleGrid, HasPut, HavePutBetween, HaveKept, sample_count, sample_of}
 
-by_lt : {P : Type 0} (a b : ℕ) → (a < b → P) → (b ≤ a → P) → P
+pub by_lt : {P : Type 0} (a b : ℕ) → (a < b → P) → (b ≤ a → P) → P
 by_lt a zero f g = g (omega arith)
 by_lt zero (suc b) f g = f (omega arith)
 by_lt (suc a) (suc b) f g = by_lt a b (λ h. f (omega (arith, h))) (λ h. g (omega (arith, h)))
@@ -65,13 +64,13 @@ row_inside w h k row r a b =
     mul-le-mul_right k (omega (arith, m, s, c, b))
 
 -- ---- row by row
-pub nothing_put : (shown : Sample → Option Fragment) (o : TileSample) → shown o.at ≡ None → HasPut (λ s. cons_option (shown s) []) o o
-nothing_put shown o e = (refl, rw e refl)
+pub nothing_put : (shown : Sample → Option Fragment) (s : Sample) (o : List Fragment) → shown s ≡ None → HasPut (λ s. cons_option (shown s) []) s o o
+nothing_put shown s o e = rw e refl
 
 -- what is to be put in is in the samples of the first rows, and the others are as they were
-pub record RowsDone (g : SampleGrid) (row : ℕ) (h : Sample → List Fragment) (old new : List TileSample) : Type 0 where
-  pub done : (n : ℕ) (d : TileSample) → n < length old → row_of g n < g.top + row → HasPut h (slice_index_or old n d) (slice_index_or new n d)
-  pub rest : (n : ℕ) (d : TileSample) → n < length old → g.top + row ≤ row_of g n → slice_index_or new n d ≡ slice_index_or old n d
+pub record RowsDone (g : SampleGrid) (row : ℕ) (h : Sample → List Fragment) (old new : List (List Fragment)) : Type 0 where
+  pub done : (n : ℕ) (d : List Fragment) → n < sample_count g → row_of g n < g.top + row → HasPut h (sample_of g n) (slice_index_or old n d) (slice_index_or new n d)
+  pub rest : (n : ℕ) (d : List Fragment) → n < sample_count g → g.top + row ≤ row_of g n → slice_index_or new n d ≡ slice_index_or old n d
 
 -- the samples of one row, between the numbers of the first and behind the last of its part
 pub record IsRowPart (g part : SampleGrid) (row first last : ℕ) : Type 0 where
@@ -109,33 +108,32 @@ number_right g part row first last n v e y x =
     rw (e.last_is) (on_right (g.xs * g.ys) (g.right - g.left) n row (part.right - g.left) (some_samples g v) (omega (arith, y)) (omega (arith, x)))
 
 -- at a sample beside the part nothing is put in
-beside : (g part : SampleGrid) (shown : Sample → Option Fragment) (a : List TileSample) (n : ℕ) (d : TileSample) → AreSamplesOf g a → StaysIn part g shown → n < length a → LiesBeside part g n →
-    HasPut (λ s. cons_option (shown s) []) (slice_index_or a n d) (slice_index_or a n d)
-beside g part shown a n d i s h l =
-    nothing_put shown (slice_index_or a n d) (ap shown (i.places n d h) ∙ s n (let e = i.count in omega (arith, e, h)) l)
+beside : (g part : SampleGrid) (shown : Sample → Option Fragment) (n : ℕ) (l : List Fragment) → StaysIn part g shown → n < sample_count g → LiesBeside part g n → HasPut (λ s. cons_option (shown s) []) (sample_of g n) l l
+beside g part shown n l s h b = nothing_put shown (sample_of g n) l (s n h b)
 
-put_same : (h : Sample → List Fragment) (a b c : TileSample) → c ≡ b → HasPut h a b → HasPut h a c
-put_same h a b c e p = rw e p
+put_same : (h : Sample → List Fragment) (s : Sample) (a b c : List Fragment) → c ≡ b → HasPut h s a b → HasPut h s a c
+put_same h s a b c e p = rw e p
 
-pub rows_done_next : (g part : SampleGrid) (row first last : ℕ) (shown : Sample → Option Fragment) (a b c : List TileSample) → IsSampleGrid g → AreSamplesOf g a → IsPartOf part g → StaysIn part g shown →
-    length b ≡ length a → IsRowPart g part row first last → RowsDone g row (λ s. cons_option (shown s) []) a b → HaveKept first last b c → HavePutBetween first last (λ s. cons_option (shown s) []) b c →
+pub rows_done_next : (g part : SampleGrid) (row first last : ℕ) (shown : Sample → Option Fragment) (a b c : List (List Fragment)) → IsSampleGrid g → IsPartOf part g → StaysIn part g shown →
+    IsRowPart g part row first last → RowsDone g row (λ s. cons_option (shown s) []) a b → HaveKept first last b c → HavePutBetween first last g (λ s. cons_option (shown s) []) b c →
     RowsDone g (row + 1) (λ s. cons_option (shown s) []) a c
-rows_done_next g part row first last shown a b c v i p s len e r others put =
+rows_done_next g part row first last shown a b c v p s e r others put =
     let h : Sample → List Fragment = λ t. cons_option (shown t) [] in
     record {
       done = λ n d l y.
           let o = slice_index_or a n d in
           let m = slice_index_or b n d in
           let z = slice_index_or c n d in
+          let t = sample_of g n in
           by_lt (row_of g n) (g.top + row)
-          (λ before. put_same h o m z (others n d (inl (number_before g part row first last n v e before))) (r.done n d l before))
+          (λ before. put_same h t o m z (others n d (inl (number_before g part row first last n v e before))) (r.done n d l before))
           (λ further.
           let same : row_of g n ≡ g.top + row = omega (arith, y, further) in
           let kept = r.rest n d l further in
           by_lt (column_of g n) part.left
-          (λ left. put_same h o o z (others n d (inl (number_left g part row first last n v e same left)) ∙ kept) (beside g part shown a n d i s l (inl left)))
+          (λ left. put_same h t o o z (others n d (inl (number_left g part row first last n v e same left)) ∙ kept) (beside g part shown n o s l (inl left)))
           (λ from. by_lt (column_of g n) part.right
-          (λ to. rw (kept) at (put n d (omega (arith, len, l)) (number_from g part row first last n v e same from) (number_to g part row first last n v e same to)))
-          (λ right. put_same h o o z (others n d (inr (number_right g part row first last n v e same right)) ∙ kept) (beside g part shown a n d i s l (inr (inl right))))));
+          (λ to. rw (kept) at (put n d (number_from g part row first last n v e same from) (number_to g part row first last n v e same to)))
+          (λ right. put_same h t o o z (others n d (inr (number_right g part row first last n v e same right)) ∙ kept) (beside g part shown n o s l (inr (inl right))))));
       rest = λ n d l y. others n d (inr (number_behind g part row first last n v p e y)) ∙ r.rest n d l (omega (arith, y));
     }

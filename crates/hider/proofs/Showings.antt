@@ -1,36 +1,34 @@
 -- What a tile shows.
-use Rattle.std.proofs.Common.{◌≡◌, ℕ, ◌<◌, ap, arith, refl, sym, ◌∙◌, true, false, List, [], ◌∷◌, length, slice_index_or}
+use Rattle.std.proofs.Common.{◌≡◌, ℕ, ◌<◌, ◌≤◌, ap, arith, refl, sym, ◌∙◌, true, false, List, [], ◌∷◌, length, slice_index_or}
 use Rattle.std.proofs.lemmas.Bool.{and_parts}
 use Rattle.std.specs.Prelude.{ℤ, ◌≤ℤ◌, ◌<ℤ◌, int_lt}
 use Rattle.std.proofs.lemmas.Int.{ints}
 use Rattle.hider.specs.declared.fragment.Fragment.{Fragment}
 use Rattle.hider.specs.declared.sample.Sample.{Sample}
-use Rattle.hider.specs.declared.tile_sample.TileSample.{TileSample}
+use Rattle.hider.specs.declared.sample_grid.SampleGrid.{SampleGrid}
 use Rattle.fixed_math.specs.declared.vec3.Vec3.{Vec3}
 use Rattle.hider.specs.Composite.{is_opaque, cut, composite}
 use Rattle.hider.specs.Fragments.{put_all, IsSortedFrom, IsSorted}
 use Rattle.hider.specs.Kept.{keep_all, hides, blocks}
-use Rattle.hider.specs.Tiles.{TileValue, IsTile, Shows, BlocksAll, HavePut, sample_of, sample_count}
+use Rattle.hider.specs.Tiles.{TileValue, Shows, AreEmpty, BlocksAll, HavePut, sample_of, sample_count}
 use Rattle.hider.proofs.Cuts.{by_bool, composite-cut}
 use Rattle.hider.proofs.Keeps.{keep_all-cut}
 use Rattle.hider.proofs.Orders.{all_sorted}
 
 -- with more put in at each sample
-pub shows_more : (t : TileValue) (new : List TileSample) (h f : Sample → List Fragment) → IsTile t → HavePut h t.samples new → Shows t f →
-    Shows (record { grid = t.grid; samples = new }) (λ s. put_all (f s) (h s))
-shows_more t new h f i p s = record {
+pub shows_more : (g : SampleGrid) (old new : List (List Fragment)) (h f : Sample → List Fragment) → HavePut g h old new → Shows (record { grid = g; lists = old }) f →
+    Shows (record { grid = g; lists = new }) (λ s. put_all (f s) (h s))
+shows_more g old new h f p s = record {
   sorted = λ x. all_sorted (h x) (f x) (s.sorted x);
-  kept = λ n d l.
-      let inside : n < length t.samples = (let e = i.samples.count in omega (arith, e, l)) in
-      let old = slice_index_or t.samples n d in
-      (p n d inside).1
-      ∙ ap (λ (k : _). keep_all k (h old.at)) (s.kept n d l)
-      ∙ ap (λ (x : Sample). keep_all (cut (f (sample_of t.grid n))) (h x)) (i.samples.places n d inside)
-      ∙ keep_all-cut (h (sample_of t.grid n)) (f (sample_of t.grid n));
+  kept = λ n d l. p n d l ∙ ap (λ (k : _). keep_all k (h (sample_of g n))) (s.kept n d l) ∙ keep_all-cut (h (sample_of g n)) (f (sample_of g n));
 }
 
+-- where all lists are empty nothing shows
+pub shows_empty : (g : SampleGrid) (lists : List (List Fragment)) → sample_count g ≤ length lists → AreEmpty lists → Shows (record { grid = g; lists = lists }) (λ s. [])
+shows_empty g lists h e = record { sorted = λ s. tt; kept = λ n d l. e n d (omega (arith, l, h)) }
+
 -- the composite of what is kept is that of all
-pub shown_colour : (t : TileValue) (f : Sample → List Fragment) (n : ℕ) (d : TileSample) (c : Vec3) → Shows t f → n < sample_count t.grid → c ≡ composite (slice_index_or t.samples n d).list →
+pub shown_colour : (t : TileValue) (f : Sample → List Fragment) (n : ℕ) (d : List Fragment) (c : Vec3) → Shows t f → n < sample_count t.grid → c ≡ composite (slice_index_or t.lists n d) →
     c ≡ composite (f (sample_of t.grid n))
 shown_colour t f n d c s h e = e ∙ ap composite (s.kept n d h) ∙ composite-cut (f (sample_of t.grid n))
 
@@ -61,13 +59,10 @@ blocks-cut z [] s = refl
 blocks-cut z (g ∷ gs) s = blocks-cut_from g.depth z (g ∷ gs) (omega (arith, ints), s)
 
 -- at all samples
-pub blocked_all : (t : TileValue) (f : Sample → List Fragment) (z : ℤ) → IsTile t → Shows t f → ((n : ℕ) (d : TileSample) → n < length t.samples → blocks z (slice_index_or t.samples n d).list ≡ true) → BlocksAll z t.grid f
-blocked_all t f z i s b n h =
-    let l : n < length t.samples = (let e = i.samples.count in omega (arith, e, h)) in
-    let d : TileSample = record { at = sample_of t.grid n; list = [] } in
-    sym (blocks-cut z (f (sample_of t.grid n)) (s.sorted (sample_of t.grid n))) ∙ ap (blocks z) (sym (s.kept n d h)) ∙ b n d l
+pub blocked_all : (t : TileValue) (f : Sample → List Fragment) (z : ℤ) → Shows t f → ((n : ℕ) (d : List Fragment) → n < sample_count t.grid → blocks z (slice_index_or t.lists n d) ≡ true) → BlocksAll z t.grid f
+blocked_all t f z s b n h =
+    sym (blocks-cut z (f (sample_of t.grid n)) (s.sorted (sample_of t.grid n))) ∙ ap (blocks z) (sym (s.kept n [] h)) ∙ b n [] h
 
-pub blocked_each : (t : TileValue) (f : Sample → List Fragment) (z : ℤ) → IsTile t → Shows t f → BlocksAll z t.grid f → (n : ℕ) (d : TileSample) → n < length t.samples → blocks z (slice_index_or t.samples n d).list ≡ true
-blocked_each t f z i s b n d h =
-    let l : n < sample_count t.grid = (let e = i.samples.count in omega (arith, e, h)) in
-    ap (blocks z) (s.kept n d l) ∙ blocks-cut z (f (sample_of t.grid n)) (s.sorted (sample_of t.grid n)) ∙ b n l
+pub blocked_each : (t : TileValue) (f : Sample → List Fragment) (z : ℤ) → Shows t f → BlocksAll z t.grid f → (n : ℕ) (d : List Fragment) → n < sample_count t.grid → blocks z (slice_index_or t.lists n d) ≡ true
+blocked_each t f z s b n d h =
+    ap (blocks z) (s.kept n d h) ∙ blocks-cut z (f (sample_of t.grid n)) (s.sorted (sample_of t.grid n)) ∙ b n h

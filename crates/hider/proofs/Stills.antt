@@ -1,5 +1,5 @@
 -- Micropolygons that are at the same points at both ends of the shutter's interval.
-use Rattle.std.proofs.Common.{◌≡◌, ℕ, ◌<◌, ◌≤◌, ap, arith, refl, Bool, List, [], ◌∷◌, inl, inr, slice_index_or}
+use Rattle.std.proofs.Common.{◌≡◌, ℕ, ◌<◌, ◌≤◌, ap, arith, refl, Bool, List, [], ◌∷◌, inl, inr}
 use Rattle.std.specs.Prelude.{ℤ, Some, None}
 use Rattle.std.specs.Option.{option_and_then}
 use Rattle.std.specs.List.{cons_option}
@@ -14,7 +14,7 @@ use Rattle.hider.specs.declared.cell.Cell.{Cell}
 use Rattle.hider.specs.declared.quad.Quad.{Quad}
 use Rattle.hider.specs.declared.sample.Sample.{Sample}
 use Rattle.hider.specs.declared.sample_grid.SampleGrid.{SampleGrid}
-use Rattle.hider.specs.declared.tile_sample.TileSample.{TileSample}
+use Rattle.hider.specs.declared.fragment.Fragment.{Fragment}
 use Rattle.hider.specs.Bounding.{bounds_of}
 use Rattle.hider.specs.Cells.{still, quad_of}
 use Rattle.hider.specs.CellValues.{CellValues, cell_when, micropolygon_of, LiesBetween, MovesBetween}
@@ -22,7 +22,7 @@ use Rattle.hider.specs.Coverage.{covers}
 use Rattle.hider.specs.Extents.{HaveSamePoints}
 use Rattle.hider.specs.Fragments.{fragment_of, covering}
 use Rattle.hider.specs.Searching.{LiesOutside, StaysInside}
-use Rattle.hider.specs.Tiles.{AreSamplesOf, HavePut, rect_of}
+use Rattle.hider.specs.Tiles.{HavePut, rect_of, sample_of}
 use Rattle.hider.proofs.Outside.{left_of, right_of, above, below}
 use Rattle.hider.proofs.Pixels.{sample_time}
 
@@ -58,14 +58,12 @@ still_shown : (w : View) (v : CellValues) (i : ℕ) (one_sided flip : Bool) (s :
 unfolding fragment_of
 still_shown w v i one_sided flip s e = ap (λ k. option_and_then (λ q. covers q s.place) (quad_of w one_sided flip k)) e
 
-pub still_put : (w : View) (v : CellValues) (i : ℕ) (one_sided flip : Bool) (g : SampleGrid) (a b : List TileSample) → MovesBetween v → i < v.count → AreSamplesOf g a →
-    HaveSamePoints (cell_when v i 0) (cell_when v i 65535) → HavePut (covering w (still one_sided flip (cell_when v i 0) ∷ [])) a b → HavePut (covering w (micropolygon_of v one_sided flip i ∷ [])) a b
-still_put w v i one_sided flip g a b m h p s put n d l =
-    let o = slice_index_or a n d in
-    let time : o.at.time ≤ 65535 = rw (p.places n d l) (sample_time g.xs g.ys (rect_of g) n) in
-    let e = still_shown w v i one_sided flip o.at (same_cell v i o.at.time m h time s) in
-    let put_o = put n d l in
-    (put_o.0, rw e put_o.1)
+pub still_put : (w : View) (v : CellValues) (i : ℕ) (one_sided flip : Bool) (g : SampleGrid) (a b : List (List Fragment)) → MovesBetween v → i < v.count →
+    HaveSamePoints (cell_when v i 0) (cell_when v i 65535) → HavePut g (covering w (still one_sided flip (cell_when v i 0) ∷ [])) a b → HavePut g (covering w (micropolygon_of v one_sided flip i ∷ [])) a b
+still_put w v i one_sided flip g a b m h s put n d l =
+    let o = sample_of g n in
+    let e = still_shown w v i one_sided flip o (same_cell v i o.time m h (sample_time g.xs g.ys (rect_of g) n) s) in
+    rw e (put n d l)
 
 -- ---- a still one shows nothing outside its box
 pub covers_inside : (q : Quad) (b : Bounds) → b ≡ bounds_of q → StaysInside b (λ s. covers q s.place)
@@ -86,12 +84,11 @@ unfolding fragment_of
 seen_still w s one_sided flip k q e = ap (option_and_then (λ q. covers q s.place)) e
 
 -- what is put in of one that isn't seen, and of one that is
-pub unseen_put : (w : View) (one_sided flip : Bool) (k : Cell) (a : List TileSample) → quad_of w one_sided flip k ≡ None → HavePut (covering w (still one_sided flip k ∷ [])) a a
-unseen_put w one_sided flip k a e n d h = let f = unseen_still w (slice_index_or a n d).at one_sided flip k e in (refl, rw f refl)
+pub unseen_put : (w : View) (one_sided flip : Bool) (k : Cell) (g : SampleGrid) (a : List (List Fragment)) → quad_of w one_sided flip k ≡ None → HavePut g (covering w (still one_sided flip k ∷ [])) a a
+unseen_put w one_sided flip k g a e n d h = let f = unseen_still w (sample_of g n) one_sided flip k e in rw f refl
 
-pub seen_put : (w : View) (one_sided flip : Bool) (k : Cell) (q : Quad) (a b : List TileSample) → quad_of w one_sided flip k ≡ Some q → HavePut (λ s. cons_option (covers q s.place) []) a b →
-    HavePut (covering w (still one_sided flip k ∷ [])) a b
-seen_put w one_sided flip k q a b e p n d h =
-    let f = seen_still w (slice_index_or a n d).at one_sided flip k q e in
-    let put = p n d h in
-    (put.0, rw f put.1)
+pub seen_put : (w : View) (one_sided flip : Bool) (k : Cell) (q : Quad) (g : SampleGrid) (a b : List (List Fragment)) → quad_of w one_sided flip k ≡ Some q → HavePut g (λ s. cons_option (covers q s.place) []) a b →
+    HavePut g (covering w (still one_sided flip k ∷ [])) a b
+seen_put w one_sided flip k q g a b e p n d h =
+    let f = seen_still w (sample_of g n) one_sided flip k q e in
+    rw f (p n d h)

@@ -1,6 +1,7 @@
 -- Boxes round micropolygons on the raster.
-use Rattle.std.specs.Prelude.{ℤ}
+use Rattle.std.specs.Prelude.{ℤ, Bool, ◌&&◌, int_le}
 use Rattle.std.specs.Int.{int_min, int_max}
+use Rattle.fixed_math.specs.Spots.{Spot}
 use Rattle.hider.specs.declared.quad.Quad.{Quad}
 use Rattle.hider.specs.declared.bounds.Bounds.{Bounds}
 
@@ -18,3 +19,7 @@ bounds_of q = record {
   top = least_of q.a.place.y q.b.place.y q.c.place.y q.d.place.y;
   bottom = greatest_of q.a.place.y q.b.place.y q.c.place.y q.d.place.y;
 }
+
+-- whether a box holds a place
+abbrev pub holds : Bounds → Spot → Bool
+holds b s = int_le b.left s.x && (int_le s.x b.right && (int_le b.top s.y && int_le s.y b.bottom))

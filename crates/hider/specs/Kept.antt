@@ -1,6 +1,6 @@
 -- What a sample keeps of its fragments: those that can show.
-use Rattle.std.specs.Prelude.{ℕ, ◌≤◌, ◌++◌, ◌∷◌, take, drop, length, ◌≡◌, refl, ℤ, pos, Bool, true, false, ◌&&◌, int_lt, List, []}
-use Rattle.std.specs.List.{list_any, fold}
+use Rattle.std.specs.Prelude.{ℕ, ◌≤◌, ◌++◌, ◌∷◌, take, drop, length, ◌≡◌, refl, ℤ, pos, Bool, true, false, ◌&&◌, int_lt, int_le, Option, Some, None, List, []}
+use Rattle.std.specs.List.{list_any, fold, cons_option}
 use Rattle.hider.specs.declared.fragment.Fragment.{Fragment}
 use Rattle.hider.specs.Composite.{is_opaque, cut}
 use Rattle.fixed_math.specs.Axes.{origin}
@@ -27,11 +27,29 @@ hides z f = is_opaque f && int_lt f.depth z
 abbrev pub blocks : ℤ → List Fragment → Bool
 blocks z fs = list_any (hides z) fs
 
--- the place of a fragment in a list: behind so many of the front, none of which is opaque
+-- the place of a fragment in a list: behind so many of the front
 pub record IsPlace (f : Fragment) (l : List Fragment) (p : ℕ) : Type 0 where
   pub inside : p ≤ length l
-  pub front : cut l ≡ take p l ++ cut (drop p l)
-  pub put : keep f l ≡ take p l ++ cut (f ∷ drop p l)
+  pub put : put_in f l ≡ take p l ++ f ∷ drop p l
+
+-- ---- a list as its opaque fragment, which may be missing, and what lies in front of that
+abbrev pub kept_list : List Fragment → Option Fragment → List Fragment
+kept_list front back = front ++ cons_option back []
+
+pub record IsKeptIn (front : List Fragment) (back : Option Fragment) : Type 0 where
+  pub kept : IsKept (kept_list front back)
+  pub clear : list_any is_opaque front ≡ false
+  pub opaque : (b : Fragment) → back ≡ Some b → is_opaque b ≡ true
+
+-- a depth no nearer than the opaque fragment
+abbrev pub is_behind : Option Fragment → ℤ → Bool
+is_behind None z = false
+is_behind (Some b) z = int_le b.depth z
+
+-- a depth behind it
+abbrev pub blocks_by : Option Fragment → ℤ → Bool
+blocks_by None z = false
+blocks_by (Some b) z = int_lt b.depth z
 
 -- worked values: behind an opaque fragment nothing goes in, before it a transparent one does, and an opaque one before it ends the
 -- list; it is nearer than what lies behind it, and not than what has its own depth

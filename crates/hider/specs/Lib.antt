@@ -10,3 +10,4 @@ pub mod Searching
 pub mod Extents
 pub mod Bounding
 pub mod Weighing
+pub mod Flat

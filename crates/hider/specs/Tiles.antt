@@ -1,11 +1,10 @@
 -- Tiles: the samples of a rectangle of pixels, and what shows at each.
 use Rattle.std.specs.Prelude.{ℕ, ◌*◌, ◌<◌, ◌≤◌, ℤ, ◌≡◌, ◌⊎◌, Bool, true, refl, ◌/◌, List, [], ◌∷◌, ◌++◌, slice_index_or, length, map}
 use Rattle.fixed_math.specs.declared.vec3.Vec3.{Vec3}
-use Rattle.fixed_math.specs.Spots.{PixelRect, pixel_count, pixel_x}
+use Rattle.fixed_math.specs.Spots.{PixelRect, Spot, pixel_count, pixel_x}
 use Rattle.transforms.specs.declared.view.View.{View}
 use Rattle.hider.specs.declared.fragment.Fragment.{Fragment}
 use Rattle.hider.specs.declared.sample.Sample.{Sample}
-use Rattle.hider.specs.declared.tile_sample.TileSample.{TileSample}
 use Rattle.hider.specs.declared.sample_grid.SampleGrid.{SampleGrid}
 use Rattle.hider.specs.Cells.{Micropolygon, still, cells_of}
 use Rattle.hider.specs.CellValues.{grid_values, micropolygons_of}
@@ -46,28 +45,30 @@ pub record IsSampleGrid (g : SampleGrid) : Type 0 where
   pub some_ys : 1 ≤ g.ys
   pub most_ys : g.ys ≤ 16
 
--- the samples of a list stand where and when those of the sampling do
-pub record AreSamplesOf (g : SampleGrid) (samples : List TileSample) : Type 0 where
-  pub count : length samples ≡ sample_count g
-  pub places : (n : ℕ) (d : TileSample) → n < length samples → (slice_index_or samples n d).at ≡ sample_of g n
+-- places are those of the samples, by number; there may be more
+pub record ArePlacesOf (g : SampleGrid) (spots : List Spot) : Type 0 where
+  pub enough : sample_count g ≤ length spots
+  pub each : (n : ℕ) (d : Spot) → n < sample_count g → slice_index_or spots n d ≡ (sample_of g n).place
 
--- nothing shows at them
-abbrev pub AreEmpty : List TileSample → Type 0
-AreEmpty samples = (n : ℕ) (d : TileSample) → n < length samples → (slice_index_or samples n d).list ≡ []
+-- nothing shows
+abbrev pub AreEmpty : List (List Fragment) → Type 0
+AreEmpty lists = (n : ℕ) (d : List Fragment) → n < length lists → slice_index_or lists n d ≡ []
 
--- ---- a tile, as contracts see it
+-- a grid of samples with a place and a list of fragments for each
+pub record IsTile (g : SampleGrid) (spots : List Spot) (lists : List (List Fragment)) : Type 0 where
+  pub grid : IsSampleGrid g
+  pub places : ArePlacesOf g spots
+  pub enough : sample_count g ≤ length lists
+
+-- ---- a tile, as contracts see it: of each sample, by number, the fragments that it has
 pub record TileValue : Type 0 where
   pub grid : SampleGrid
-  pub samples : List TileSample
-
-pub record IsTile (t : TileValue) : Type 0 where
-  pub grid : IsSampleGrid t.grid
-  pub samples : AreSamplesOf t.grid t.samples
+  pub lists : List (List Fragment)
 
 -- the tile shows at each sample the fragments that f gives there, in order of depth: it has those that can show
 pub record Shows (t : TileValue) (f : Sample → List Fragment) : Type 0 where
   pub sorted : (s : Sample) → IsSorted (f s)
-  pub kept : (n : ℕ) (d : TileSample) → n < sample_count t.grid → (slice_index_or t.samples n d).list ≡ cut (f (sample_of t.grid n))
+  pub kept : (n : ℕ) (d : List Fragment) → n < sample_count t.grid → slice_index_or t.lists n d ≡ cut (f (sample_of t.grid n))
 
 -- with the fragments of further micropolygons
 abbrev pub with_covering : View → List Micropolygon → (Sample → List Fragment) → Sample → List Fragment
@@ -87,25 +88,21 @@ abbrev pub BlocksAll : ℤ → SampleGrid → (Sample → List Fragment) → Typ
 BlocksAll z g f = (n : ℕ) → n < sample_count g → blocks z (f (sample_of g n)) ≡ true
 
 -- ---- what changes at samples
--- the sample has moved nowhere and has the fragments that h gives there besides
-abbrev pub HasPut : (Sample → List Fragment) → TileSample → TileSample → Type 0
-HasPut h old new = (new.at ≡ old.at) × (new.list ≡ keep_all old.list (h old.at))
+-- the fragments of a sample, with those that h gives there besides
+abbrev pub HasPut : (Sample → List Fragment) → Sample → List Fragment → List Fragment → Type 0
+HasPut h s old new = new ≡ keep_all old (h s)
 
--- so has each sample of a list
-abbrev pub HavePut : (Sample → List Fragment) → List TileSample → List TileSample → Type 0
-HavePut h old new = (n : ℕ) (d : TileSample) → n < length old → HasPut h (slice_index_or old n d) (slice_index_or new n d)
+-- so are those of each sample
+abbrev pub HavePut : SampleGrid → (Sample → List Fragment) → List (List Fragment) → List (List Fragment) → Type 0
+HavePut g h old new = (n : ℕ) (d : List Fragment) → n < sample_count g → HasPut h (sample_of g n) (slice_index_or old n d) (slice_index_or new n d)
 
--- each sample has moved nowhere
-abbrev pub HaveStayed : List TileSample → List TileSample → Type 0
-HaveStayed old new = (n : ℕ) (d : TileSample) → n < length old → (slice_index_or new n d).at ≡ (slice_index_or old n d).at
-
--- so has each from number `from` to below `to`
-abbrev pub HavePutBetween : ℕ → ℕ → (Sample → List Fragment) → List TileSample → List TileSample → Type 0
-HavePutBetween from to h old new = (n : ℕ) (d : TileSample) → n < length old → from ≤ n → n < to → HasPut h (slice_index_or old n d) (slice_index_or new n d)
+-- so are those of each from number `from` to below `to`
+abbrev pub HavePutBetween : ℕ → ℕ → SampleGrid → (Sample → List Fragment) → List (List Fragment) → List (List Fragment) → Type 0
+HavePutBetween from to g h old new = (n : ℕ) (d : List Fragment) → from ≤ n → n < to → HasPut h (sample_of g n) (slice_index_or old n d) (slice_index_or new n d)
 
 -- the others are as they were
-abbrev pub HaveKept : ℕ → ℕ → List TileSample → List TileSample → Type 0
-HaveKept from to old new = (n : ℕ) (d : TileSample) → (n < from) ⊎ (to ≤ n) → slice_index_or new n d ≡ slice_index_or old n d
+abbrev pub HaveKept : ℕ → ℕ → List (List Fragment) → List (List Fragment) → Type 0
+HaveKept from to old new = (n : ℕ) (d : List Fragment) → (n < from) ⊎ (to ≤ n) → slice_index_or new n d ≡ slice_index_or old n d
 
 -- worked values: two by three pixels with two by two samples each; the last sample is in the last pixel
 abbrev worked : SampleGrid

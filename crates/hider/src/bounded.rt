@@ -8,10 +8,12 @@ use crate::bounds::Bounds;
 use crate::coverage::covers;
 use crate::extremes::{greatest_of, least_of};
 use crate::fragment::Fragment;
+use crate::list::FragmentList;
+use crate::places::Places;
 use crate::quad::Quad;
-use crate::sample::Sample;
 use crate::showing::Showing;
 use crate::spot::Spot;
+use fixed_math::NoMemory;
 use std::marker::Model;
 
 /// A micropolygon with the least box that holds its corners. Contracts see it as the micropolygon.
@@ -82,7 +84,15 @@ impl BoundedQuad {
 impl Showing for BoundedQuad {
     ghost shown = { λ q s. covers q s.place };
 
-    fn shown_at(&self, s: &Sample) -> Option<Fragment> {
-        self.fragment_at(s.place)
+    fn put_at(
+        &self,
+        places: &Places<'_>,
+        n: usize,
+        list: &mut FragmentList,
+    ) -> Result<(), NoMemory> {
+        if let Some(f) = self.fragment_at(places.at(n)) {
+            list.put(f)?;
+        }
+        Ok(())
     }
 }

@@ -1,3 +1,8 @@
+// Boxes on the raster.
+ghost use Rattle.std.specs.Prelude.{◌≡◌};
+
+use crate::spot::Spot;
+
 /// A box on the raster, in 1/256 pixel, both ends with it.
 #[derive(Debug, Clone, Copy, PartialEq, Eq)]
 pub struct Bounds {
@@ -5,4 +10,24 @@ pub struct Bounds {
     pub right: i64,
     pub top: i64,
     pub bottom: i64,
+}
+
+impl Bounds {
+    ghost use Rattle.hider.specs.Bounding.{holds};
+
+    /// Whether the box holds a place.
+    pub(crate) fn holds(&self, s: Spot) -> bool
+        ensures { result ≡ holds self.now s }
+    {
+        if s.x() < self.left {
+            return false;
+        }
+        if self.right < s.x() {
+            return false;
+        }
+        if s.y() < self.top {
+            return false;
+        }
+        s.y() <= self.bottom
+    }
 }

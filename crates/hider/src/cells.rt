@@ -1,7 +1,8 @@
 // Micropolygons that may move.
-ghost use Rattle.std.specs.Prelude.{◌≡◌, ◌<◌};
-ghost use Rattle.hider.specs.CellValues.{CellValues, MovesBetween};
+ghost use Rattle.std.specs.Prelude.{◌≡◌, ◌<◌, IfSome};
+ghost use Rattle.hider.specs.CellValues.{CellValues, MovesBetween, grid_values};
 
+use dice::GridRef;
 use fixed_math::Vec3;
 
 /// Micropolygons that may move: each is asked for its corners at a time, in 1/65536 of the shutter's interval, and for its
@@ -28,6 +29,10 @@ pub trait Cells {
     fn opacity(&self, cell: usize) -> Vec3
         requires { cell < (values self.now).count }
         ensures { result ≡ (values self.now).opacity cell };
+
+    /// The grid whose cells they are, where they stay where they are at all times; None where they may move.
+    fn still_grid(&self) -> Option<GridRef<'_>>
+        ensures { IfSome result (λ g. values self.now ≡ grid_values g.columns g.rows g.p.now g.ci.now g.oi.now) };
 
     ghost between: { (c : Self) → MovesBetween (values c) };
 }

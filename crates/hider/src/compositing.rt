@@ -1,6 +1,8 @@
 // The composite of fragments.
-ghost use Rattle.std.specs.Prelude.{◌≡◌, ℤ, pos, ◌-ℤ◌, ◌==◌};
+ghost use Rattle.std.specs.Prelude.{◌≡◌, ℤ, pos, ◌-ℤ◌, ◌==◌, List, [], ◌++◌};
+ghost use Rattle.std.specs.List.{cons_option};
 ghost use Rattle.fixed_math.specs.Fixed.{mul};
+ghost use Rattle.hider.specs.declared.fragment.Fragment.{Fragment};
 ghost use Rattle.hider.specs.Composite.{composite_from, composite, is_one, is_opaque, cut};
 
 use crate::fragment::Fragment;
@@ -30,9 +32,16 @@ fn passed_through(passed: Num, opacity: Num) -> Num
     Num::sat(floor_by(times::<31, 32>(passed.raw() as i128, left), 65536))
 }
 
-/// One channel of `composite`.
-fn channel(axis: Axis, fragments: &[Fragment]) -> Num
-    ensures { result ≡ composite_from axis (pos 0) (pos 65536) fragments.now }
+/// What fragments laid over one another give in a channel: their colour, and what passes through them.
+#[derive(Clone, Copy)]
+struct Laid {
+    colour: Num,
+    passed: Num,
+}
+
+/// One channel of fragments, before whatever lies behind them.
+fn lay(axis: Axis, fragments: &[Fragment]) -> Laid
+    ensures { (rest : List Fragment) → composite_from axis result.colour result.passed rest ≡ composite_from axis (pos 0) (pos 65536) (fragments.now ++ rest) }
 {
     let mut colour = Num::sat(0);
     let mut passed = Num::sat(65536);
@@ -40,20 +49,38 @@ fn channel(axis: Axis, fragments: &[Fragment]) -> Num
         colour = colour.add(passed.mul(f.colour.part(axis)));
         passed = passed_through(passed, f.opacity.part(axis));
     }
-    colour
+    Laid { colour, passed }
+}
+
+/// One channel of `composite_before`.
+fn channel(axis: Axis, front: &[Fragment], back: &Option<Fragment>) -> Num
+    ensures { result ≡ composite_from axis (pos 0) (pos 65536) (front.now ++ cons_option back.now []) }
+{
+    let laid = lay(axis, front);
+    match back {
+        None => laid.colour,
+        Some(f) => laid.colour.add(laid.passed.mul(f.colour.part(axis))),
+    }
+}
+
+/// The colour of fragments and of one behind them.
+#[tactic(auto, unfolding(crate::specs::Composite::composite))]
+pub(crate) fn composite_before(front: &[Fragment], back: &Option<Fragment>) -> Vec3
+    ensures { result ≡ composite (front.now ++ cons_option back.now []) }
+{
+    Vec3 {
+        x: channel(Axis::X, front, back),
+        y: channel(Axis::Y, front, back),
+        z: channel(Axis::Z, front, back),
+    }
 }
 
 /// The colour of the fragments, the nearest first: each adds its colour times what passed through those before it
 /// (Cook, Carpenter and Catmull, 1987; colours hold their opacity already, as in the RenderMan Interface 3.2).
-#[tactic(auto, unfolding(crate::specs::Composite::composite))]
 pub fn composite(fragments: &[Fragment]) -> Vec3
     ensures { result ≡ composite fragments.now }
 {
-    Vec3 {
-        x: channel(Axis::X, fragments),
-        y: channel(Axis::Y, fragments),
-        z: channel(Axis::Z, fragments),
-    }
+    composite_before(fragments, &None)
 }
 
 /// The law of the cut: what stands behind an opaque fragment doesn't show.

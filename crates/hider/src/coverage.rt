@@ -11,7 +11,7 @@ use crate::quad::{Corner, Quad};
 use crate::spot::Spot;
 
 #[tactic(auto, unfolding(crate::specs::Coverage::is_in_three))]
-fn is_in_triangle(a: Spot, b: Spot, c: Spot, s: Spot) -> bool
+pub(crate) fn is_in_triangle(a: Spot, b: Spot, c: Spot, s: Spot) -> bool
     ensures { result ≡ is_in_three a b c s }
 {
     is_inside_edge(a, b, s) && is_inside_edge(b, c, s) && is_inside_edge(c, a, s)

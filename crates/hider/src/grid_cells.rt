@@ -14,7 +14,7 @@ pub struct GridCells<'a> {
 }
 
 /// The number of the first corner of a cell: cells go by rows, one fewer in a row than points.
-fn first_of(columns: usize, cell: usize) -> usize
+pub(crate) fn first_of(columns: usize, cell: usize) -> usize
     requires columns { 2 ≤ columns }
     requires most { columns ≤ 17 }
     requires fits { cell < 2 ^ 32 }
@@ -56,6 +56,10 @@ impl<'a> Cells for GridCells<'a> {
 
     fn opacity(&self, cell: usize) -> Vec3 {
         self.grid.oi[first_of(self.grid.columns, cell)]
+    }
+
+    fn still_grid(&self) -> Option<GridRef<'_>> {
+        Some(self.grid)
     }
 
     ghost between = { λ c i k t a hi hk ht. stays_between _ };

@@ -1,44 +1,45 @@
 // Cells put on the raster and into the samples that they cover.
-ghost use Rattle.std.specs.Prelude.{◌≡◌, ◌<◌, ◌≤ℤ◌, [], ◌∷◌, OnOk, length};
+ghost use Rattle.std.specs.Prelude.{◌≡◌, ◌<◌, ◌≤◌, ◌≤ℤ◌, [], ◌∷◌, OnOk, length};
 ghost use Rattle.std.specs.List.{cons_option};
 ghost use Rattle.hider.specs.Cells.{still};
 ghost use Rattle.hider.specs.CellValues.{cell_when, micropolygon_of, micropolygons_of};
 ghost use Rattle.hider.specs.Extents.{IsBelow, HoldsRaster};
 ghost use Rattle.hider.specs.Fragments.{covering};
-ghost use Rattle.hider.specs.Tiles.{AreSamplesOf, IsSampleGrid, HavePut, HaveStayed};
+ghost use Rattle.hider.specs.Tiles.{HavePut, sample_count};
 
 use crate::bounded::BoundedQuad;
 use crate::bounds::Bounds;
 use crate::cell::Cell;
 use crate::cells::Cells;
 use crate::extents::{have_same_points, high_of_two, low_of_two};
+use crate::flat_hiding::{fill_points, hide_grid};
+use crate::list::FragmentList;
 use crate::moving::{MovingCell, cell_when};
 use crate::near::put_near;
-use crate::sample_grid::SampleGrid;
+use crate::places::Places;
+use crate::raster_point::RasterPoint;
+use crate::runs::put_between;
 use crate::sight::quad_of;
-use crate::tile_sample::{TileSample, put_between};
 use fixed_math::{NoMemory, Vec3};
 use transforms::Camera;
 
 /// Puts in what a cell that stays where it is shows at each sample: it is put on the raster once.
 fn hide_still(
-    samples: &mut [TileSample],
-    grid: &SampleGrid,
+    lists: &mut [FragmentList],
+    places: &Places<'_>,
     cell: &Cell,
     camera: &Camera,
     one_sided: bool,
     flip: bool,
 ) -> Result<(), NoMemory>
-    requires valid { IsSampleGrid grid.now }
-    requires samples { AreSamplesOf grid.now samples.old }
-    ensures stays { HaveStayed samples.old samples.new }
-    ensures ok { OnOk result (HavePut (covering camera.now (still one_sided flip cell.now ∷ [])) samples.old samples.new) }
+    requires enough { sample_count places.now.grid ≤ length lists.old }
+    ensures { OnOk result (HavePut places.now.grid (covering camera.now (still one_sided flip cell.now ∷ [])) lists.old lists.new) }
 {
     match quad_of(camera, cell, one_sided, flip) {
         None => Ok(()),
         Some(quad) => {
             let shown = BoundedQuad::new(quad);
-            put_near(samples, grid, shown.bounds(), &shown)?;
+            put_near(lists, places, shown.bounds(), &shown)?;
             Ok(())
         }
     }
@@ -62,33 +63,30 @@ fn raster_bounds(camera: &Camera, lo: Vec3, hi: Vec3) -> Bounds
 /// Puts in what a cell that moves shows at each sample: within the box on the raster of all that it passes, where that is
 /// behind the near plane.
 fn hide_moving<C: Cells>(
-    samples: &mut [TileSample],
-    grid: &SampleGrid,
+    lists: &mut [FragmentList],
+    places: &Places<'_>,
     first: &Cell,
     last: &Cell,
     shown: &MovingCell<C>,
 ) -> Result<(), NoMemory>
     requires first { first.now ≡ cell_when (C.values shown.now.cells.now) shown.now.cell 0 }
     requires last { last.now ≡ cell_when (C.values shown.now.cells.now) shown.now.cell 65535 }
-    requires valid { IsSampleGrid grid.now }
-    requires samples { AreSamplesOf grid.now samples.old }
-    ensures stays { HaveStayed samples.old samples.new }
-    ensures ok { OnOk result (HavePut (covering shown.now.camera.now (micropolygon_of (C.values shown.now.cells.now) shown.now.one_sided shown.now.flip shown.now.cell ∷ [])) samples.old samples.new) }
+    requires enough { sample_count places.now.grid ≤ length lists.old }
+    ensures { OnOk result (HavePut places.now.grid (covering shown.now.camera.now (micropolygon_of (C.values shown.now.cells.now) shown.now.one_sided shown.now.flip shown.now.cell ∷ [])) lists.old lists.new) }
 {
     let lo = low_of_two(first, last);
     let hi = high_of_two(first, last);
     if shown.camera.view().near.raw() <= lo.z.raw() {
-        put_near(samples, grid, &raster_bounds(shown.camera, lo, hi), shown)
+        put_near(lists, places, &raster_bounds(shown.camera, lo, hi), shown)
     } else {
-        let count = samples.len();
-        put_between(samples, 0, count, shown)
+        put_between(lists, places, 0, places.grid.count(), shown)
     }
 }
 
 /// Puts in what a cell shows at each sample.
 fn hide_cell<C: Cells>(
-    samples: &mut [TileSample],
-    grid: &SampleGrid,
+    lists: &mut [FragmentList],
+    places: &Places<'_>,
     cells: &C,
     cell: usize,
     camera: &Camera,
@@ -96,15 +94,13 @@ fn hide_cell<C: Cells>(
     flip: bool,
 ) -> Result<(), NoMemory>
     requires cell { cell < (C.values cells.now).count }
-    requires valid { IsSampleGrid grid.now }
-    requires samples { AreSamplesOf grid.now samples.old }
-    ensures stays { HaveStayed samples.old samples.new }
-    ensures ok { OnOk result (HavePut (covering camera.now (micropolygon_of (C.values cells.now) one_sided flip cell ∷ [])) samples.old samples.new) }
+    requires enough { sample_count places.now.grid ≤ length lists.old }
+    ensures { OnOk result (HavePut places.now.grid (covering camera.now (micropolygon_of (C.values cells.now) one_sided flip cell ∷ [])) lists.old lists.new) }
 {
     let first = cell_when(cells, cell, 0);
     let last = cell_when(cells, cell, 65535);
     if have_same_points(&first, &last) {
-        hide_still(samples, grid, &first, camera, one_sided, flip)?;
+        hide_still(lists, places, &first, camera, one_sided, flip)?;
         return Ok(());
     }
     let moving = MovingCell {
@@ -114,26 +110,46 @@ fn hide_cell<C: Cells>(
         one_sided,
         flip,
     };
-    hide_moving(samples, grid, &first, &last, &moving)?;
+    hide_moving(lists, places, &first, &last, &moving)?;
     Ok(())
 }
 
 /// Puts in what the cells show at each sample, one cell after another.
-pub(crate) fn hide_all<C: Cells>(
-    samples: &mut [TileSample],
-    grid: &SampleGrid,
+fn hide_all<C: Cells>(
+    lists: &mut [FragmentList],
+    places: &Places<'_>,
     cells: &C,
     camera: &Camera,
     one_sided: bool,
     flip: bool,
 ) -> Result<(), NoMemory>
-    requires valid { IsSampleGrid grid.now }
-    requires samples { AreSamplesOf grid.now samples.old }
-    ensures stays { HaveStayed samples.old samples.new }
-    ensures ok { OnOk result (HavePut (covering camera.now (micropolygons_of (C.values cells.now) one_sided flip)) samples.old samples.new) }
+    requires enough { sample_count places.now.grid ≤ length lists.old }
+    ensures { OnOk result (HavePut places.now.grid (covering camera.now (micropolygons_of (C.values cells.now) one_sided flip)) lists.old lists.new) }
 {
     for cell in 0..cells.count() {
-        hide_cell(samples, grid, cells, cell, camera, one_sided, flip)?;
+        hide_cell(lists, places, cells, cell, camera, one_sided, flip)?;
     }
+    Ok(())
+}
+
+/// Puts in what the cells show at each sample. The points of a grid that stays where it is are put on the raster once, into a
+/// row for them.
+pub(crate) fn hide_cells<C: Cells>(
+    lists: &mut [FragmentList],
+    places: &Places<'_>,
+    seen: &mut Vec<RasterPoint>,
+    cells: &C,
+    camera: &Camera,
+    one_sided: bool,
+    flip: bool,
+) -> Result<(), NoMemory>
+    requires enough { sample_count places.now.grid ≤ length lists.old }
+    ensures { OnOk result (HavePut places.now.grid (covering camera.now (micropolygons_of (C.values cells.now) one_sided flip)) lists.old lists.new) }
+{
+    let Some(grid) = cells.still_grid() else {
+        return hide_all(lists, places, cells, camera, one_sided, flip);
+    };
+    fill_points(seen, camera, grid.p)?;
+    hide_grid(lists, places, &grid, seen.as_slice(), one_sided, flip)?;
     Ok(())
 }

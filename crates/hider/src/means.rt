@@ -39,7 +39,7 @@ fn share(area: i64, number: Num) -> i128
 }
 
 /// The mean of a number of the corners.
-fn mean_at(areas: &Areas, a: Num, b: Num, c: Num) -> Num
+pub(crate) fn mean_at(areas: &Areas, a: Num, b: Num, c: Num) -> Num
     requires parts { AreAreas areas.now }
     requires small { unsigned_abs areas.now.whole ≤ 2 ^ 59 }
     ensures { result ≡ mean_at areas.now a b c }

@@ -7,9 +7,12 @@ use crate::cell::{Cell, CellCorner};
 use crate::cells::Cells;
 use crate::coverage::covers;
 use crate::fragment::Fragment;
+use crate::list::FragmentList;
+use crate::places::Places;
 use crate::sample::Sample;
 use crate::showing::Showing;
 use crate::sight::quad_of;
+use fixed_math::NoMemory;
 use transforms::Camera;
 
 /// Cell `cell` at a time.
@@ -44,15 +47,33 @@ pub(crate) struct MovingCell<'a, C: Cells> {
     pub(crate) ghost inside: { cell < (C.values cells.now).count },
 }
 
-impl<'a, C: Cells> Showing for MovingCell<'a, C> {
-    ghost shown = { λ m s. fragment_of m.camera.now s (micropolygon_of (C.values m.cells.now) m.one_sided m.flip m.cell) };
-
+impl<'a, C: Cells> MovingCell<'a, C> {
+    /// What shows at a sample.
     #[tactic(auto, unfolding(crate::specs::Fragments::fragment_of))]
-    fn shown_at(&self, s: &Sample) -> Option<Fragment> {
+    fn fragment_at(&self, s: &Sample) -> Option<Fragment>
+        ensures { result ≡ fragment_of self.now.camera.now s.now (micropolygon_of (C.values self.now.cells.now) self.now.one_sided self.now.flip self.now.cell) }
+    {
         let cell = cell_when(self.cells, self.cell, s.time);
         match quad_of(self.camera, &cell, self.one_sided, self.flip) {
             None => None,
             Some(quad) => covers(&quad, s.place),
         }
+    }
+}
+
+impl<'a, C: Cells> Showing for MovingCell<'a, C> {
+    ghost shown = { λ m s. fragment_of m.camera.now s (micropolygon_of (C.values m.cells.now) m.one_sided m.flip m.cell) };
+
+    fn put_at(
+        &self,
+        places: &Places<'_>,
+        n: usize,
+        list: &mut FragmentList,
+    ) -> Result<(), NoMemory> {
+        // the time of a sample isn't kept
+        if let Some(f) = self.fragment_at(&places.grid.sample(n)) {
+            list.put(f)?;
+        }
+        Ok(())
     }
 }

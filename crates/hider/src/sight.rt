@@ -65,7 +65,7 @@ fn turn_of(quad: &Quad) -> i64
     first + second
 }
 
-fn is_turned_away(one_sided: bool, flip: bool, turn: i64) -> bool
+pub(crate) fn is_turned_away(one_sided: bool, flip: bool, turn: i64) -> bool
     ensures { result ≡ is_turned_away one_sided flip turn }
 {
     if !one_sided {

@@ -1,21 +1,22 @@
 // A tile of samples, in which cells are hidden.
-ghost use Rattle.std.specs.Prelude.{ℕ, ◌≡◌, ◌<◌, ◌↔◌, true, [], ◌∷◌, map, IsTrue, IfOk, OnOk, List, length, slice_index_or};
+ghost use Rattle.std.specs.Prelude.{ℕ, ◌≡◌, ◌<◌, ◌≤◌, ◌↔◌, true, [], ◌∷◌, map, IsTrue, IfOk, OnOk, List, length, slice_index_or, vec_capacity};
 ghost use Rattle.hider.specs.declared.fragment.Fragment.{Fragment};
 ghost use Rattle.hider.specs.declared.sample.Sample.{Sample};
-ghost use Rattle.hider.specs.declared.tile_sample.TileSample.{TileSample};
 ghost use Rattle.hider.specs.CellValues.{grid_values, micropolygons_of};
 ghost use Rattle.hider.specs.Cells.{still, cells_of};
 ghost use Rattle.hider.specs.Composite.{composite};
 ghost use Rattle.hider.specs.Kept.{blocks};
-ghost use Rattle.hider.specs.Tiles.{TileValue, IsTile, IsSampleGrid, AreSamplesOf, AreEmpty, Shows, BlocksAll, HidesGrid, grid_of, sample_count, sample_of, with_covering};
+ghost use Rattle.hider.specs.Tiles.{TileValue, IsTile, IsSampleGrid, Shows, BlocksAll, HidesGrid, grid_of, sample_count, sample_of, with_covering};
 
 use crate::cells::Cells;
-use crate::compositing::composite;
 use crate::grid_cells::GridCells;
-use crate::hiding::hide_all;
+use crate::hiding::hide_cells;
 use crate::list::FragmentList;
+use crate::places::Places;
+use crate::raster_point::RasterPoint;
+use crate::rooms::{all_block, fill_lists, fill_places};
 use crate::sample_grid::SampleGrid;
-use crate::tile_sample::TileSample;
+use crate::spot::Spot;
 use fixed_math::{NoMemory, Num, Vec3};
 use std::alloc::Global;
 use std::marker::Model;
@@ -26,15 +27,19 @@ use transforms::Camera;
 #[derive(Drop)]
 pub struct Tile {
     grid: SampleGrid,
-    samples: Vec<TileSample>,
+    // of at least as many samples as the grid has, so that the memory serves for further grids
+    spots: Vec<Spot>,
+    lists: Vec<FragmentList>,
+    // room for the points of a grid
+    points: Vec<RasterPoint>,
 }
 
 impl Model for Tile {
     ghost Value = { TileValue };
 
-    ghost view = { λ t. record { grid = t.grid; samples = t.samples.items } };
+    ghost view = { λ t. record { grid = t.grid; lists = t.lists.items } };
 
-    ghost invariant = { λ t. IsTile (record { grid = t.grid; samples = t.samples.items }) };
+    ghost invariant = { λ t. IsTile t.grid t.spots.items t.lists.items };
 }
 
 /// Which samples those of a rectangle are, given by its left, top, right and bottom.
@@ -52,35 +57,6 @@ fn grid_of(rect: [u32; 4], xs: u32, ys: u32) -> SampleGrid
     }
 }
 
-/// The samples of a tile, at which nothing shows.
-fn samples_of(alloc: Global, grid: &SampleGrid) -> Result<Vec<TileSample>, NoMemory>
-    requires { IsSampleGrid grid.now }
-    ensures places { IfOk result (λ samples. AreSamplesOf grid.now samples.items) }
-    ensures empty { IfOk result (λ samples. AreEmpty samples.items) }
-{
-    let count = grid.count();
-    let mut samples = Vec::with_capacity(alloc, count)?;
-    for n in 0..count {
-        samples.push(TileSample {
-            at: grid.sample(n),
-            list: FragmentList::new(alloc),
-        })?;
-    }
-    Ok(samples)
-}
-
-/// Whether an opaque fragment lies nearer than `z` at each sample.
-fn all_block(samples: &[TileSample], z: Num) -> bool
-    ensures { IsTrue result ↔ ((n : ℕ) (d : TileSample) → n < length samples.now → blocks z (slice_index_or samples.now n d).list ≡ true) }
-{
-    for sample in samples {
-        if !sample.list.blocks(z) {
-            return false;
-        }
-    }
-    true
-}
-
 impl Tile {
     /// A tile of the pixels from the left one of `rect` to below its right one, and from its top to below its bottom one, in
     /// this order, within 4096 by 4096, with `xs` by `ys` samples a pixel, each 1 to 16. Nothing shows at them.
@@ -90,19 +66,33 @@ impl Tile {
         ensures empty { IfOk result (λ tile. Shows tile (λ s. [])) }
     {
         let grid = grid_of(rect, xs, ys);
-        let samples = samples_of(alloc, &grid)?;
-        Ok(Tile { grid, samples })
+        let mut spots = Vec::with_capacity(alloc, grid.count())?;
+        let mut lists = Vec::with_capacity(alloc, grid.count())?;
+        fill_places(&mut spots, &grid);
+        fill_lists(&mut lists, grid.count());
+        let points = Vec::new(alloc);
+        Ok(Tile {
+            grid,
+            spots,
+            lists,
+            points,
+        })
     }
 
-    /// Makes it a tile of other pixels, with as many samples a pixel, at which nothing shows, as `new` would.
+    /// Makes it a tile of other pixels, with as many samples a pixel, at which nothing shows, as `new` would: over the memory
+    /// that it has, where that is enough.
     pub fn renew(&mut self, rect: [u32; 4]) -> Result<(), NoMemory>
         requires { IsSampleGrid (grid_of rect self.old.grid.xs self.old.grid.ys) }
         ensures grid { OnOk result (self.new.grid ≡ grid_of rect self.old.grid.xs self.old.grid.ys) }
         ensures empty { OnOk result (Shows self.new (λ s. [])) }
     {
         let grid = grid_of(rect, self.grid.xs, self.grid.ys);
-        let samples = samples_of(*self.samples.allocator(), &grid)?;
-        *self = Tile { grid, samples };
+        let count = grid.count();
+        self.spots.reserve(count.saturating_sub(self.spots.len()))?;
+        self.lists.reserve(count.saturating_sub(self.lists.len()))?;
+        fill_places(&mut self.spots, &grid);
+        fill_lists(&mut self.lists, count);
+        self.grid = grid;
         Ok(())
     }
 
@@ -119,9 +109,14 @@ impl Tile {
         ensures grid { self.new.grid ≡ self.old.grid }
         ensures shows { OnOk result ((f : Sample → List Fragment) → Shows self.old f → Shows self.new (with_covering camera.now (micropolygons_of (C.values cells.now) one_sided flip) f)) }
     {
-        hide_all(
-            &mut self.samples,
-            &self.grid,
+        let places = Places {
+            grid: self.grid,
+            spots: self.spots.as_slice(),
+        };
+        hide_cells(
+            &mut self.lists,
+            &places,
+            &mut self.points,
             cells,
             camera,
             one_sided,
@@ -134,14 +129,14 @@ impl Tile {
     pub fn all_behind(&self, z: Num) -> bool
         ensures { (f : Sample → List Fragment) → Shows self.now f → IsTrue result ↔ BlocksAll z self.now.grid f }
     {
-        all_block(self.samples.as_slice(), z)
+        all_block(self.lists.as_slice(), self.grid.count(), z)
     }
 
     /// The number of samples.
     pub fn samples(&self) -> usize
         ensures { result ≡ sample_count self.now.grid }
     {
-        self.samples.len()
+        self.grid.count()
     }
 
     /// Where sample `n` lies on the raster, across and down, in 1/256 pixel: that of cell `n` modulo `k` of pixel `n` / `k` of
@@ -150,8 +145,8 @@ impl Tile {
         requires { n < sample_count self.now.grid }
         ensures { let s = sample_of self.now.grid n in result ≡ s.place.x ∷ s.place.y ∷ [] }
     {
-        let place = self.samples[n].at.place;
-        [place.x(), place.y()]
+        let spot = self.spots[n];
+        [spot.x(), spot.y()]
     }
 
     /// The colour of sample `n`: the composite of what shows there.
@@ -159,7 +154,7 @@ impl Tile {
         requires { n < sample_count self.now.grid }
         ensures { (f : Sample → List Fragment) → Shows self.now f → result ≡ composite (f (sample_of self.now.grid n)) }
     {
-        composite(self.samples[n].list.as_slice())
+        self.lists[n].colour()
     }
 }
 

@@ -2,11 +2,8 @@ use Rattle.std.proofs.Common.{map}
 use Rattle.std.specs.List.{range_with_len}
 use Rattle.hider.specs.CellValues.{micropolygon_of}
 use Rattle.hider.specs.Fragments.{covering}
-use Rattle.hider.specs.Tiles.{HavePut, HaveStayed}
+use Rattle.hider.specs.Tiles.{HavePut}
 use Rattle.hider.proofs.hiding.hide_all.Given as goal
 
 abbrev pub invariant-loop-cell : goal.invariant-loop-cell
-invariant-loop-cell g l = record {
-  stays : HaveStayed l.initial.samples l.samples;
-  done : HavePut (covering l.camera (map (micropolygon_of (g.C.Cells.values l.cells) l.one_sided l.flip) (range_with_len 0 l.cell))) l.initial.samples l.samples;
-}
+invariant-loop-cell g l = HavePut l.places.grid (covering l.camera (map (micropolygon_of (g.C.Cells.values l.cells) l.one_sided l.flip) (range_with_len 0 l.cell))) l.initial.lists l.lists

@@ -1,30 +1,39 @@
-use Rattle.std.proofs.Common.{◌≡◌, sym, ap, ◌∙◌}
+use Rattle.std.proofs.Common.{◌∙◌, ap, sym}
 use Rattle.hider.specs.Kept.{IsPlace, keep}
-use Rattle.hider.proofs.Keeps.{keep_is_kept, take_kept}
-use Rattle.hider.proofs.Placing.{opaque_put, clear_put}
-use Rattle.hider.proofs.list.FragmentList.put.Goals.{then-is_opaque, else-is_opaque}
+use Rattle.hider.proofs.Placing.{kept_behind, kept_opaque, opaque_is, kept_clear, clear_is}
 use Rattle.hider.proofs.list.FragmentList.put.Goals as goal
 
-put_is : (c : goal.In_ok-insert) → c.insert.new.self.items ≡ keep c.args.f c.self.inside.list.items
-put_is c =
-    let l = c.self.inside.list.items in
-    let f = c.args.f in
-    let p = c.in-Some.place in
-    let a : IsPlace f l p = rw c.as_slice.ensures at c.in-Some.ensures in
-    elim c.if-is_opaque.branch [
-      | then-is_opaque w ↦ opaque_put f p l c.if-is_opaque.self-inside.list.items c.insert.new.self.items a.inside (sym c.is_opaque.ensures ∙ w.if-is_opaque.true) a.put
-          (ap (λ (s : _). s.list.items) w.self-inside-is ∙ w.truncate.ensures.items) (c.in_ok-insert.ensures.ok)
-      | else-is_opaque w ↦ clear_put f p l c.if-is_opaque.self-inside.list.items c.insert.new.self.items c.self.invariant.whole (sym c.is_opaque.ensures ∙ w.if-is_opaque.false) a.front a.put
-          (ap (λ (s : _). s.list.items) w.self-inside-is) (c.in_ok-insert.ensures.ok)
-    ]
+pub returns-then-is_behind : goal.returns-then-is_behind
+returns-then-is_behind c =
+    let l = c.self.inside in
+    rw (← c.self.view_is) (sym (kept_behind c.args.f l.front.items l.back c.self.invariant (sym c.is_behind.ensures ∙ c.if-is_behind.true)))
 
 pub invariant_of-self : goal.invariant_of-self
-invariant_of-self c = rw (put_is c) (keep_is_kept c.args.f c.self.inside.list.items c.self.invariant.sorted)
+invariant_of-self c =
+    let l = c.self.inside in
+    let i : IsPlace c.args.f l.front.items c.place_in-place.result = rw c.as_slice.ensures.value at c.place_in-place.ensures in
+    opaque_is c.args.f l.front.items c.truncate.new.self.items l.back c.place_in-place.result c.self.invariant (sym c.is_behind.ensures ∙ c.if-is_behind.false)
+    (sym c.is_opaque.ensures ∙ c.if-is_opaque.true) i c.truncate.ensures.items
 
-pub invariant_of-self-in_err-insert : goal.invariant_of-self-in_err-insert
-invariant_of-self-in_err-insert c =
-    let e = c.in_err-insert.ensures.err in
-    elim c.if-is_opaque.branch [
-      | then-is_opaque w ↦ rw (e, w.self-inside-is, w.truncate.ensures.items) (take_kept c.in-Some.place c.self.inside.list.items c.self.invariant)
-      | else-is_opaque w ↦ rw (e, w.self-inside-is) c.self.invariant
-    ]
+pub returns-then-is_opaque : goal.returns-then-is_opaque
+returns-then-is_opaque c =
+    let l = c.self.inside in
+    let i : IsPlace c.args.f l.front.items c.place_in-place.result = rw c.as_slice.ensures.value at c.place_in-place.ensures in
+    kept_opaque c.args.f l.front.items c.truncate.new.self.items l.back c.place_in-place.result c.self.invariant (sym c.is_behind.ensures ∙ c.if-is_behind.false)
+    (sym c.is_opaque.ensures ∙ c.if-is_opaque.true) i c.truncate.ensures.items
+    ∙ ap (keep c.args.f) c.self.view_is
+
+pub invariant_of-self-2 : goal.invariant_of-self-2
+invariant_of-self-2 c =
+    let l = c.self.inside in
+    let i : IsPlace c.args.f l.front.items c.place_in-place.result = rw c.as_slice.ensures.value at c.place_in-place.ensures in
+    clear_is c.args.f l.front.items c.insert.new.self.items l.back c.place_in-place.result c.self.invariant (sym c.is_behind.ensures ∙ c.if-is_behind.false)
+    (sym c.is_opaque.ensures ∙ c.if-is_opaque.false) i c.in_ok-insert.ensures.items
+
+pub returns : goal.returns
+returns c =
+    let l = c.self.inside in
+    let i : IsPlace c.args.f l.front.items c.place_in-place.result = rw c.as_slice.ensures.value at c.place_in-place.ensures in
+    kept_clear c.args.f l.front.items c.insert.new.self.items l.back c.place_in-place.result c.self.invariant (sym c.is_behind.ensures ∙ c.if-is_behind.false)
+    (sym c.is_opaque.ensures ∙ c.if-is_opaque.false) i c.in_ok-insert.ensures.items
+    ∙ ap (keep c.args.f) c.self.view_is

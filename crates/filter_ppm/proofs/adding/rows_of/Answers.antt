@@ -1,0 +1,16 @@
+use Rattle.filter_ppm.proofs.Filters.{read_whole}
+use Rattle.filter_ppm.proofs.adding.rows_of.Goals as goal
+
+pub returns-clause-inside : goal.returns-clause-inside
+returns-clause-inside c = λ i h k.
+    let e = read_whole c.y.result c.y.type_inv in
+    let v = c.y.ensures.value in
+    let w = c.down_width.ensures in
+    rw (e, v, w) at (c.span_of.ensures.inside i h k)
+
+pub returns-clause-outside : goal.returns-clause-outside
+returns-clause-outside c = λ i a b o.
+    let e = read_whole c.y.result c.y.type_inv in
+    let v = c.y.ensures.value in
+    let w = c.down_width.ensures in
+    rw (e, v, w) at (c.span_of.ensures.outside i a b o)

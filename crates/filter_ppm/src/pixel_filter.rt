@@ -1,0 +1,163 @@
+// The filter of a frame, which gives the pixels of rectangles from tiles.
+ghost use Rattle.std.specs.Prelude.{ℕ, ◌≡◌, ◌≤◌, ◌<◌, ◌+◌, ◌-◌, ◌*◌, ◌⊎◌, IfOk, OnOk, [], List, length, get_or, slice_index_or};
+ghost use Rattle.scene.specs.Settings.{AreOptions};
+ghost use Rattle.hider.specs.declared.fragment.Fragment.{Fragment};
+ghost use Rattle.hider.specs.declared.sample.Sample.{Sample};
+ghost use Rattle.hider.specs.Composite.{composite};
+ghost use Rattle.hider.specs.Tiles.{Shows, IsSampleGrid, sample_count};
+ghost use Rattle.filter_ppm.specs.Sampled.{FilmFormat, IsFormat, film_with};
+ghost use Rattle.filter_ppm.specs.Bands.{rect_with, grid_over, seen_from, entry, IsPartOfFrame, PutsPixels};
+ghost use Rattle.filter_ppm.specs.Levels.{levels};
+ghost use Rattle.filter_ppm.specs.Sums.{none, mean_of, total_at, IsRect, HasTotals, AreOver, AreTotals};
+
+use crate::adding::add_tile;
+use crate::film::Film;
+use crate::levels::pixel_levels;
+use crate::rect::{Rect, rect_of};
+use crate::tables::Weights;
+use crate::total::{Total, mean, no_total};
+use fixed_math::NoMemory;
+use hider::Tile;
+use scene::Options;
+use std::alloc::Global;
+use std::marker::Model;
+
+/// The filter of a frame: the weights of its samples as tables, and the sums of pixels. Its memory is taken once, and serves
+/// for all tiles of the frame. Contracts see it as the frame that it was made of.
+#[derive(Drop)]
+pub struct PixelFilter {
+    width: u32,
+    height: u32,
+    options: Options,
+    weights: Weights,
+    totals: Vec<Total>,
+}
+
+impl Model for PixelFilter {
+    ghost Value = { FilmFormat };
+
+    ghost view = { λ f. record { width = f.width; height = f.height; options = f.options } };
+
+    ghost invariant = { λ f. IsFormat (record { width = f.width; height = f.height; options = f.options }) × f.weights ≡ f.options };
+}
+
+/// Sums over nothing for so many pixels, in memory that is used again.
+fn clear(totals: &mut Vec<Total>, count: usize) -> Result<(), NoMemory>
+    ensures long { OnOk result (length totals.new.items ≡ count) }
+    ensures empty { OnOk result ((p : ℕ) → get_or totals.new.items p none ≡ none) }
+{
+    totals.clear();
+    totals.resize(count, no_total())?;
+    Ok(())
+}
+
+/// The sums over a tile's samples for the pixels of a rectangle.
+fn fill(totals: &mut Vec<Total>, weights: &Weights, r: &Rect, tile: &Tile) -> Result<(), NoMemory>
+    requires options { AreOptions weights.now }
+    requires rect { IsRect r.now }
+    requires grid { IsSampleGrid tile.now.grid }
+    ensures long { OnOk result (HasTotals r.now totals.new.items) }
+    ensures over { OnOk result (AreOver (sample_count tile.now.grid) r.now totals.new.items) }
+    ensures totals { OnOk result ((f : Sample → List Fragment) → Shows tile.now f → AreTotals weights.now (λ s. composite (f s)) tile.now.grid (sample_count tile.now.grid) r.now totals.new.items) }
+{
+    clear(totals, r.count())?;
+    add_tile(totals, weights, r, tile);
+    Ok(())
+}
+
+/// Writes the pixels of a rectangle's row `y`, by their sums, into the band of its rows.
+fn put_row(
+    band: &mut [[u32; 3]],
+    width: usize,
+    options: &Options,
+    r: &Rect,
+    y: usize,
+    totals: &[Total],
+    n: usize,
+)
+    requires rect { IsRect r.now }
+    requires width { r.now.right ≤ width }
+    requires most { width ≤ 4096 }
+    requires top { r.now.top ≤ y }
+    requires bottom { y < r.now.bottom }
+    requires band { length band.old ≡ width * (r.now.bottom - r.now.top) }
+    requires totals { HasTotals r.now totals.now }
+    requires over { AreOver n r.now totals.now }
+    ensures inside { (x : ℕ) → r.now.left ≤ x → x < r.now.right → entry width r.now.top band.new x y ≡ levels options.now (mean_of (total_at r.now totals.now x y)) }
+    ensures others { (p : ℕ) → (p < (y - r.now.top) * width + r.now.left) ⊎ ((y - r.now.top) * width + r.now.right ≤ p) → get_or band.new p [] ≡ get_or band.old p [] }
+{
+    let start = (y - r.top) * width;
+    let first = (y - r.top) * r.width();
+    for x in r.left..r.right {
+        let p = first + (x - r.left);
+        band[start + x] = pixel_levels(options, mean(&totals[p], n));
+    }
+}
+
+/// Writes the pixels of a rectangle, by their sums, into the band of its rows.
+fn put_rows(
+    band: &mut [[u32; 3]],
+    width: usize,
+    options: &Options,
+    r: &Rect,
+    totals: &[Total],
+    n: usize,
+)
+    requires rect { IsRect r.now }
+    requires width { r.now.right ≤ width }
+    requires most { width ≤ 4096 }
+    requires band { length band.old ≡ width * (r.now.bottom - r.now.top) }
+    requires totals { HasTotals r.now totals.now }
+    requires over { AreOver n r.now totals.now }
+    ensures inside { (x y : ℕ) → r.now.left ≤ x → x < r.now.right → r.now.top ≤ y → y < r.now.bottom → entry width r.now.top band.new x y ≡ levels options.now (mean_of (total_at r.now totals.now x y)) }
+    ensures beside { (x y : ℕ) → (x < r.now.left) ⊎ (r.now.right ≤ x) → x < width → r.now.top ≤ y → y < r.now.bottom → entry width r.now.top band.new x y ≡ entry width r.now.top band.old x y }
+{
+    for y in r.top..r.bottom {
+        put_row(band, width, options, r, y, totals, n);
+    }
+}
+
+impl PixelFilter {
+    /// The filter of a frame.
+    pub fn new(alloc: Global, film: &Film) -> Result<PixelFilter, NoMemory>
+        ensures { IfOk result (λ filter. filter ≡ film.now) }
+    {
+        let weights = Weights::new(alloc, &film.options)?;
+        Ok(PixelFilter {
+            width: film.width,
+            height: film.height,
+            options: film.options,
+            weights,
+            totals: Vec::new(alloc),
+        })
+    }
+
+    /// Writes the pixels of a rectangle of the frame, left, top, right and bottom, into `band`, which has all pixels of the
+    /// frame's rows from the rectangle's top to its bottom. Every pixel is the mean over all samples of the frame: the tile
+    /// has those of all pixels within the filter's reach, and no other sample counts.
+    pub fn put(
+        &mut self,
+        tile: &Tile,
+        rect: [u32; 4],
+        band: &mut [[u32; 3]],
+    ) -> Result<(), NoMemory>
+        requires part { IsPartOfFrame self.old (rect_with rect) }
+        requires grid { tile.now.grid ≡ grid_over (seen_from self.old (rect_with rect)) self.old.options }
+        requires band { length band.old ≡ self.old.width * (slice_index_or rect 3 0 - slice_index_or rect 1 0) }
+        ensures film { self.new ≡ self.old }
+        ensures pixels { OnOk result ((f : Sample → List Fragment) → Shows tile.now f → PutsPixels (film_with self.old (λ s. composite (f s))) (rect_with rect) band.old band.new) }
+    {
+        let r = rect_of(rect);
+        self.options.ranges_known();
+        fill(&mut self.totals, &self.weights, &r, tile)?;
+        put_rows(
+            band,
+            self.width as usize,
+            &self.options,
+            &r,
+            self.totals.as_slice(),
+            tile.samples(),
+        );
+        Ok(())
+    }
+}

@@ -1,0 +1,170 @@
+// The filter's weights as tables over offsets.
+ghost use Rattle.std.specs.Prelude.{◌≡◌, ◌≤◌, ◌<◌, ◌+◌, ◌/◌, ◌*◌, ◌+ℤ◌, ◌-ℤ◌, pos, true, IfOk, unsigned_abs};
+ghost use Rattle.scene.specs.Settings.{OptionValues};
+ghost use Rattle.filter_ppm.specs.Weight.{counts};
+ghost use Rattle.filter_ppm.specs.Tables.{part, joined, IsTable};
+
+use crate::weights::{across_at, bell_of, slope_at};
+use fixed_math::{NoMemory, Num};
+use scene::{Filter, Options};
+use std::alloc::Global;
+use std::marker::Model;
+
+/// The weights of a filter: for each direction a table over the offsets from a pixel's middle.
+#[derive(Drop)]
+pub(crate) struct Weights {
+    options: Options,
+    across: Vec<Num>,
+    down: Vec<Num>,
+}
+
+impl Model for Weights {
+    ghost Value = { OptionValues };
+
+    ghost view = { λ w. w.options };
+
+    ghost invariant = { λ w. IsTable w.options.filter w.options.wx w.across.items × IsTable w.options.filter w.options.wy w.down.items };
+}
+
+/// The number of the offset `d` in one direction.
+#[tactic(auto, unfolding(crate::specs::Tables::part))]
+fn part_at(filter: Filter, width: u32, d: i64) -> Num
+    requires some { 1 ≤ width }
+    requires within { counts width d ≡ true }
+    ensures { result ≡ part filter width d }
+{
+    match filter {
+        Filter::Box => Num::sat(65536),
+        Filter::Triangle => slope_at(width, d),
+        Filter::Gaussian => {
+            let place = across_at(width, d);
+            place.mul(place)
+        }
+    }
+}
+
+/// The number of the offset `k` less half of the width.
+#[tactic(auto, using(crate::proofs::Joins::counts_at))]
+fn part_from(filter: Filter, width: u32, k: usize) -> Num
+    requires some { 1 ≤ width }
+    requires most { width ≤ 4096 }
+    requires inside { k < width }
+    ensures { result ≡ part filter width (pos k -ℤ pos (width / 2)) }
+{
+    part_at(filter, width, k as i64 - (width / 2) as i64)
+}
+
+/// The numbers of all offsets that count.
+fn table(alloc: Global, filter: Filter, width: u32) -> Result<Vec<Num>, NoMemory>
+    requires some { 1 ≤ width }
+    requires most { width ≤ 4096 }
+    ensures { IfOk result (λ table. IsTable filter width table.items) }
+{
+    let count = width as usize;
+    let mut table = Vec::with_capacity(alloc, count)?;
+    for k in 0..count {
+        table.push(part_from(filter, width, k))?;
+    }
+    Ok(table)
+}
+
+/// The place of an offset that counts in its table.
+fn index_of(width: u32, d: i64) -> usize
+    requires most { width ≤ 4096 }
+    requires within { counts width d ≡ true }
+    ensures value { pos result ≡ d +ℤ pos (width / 2) }
+    ensures inside { result < width }
+{
+    (d + (width / 2) as i64) as usize
+}
+
+/// The number of an offset that counts, by its table.
+#[tactic(auto, using(crate::proofs::Joins::entry_is))]
+fn part_in(filter: Filter, width: u32, table: &[Num], d: i64) -> Num
+    requires most { width ≤ 4096 }
+    requires table { IsTable filter width table.now }
+    requires within { counts width d ≡ true }
+    ensures { result ≡ part filter width d }
+{
+    table[index_of(width, d)]
+}
+
+/// The weight of two numbers of offsets.
+#[tactic(auto, unfolding(crate::specs::Tables::joined))]
+fn joined(filter: Filter, p: Num, q: Num) -> Num
+    ensures { result ≡ joined filter p q }
+{
+    match filter {
+        Filter::Box => Num::sat(65536),
+        Filter::Triangle => p.mul(q),
+        Filter::Gaussian => bell_of(p.add(q)),
+    }
+}
+
+/// A place less the middle of a pixel.
+fn from_middle(place: i64, pixel: usize) -> i64
+    requires place { unsigned_abs place ≤ 268435456 }
+    requires pixel { pixel < 4096 }
+    ensures { result ≡ place -ℤ pos (256 * pixel + 128) }
+{
+    place - (256 * pixel + 128) as i64
+}
+
+impl Weights {
+    /// The weights of the filter that the options have.
+    pub(crate) fn new(alloc: Global, options: &Options) -> Result<Weights, NoMemory>
+        ensures { IfOk result (λ weights. weights ≡ options.now) }
+    {
+        let o = *options;
+        Ok(Weights {
+            options: o,
+            across: table(alloc, o.filter, o.wx)?,
+            down: table(alloc, o.filter, o.wy)?,
+        })
+    }
+
+    /// The width of the filter across.
+    pub(crate) fn across_width(&self) -> u32
+        ensures { result ≡ self.now.wx }
+    {
+        self.options.wx
+    }
+
+    /// Its width down.
+    pub(crate) fn down_width(&self) -> u32
+        ensures { result ≡ self.now.wy }
+    {
+        self.options.wy
+    }
+
+    /// The number of the row `y` for a place that counts for it.
+    pub(crate) fn down(&self, place: i64, y: usize) -> Num
+        requires place { unsigned_abs place ≤ 268435456 }
+        requires pixel { y < 4096 }
+        requires counts { counts self.now.wy (place -ℤ pos (256 * y + 128)) ≡ true }
+        ensures { result ≡ part self.now.filter self.now.wy (place -ℤ pos (256 * y + 128)) }
+    {
+        part_in(
+            self.options.filter,
+            self.options.wy,
+            self.down.as_slice(),
+            from_middle(place, y),
+        )
+    }
+
+    /// The weight of a place that counts for the pixel `x` of a row whose number is `down`.
+    pub(crate) fn weight(&self, place: i64, x: usize, down: Num) -> Num
+        requires place { unsigned_abs place ≤ 268435456 }
+        requires pixel { x < 4096 }
+        requires counts { counts self.now.wx (place -ℤ pos (256 * x + 128)) ≡ true }
+        ensures { result ≡ joined self.now.filter (part self.now.filter self.now.wx (place -ℤ pos (256 * x + 128))) down }
+    {
+        let across = part_in(
+            self.options.filter,
+            self.options.wx,
+            self.across.as_slice(),
+            from_middle(place, x),
+        );
+        joined(self.options.filter, across, down)
+    }
+}

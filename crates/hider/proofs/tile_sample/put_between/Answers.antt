@@ -1,7 +1,0 @@
-use Rattle.std.proofs.Common.{◌≡◌, arith}
-use Rattle.hider.proofs.tile_sample.put_between.Goals as goal
-
-pub returns-clause-others : goal.returns-clause-others
-returns-clause-others g c =
-    let e : c.args.to ≡ c.loop-n.n = omega arith in
-    rw e c.loop-n.invariant.others

@@ -1,0 +1,60 @@
+-- Micropolygons of one colour and opacity, whose corners were put on the raster before.
+use Rattle.std.specs.Prelude.{◌≡◌, ℕ, ◌<◌, ℤ, pos, Bool, cond, ◌&&◌, int_le, Option, Some, None, List, length, slice_index_or}
+use Rattle.fixed_math.specs.declared.vec3.Vec3.{Vec3}
+use Rattle.fixed_math.specs.Axes.{origin}
+use Rattle.fixed_math.specs.Spots.{Spot}
+use Rattle.transforms.specs.declared.view.View.{View}
+use Rattle.transforms.specs.Raster.{raster_x, raster_y}
+use Rattle.hider.specs.declared.facing.Facing.{Facing}
+use Rattle.hider.specs.declared.flat_cell.FlatCell.{FlatCell}
+use Rattle.hider.specs.declared.fragment.Fragment.{Fragment}
+use Rattle.hider.specs.declared.quad.Corner.{Corner}
+use Rattle.hider.specs.declared.quad.Quad.{Quad}
+use Rattle.hider.specs.declared.raster_point.RasterPoint.{RasterPoint}
+use Rattle.hider.specs.CellValues.{CellValues}
+use Rattle.hider.specs.Coverage.{covers_facing, covers_triangle}
+
+-- a depth from near to far
+abbrev pub is_seen : View → ℤ → Bool
+is_seen v z = int_le v.near z && int_le z v.far
+
+-- a point as a camera sees it
+unfoldable pub raster_point : View → Vec3 → RasterPoint
+raster_point v p = record {
+  place = cond (is_seen v p.z) (record { x = raster_x v p; y = raster_y v p }) (record { x = pos 0; y = pos 0 });
+  depth = p.z;
+  is_seen = is_seen v p.z;
+}
+
+-- all points, in order
+pub record AreOnRaster (v : View) (points : List Vec3) (seen : List RasterPoint) : Type 0 where
+  pub count : length seen ≡ length points
+  pub each : (n : ℕ) (d : RasterPoint) → n < length points → slice_index_or seen n d ≡ raster_point v (slice_index_or points n origin)
+
+-- a corner of a micropolygon
+abbrev pub flat_corner : FlatCell → RasterPoint → Corner
+flat_corner f p = record { place = p.place; depth = p.depth; colour = f.colour; opacity = f.opacity }
+
+unfoldable pub flat_quad : FlatCell → Quad
+flat_quad f = record { a = flat_corner f f.a; b = flat_corner f f.b; c = flat_corner f f.c; d = flat_corner f f.d }
+
+abbrev pub are_all_seen : FlatCell → Bool
+are_all_seen f = f.a.is_seen && (f.b.is_seen && (f.c.is_seen && f.d.is_seen))
+
+-- f is cell i of cells that stay where they are
+pub record IsFlat (v : View) (k : CellValues) (i : ℕ) (f : FlatCell) : Type 0 where
+  pub a : f.a ≡ raster_point v (k.corner i 0 0)
+  pub b : f.b ≡ raster_point v (k.corner i 1 0)
+  pub c : f.c ≡ raster_point v (k.corner i 2 0)
+  pub d : f.d ≡ raster_point v (k.corner i 3 0)
+  pub colour : f.colour ≡ k.colour i
+  pub opacity : f.opacity ≡ k.opacity i
+
+-- what a triangle of a micropolygon shows, if it is one
+abbrev pub facing_covers : FlatCell → Option Facing → Spot → Option Fragment
+facing_covers f None s = None
+facing_covers f (Some t) s = covers_facing (flat_corner f t.a) (flat_corner f t.b) (flat_corner f t.c) s
+
+-- it is the triangle of three corners, turned so that its area is positive, and none where that is 0
+pub record IsFacingOf (a b c : RasterPoint) (t : Option Facing) : Type 0 where
+  pub same : (f : FlatCell) (s : Spot) → facing_covers f t s ≡ covers_triangle (flat_corner f a) (flat_corner f b) (flat_corner f c) s

@@ -1,0 +1,170 @@
+// The cells of a grid that stays where it is: its points are put on the raster once.
+ghost use Rattle.std.specs.Prelude.{◌≡◌, ◌<◌, ◌≤◌, ◌^◌, ◌+ℤ◌, [], ◌∷◌, OnOk, ℕ, length, unsigned_abs};
+ghost use Rattle.std.specs.List.{cons_option};
+ghost use Rattle.std.specs.Option.{option_and_then};
+ghost use Rattle.transforms.specs.declared.view.View.{View};
+ghost use Rattle.hider.specs.Bounding.{bounds_of};
+ghost use Rattle.hider.specs.CellValues.{CellValues, grid_values, micropolygon_of, micropolygons_of, cell_when};
+ghost use Rattle.hider.specs.Cells.{still, seen};
+ghost use Rattle.hider.specs.Coverage.{covers};
+ghost use Rattle.hider.specs.Flat.{AreOnRaster, IsFlat, are_all_seen, flat_quad};
+ghost use Rattle.hider.specs.Fragments.{covering};
+ghost use Rattle.hider.specs.Searching.{IsPartOf, StaysIn};
+ghost use Rattle.hider.specs.Tiles.{HavePut, sample_count};
+
+use crate::bounds::Bounds;
+use crate::edges::edge_at;
+use crate::extremes::{greatest_of, least_of};
+use crate::facing::Facing;
+use crate::flat_cell::FlatCell;
+use crate::flat_quad::FlatQuad;
+use crate::grid_cells::first_of;
+use crate::list::FragmentList;
+use crate::near::put_rows;
+use crate::places::Places;
+use crate::raster_point::{RasterPoint, put_on_raster};
+use crate::sample_grid::SampleGrid;
+use crate::sight::is_turned_away;
+use crate::spans::part_near;
+use dice::GridRef;
+use fixed_math::{NoMemory, Vec3};
+use transforms::Camera;
+
+/// Puts the points of a grid on the raster, into a row for them.
+pub(crate) fn fill_points(
+    seen: &mut Vec<RasterPoint>,
+    camera: &Camera,
+    points: &[Vec3],
+) -> Result<(), NoMemory>
+    ensures { OnOk result (AreOnRaster camera.now points.now seen.new.items) }
+{
+    seen.clear();
+    for n in 0..points.len() {
+        seen.push(put_on_raster(camera, &points[n]))?;
+    }
+    Ok(())
+}
+
+/// The least box that holds the corners.
+#[tactic(auto, unfolding(crate::specs::Bounding::bounds_of, crate::specs::Flat::flat_quad))]
+fn bounds_of(cell: &FlatCell) -> Bounds
+    ensures { result ≡ bounds_of (flat_quad cell.now) }
+{
+    let [a, b, c, d] = [cell.a.place, cell.b.place, cell.c.place, cell.d.place];
+    Bounds {
+        left: least_of(a.x(), b.x(), c.x(), d.x()),
+        right: greatest_of(a.x(), b.x(), c.x(), d.x()),
+        top: least_of(a.y(), b.y(), c.y(), d.y()),
+        bottom: greatest_of(a.y(), b.y(), c.y(), d.y()),
+    }
+}
+
+fn are_all_seen(cell: &FlatCell) -> bool
+    ensures { result ≡ are_all_seen cell.now }
+{
+    cell.a.is_seen && cell.b.is_seen && cell.c.is_seen && cell.d.is_seen
+}
+
+/// The twofold area of a micropolygon with its sign, from those of its triangles.
+fn turn_of(first: i64, second: i64) -> i64
+    requires first { unsigned_abs first ≤ 2 ^ 59 }
+    requires second { unsigned_abs second ≤ 2 ^ 59 }
+    ensures { result ≡ first +ℤ second }
+{
+    first + second
+}
+
+/// Puts in what a cell shows, where that is nothing but in the pixels of `part`.
+fn hide_in(
+    lists: &mut [FragmentList],
+    places: &Places<'_>,
+    part: &SampleGrid,
+    cell: &FlatCell,
+    bounds: &Bounds,
+    one_sided: bool,
+    flip: bool,
+) -> Result<(), NoMemory>
+    requires enough { sample_count places.now.grid ≤ length lists.old }
+    requires bounds { bounds.now ≡ bounds_of (flat_quad cell.now) }
+    requires part { IsPartOf part.now places.now.grid }
+    requires beside { StaysIn part.now places.now.grid (λ s. covers (flat_quad cell.now) s.place) }
+    ensures { OnOk result (HavePut places.now.grid (λ s. cons_option (option_and_then (λ q. covers q s.place) (seen one_sided flip (flat_quad cell.now))) []) lists.old lists.new) }
+{
+    let first = edge_at(cell.a.place, cell.b.place, cell.c.place);
+    let second = edge_at(cell.a.place, cell.c.place, cell.d.place);
+    if is_turned_away(one_sided, flip, turn_of(first, second)) {
+        return Ok(());
+    }
+    let quad = FlatQuad {
+        cell: *cell,
+        bounds: *bounds,
+        first: Facing::of(&cell.a, &cell.b, &cell.c, first),
+        second: Facing::of(&cell.a, &cell.c, &cell.d, second),
+    };
+    put_rows(lists, places, part, &quad)?;
+    Ok(())
+}
+
+/// Puts in what a cell shows at each sample.
+fn hide_flat(
+    lists: &mut [FragmentList],
+    places: &Places<'_>,
+    cell: &FlatCell,
+    one_sided: bool,
+    flip: bool,
+) -> Result<(), NoMemory>
+    requires enough { sample_count places.now.grid ≤ length lists.old }
+    ensures { OnOk result ((v : View) (k : CellValues) (i : ℕ) → IsFlat v k i cell.now → HavePut places.now.grid (covering v (still one_sided flip (cell_when k i 0) ∷ [])) lists.old lists.new) }
+{
+    if !are_all_seen(cell) {
+        return Ok(());
+    }
+    let bounds = bounds_of(cell);
+    let part = part_near(&places.grid, &bounds);
+    if part.left >= part.right {
+        return Ok(());
+    }
+    if part.top >= part.bottom {
+        return Ok(());
+    }
+    hide_in(lists, places, &part, cell, &bounds, one_sided, flip)?;
+    Ok(())
+}
+
+/// Cell `cell` of a grid, whose points are on the raster.
+fn flat_cell(grid: &GridRef<'_>, seen: &[RasterPoint], cell: usize) -> FlatCell
+    requires count { length seen.now ≡ length grid.now.p.now }
+    requires cell { cell < (grid_values grid.now.columns grid.now.rows grid.now.p.now grid.now.ci.now grid.now.oi.now).count }
+    ensures { (v : View) → AreOnRaster v grid.now.p.now seen.now → IsFlat v (grid_values grid.now.columns grid.now.rows grid.now.p.now grid.now.ci.now grid.now.oi.now) cell result }
+{
+    let columns = grid.columns;
+    let n = first_of(columns, cell);
+    FlatCell {
+        a: seen[n],
+        b: seen[n + 1],
+        c: seen[n + columns + 1],
+        d: seen[n + columns],
+        colour: grid.ci[n],
+        opacity: grid.oi[n],
+    }
+}
+
+/// Puts in what the cells of a grid show at each sample, where its points are on the raster.
+pub(crate) fn hide_grid(
+    lists: &mut [FragmentList],
+    places: &Places<'_>,
+    grid: &GridRef<'_>,
+    seen: &[RasterPoint],
+    one_sided: bool,
+    flip: bool,
+) -> Result<(), NoMemory>
+    requires enough { sample_count places.now.grid ≤ length lists.old }
+    requires count { length seen.now ≡ length grid.now.p.now }
+    ensures { OnOk result ((v : View) → AreOnRaster v grid.now.p.now seen.now → HavePut places.now.grid (covering v (micropolygons_of (grid_values grid.now.columns grid.now.rows grid.now.p.now grid.now.ci.now grid.now.oi.now) one_sided flip)) lists.old lists.new) }
+{
+    for cell in 0..(grid.columns - 1) * (grid.rows - 1) {
+        let flat = flat_cell(grid, seen, cell);
+        hide_flat(lists, places, &flat, one_sided, flip)?;
+    }
+    Ok(())
+}

@@ -1,0 +1,102 @@
+// A micropolygon of one colour and opacity, ready to be looked up at samples.
+ghost use Rattle.std.specs.Prelude.{◌≡◌, ◌<◌, ◌≤◌, ◌^◌, [], IfOk, OnOk, false, true, is_some, unsigned_abs};
+ghost use Rattle.std.specs.List.{cons_option};
+ghost use Rattle.fixed_math.specs.Edges.{edge};
+ghost use Rattle.hider.specs.Bounding.{bounds_of};
+ghost use Rattle.hider.specs.Coverage.{covers, means_at};
+ghost use Rattle.hider.specs.Flat.{IsFacingOf, flat_corner, flat_quad, facing_covers};
+ghost use Rattle.hider.specs.Kept.{keep, keep_all};
+ghost use Rattle.hider.specs.Weighing.{AreAreas};
+
+use crate::areas::Areas;
+use crate::bounds::Bounds;
+use crate::facing::Facing;
+use crate::flat_cell::FlatCell;
+use crate::fragment::Fragment;
+use crate::list::FragmentList;
+use crate::places::Places;
+use crate::showing::Showing;
+use crate::spot::Spot;
+use fixed_math::NoMemory;
+
+/// A micropolygon of one colour and opacity with its box and its two triangles.
+#[derive(Drop)]
+pub(crate) struct FlatQuad {
+    pub(crate) cell: FlatCell,
+    pub(crate) bounds: Bounds,
+    pub(crate) first: Option<Facing>,
+    pub(crate) second: Option<Facing>,
+    pub(crate) ghost bounds_are: { bounds ≡ bounds_of (flat_quad cell) },
+    pub(crate) ghost first_is: { IsFacingOf cell.a cell.b cell.c first },
+    pub(crate) ghost second_is: { IsFacingOf cell.a cell.c cell.d second },
+}
+
+/// Puts in what a triangle of a micropolygon shows where it covers a place with these areas. Its colour and opacity are those
+/// of all corners.
+fn put_covered(
+    cell: &FlatCell,
+    t: &Facing,
+    areas: &Areas,
+    list: &mut FragmentList,
+) -> Result<(), NoMemory>
+    requires parts { AreAreas areas.now }
+    requires small { unsigned_abs areas.now.whole ≤ 2 ^ 59 }
+    ensures { OnOk result (list.new ≡ keep (means_at areas.now (flat_corner cell.now t.now.a) (flat_corner cell.now t.now.b) (flat_corner cell.now t.now.c)) list.old) }
+{
+    let Some(depth) = list.visible_depth(areas, t.a.depth, t.b.depth, t.c.depth) else {
+        return Ok(());
+    };
+    list.put(Fragment {
+        depth,
+        colour: cell.colour,
+        opacity: cell.opacity,
+    })
+}
+
+/// Puts in what a triangle of a micropolygon shows at a place, and says whether it covers the place.
+fn put_facing(
+    cell: &FlatCell,
+    facing: &Option<Facing>,
+    s: Spot,
+    list: &mut FragmentList,
+) -> Result<bool, NoMemory>
+    ensures covers { IfOk result (λ covered. covered ≡ is_some (facing_covers cell.now facing.now s)) }
+    ensures put { OnOk result (list.new ≡ keep_all list.old (cons_option (facing_covers cell.now facing.now s) [])) }
+{
+    let Some(t) = facing else {
+        return Ok(false);
+    };
+    let Some(areas) = t.areas(s) else {
+        return Ok(false);
+    };
+    put_covered(cell, t, &areas, list)?;
+    Ok(true)
+}
+
+/// Puts in what the micropolygon shows at a place inside its box.
+fn put_inside(quad: &FlatQuad, s: Spot, list: &mut FragmentList) -> Result<(), NoMemory>
+    ensures { OnOk result (list.new ≡ keep_all list.old (cons_option (covers (flat_quad quad.now.cell) s) [])) }
+{
+    if put_facing(&quad.cell, &quad.first, s, list)? {
+        return Ok(());
+    }
+    put_facing(&quad.cell, &quad.second, s, list)?;
+    Ok(())
+}
+
+impl Showing for FlatQuad {
+    ghost shown = { λ q s. covers (flat_quad q.cell) s.place };
+
+    fn put_at(
+        &self,
+        places: &Places<'_>,
+        n: usize,
+        list: &mut FragmentList,
+    ) -> Result<(), NoMemory> {
+        let s = places.at(n);
+        if !self.bounds.holds(s) {
+            return Ok(());
+        }
+        put_inside(self, s, list)
+    }
+}

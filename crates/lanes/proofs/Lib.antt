@@ -1,0 +1,10 @@
+pub mod Products
+pub mod Choices
+pub mod Places
+pub mod Signs
+pub mod Quotients
+pub mod Roots
+pub mod Bits
+pub mod Numbers
+pub mod Fours
+pub mod Sides

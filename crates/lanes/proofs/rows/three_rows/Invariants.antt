@@ -1,0 +1,11 @@
+use Rattle.std.proofs.Common.{◌≡◌, ℕ, ◌<◌, length}
+use Rattle.fixed_math.specs.Fixed.{IsRaw}
+use Rattle.lanes.specs.Rows.{at}
+use Rattle.lanes.proofs.rows.three_rows.Given as goal
+
+abbrev pub invariant-loop-i : goal.invariant-loop-i
+invariant-loop-i g l = record {
+  long : length l.out ≡ length l.initial.out;
+  each : (k : ℕ) → k < l.i → at l.out k ≡ g.K.Three.formula (at l.a k) (at l.b k) (at l.c k);
+  raws : (k : ℕ) → k < l.i → IsRaw (at l.a k) → IsRaw (at l.b k) → IsRaw (at l.c k) → IsRaw (at l.out k);
+}

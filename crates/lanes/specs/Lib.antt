@@ -1,0 +1,7 @@
+pub mod Masks
+pub mod Kernels
+pub mod Rows
+pub mod Signs
+pub mod Directions
+pub mod Powers
+pub mod Edges
