@@ -4,7 +4,7 @@ ghost use Rattle.patches.specs.Boxes.{IsWithin};
 ghost use Rattle.bound_split.specs.Decisions.{decision_of};
 ghost use Rattle.bound_split.specs.Leaves.{leaves};
 
-use bound_split::{Decision, Leaf, Walk, decide, halves};
+use bound_split::{Decision, Leaf, Reach, Walk, decide, extent_of, halves, meets};
 use bumpalo::Bump;
 use dice::{line_at, placed_derivative, placed_parameter, placed_step, points, positions};
 use fixed_math::{Num, Vec3};
@@ -471,5 +471,26 @@ fn across_the_near_plane(rt: HostRuntime) -> Result<(), Fail> {
         .next(&square, &camera, Num::sat(65536), Num::sat(0))
         .ok_or("a leaf")?;
     assert!(rt; second.piece.a <= 8 && second.piece.b <= 8);
+    Ok(())
+}
+
+#[test]
+fn pieces_in_tiles(rt: HostRuntime) -> Result<(), Fail> {
+    // half of the window's width and its lower half: 8.5 pixels both ways
+    let flat = square(65536, 65536);
+    let camera = camera(None, 17, 1)?;
+    let whole = Piece::whole(3);
+    let [half, _] = halves(&whole, true);
+    let [quarter, _] = halves(&half, false);
+    assert!(rt; meets(&flat, &quarter, &camera, Num::sat(0), [8, 8, 9, 9]));
+    assert!(rt; !meets(&flat, &quarter, &camera, Num::sat(0), [9, 8, 10, 9]));
+    assert!(rt; !meets(&flat, &quarter, &camera, Num::sat(0), [8, 7, 9, 8]));
+    // displacement by a half of a pixel and more reaches further
+    assert!(rt; meets(&flat, &quarter, &camera, Num::sat(4096), [8, 7, 9, 8]));
+    let steep = square(-65536, 65536);
+    let extent = extent_of(&steep, &whole, &camera, Num::sat(5));
+    assert_eq!(rt; extent.reach, Reach::Everywhere);
+    assert_eq!(rt; extent.nearest, raw(-65541));
+    assert!(rt; extent.meets([16, 16, 17, 17]));
     Ok(())
 }

@@ -85,3 +85,35 @@ pub fn points<'a, S: Surface>(
         n: into_bump_slice(normals),
     })
 }
+
+/// The points of the diced grid of a leaf alone in `arena`, by rows, u fastest.
+pub fn points_alone<'a, S: Surface>(
+    arena: &'a Bump,
+    s: &S,
+    piece: &Piece,
+    p: u8,
+    q: u8,
+) -> Result<&'a [Vec3], NoMemory>
+    requires columns { p ≤ 4 }
+    requires rows { q ≤ 4 }
+    ensures { IfOk result (λ points. points.now ≡ diced_points (S.point_of s.now) piece.now p q) }
+{
+    let points = collect_points(arena, s, piece, p, q)?;
+    Ok(into_bump_slice(points))
+}
+
+/// The unit normals of the diced grid of a leaf alone in `arena`, by rows, u fastest.
+pub fn normals_alone<'a, S: Surface>(
+    arena: &'a Bump,
+    s: &S,
+    piece: &Piece,
+    p: u8,
+    q: u8,
+) -> Result<&'a [Vec3], NoMemory>
+    requires columns { p ≤ 4 }
+    requires rows { q ≤ 4 }
+    ensures { IfOk result (λ normals. normals.now ≡ diced_points (normal (S.du_of s.now) (S.dv_of s.now)) piece.now p q) }
+{
+    let normals = collect_normals(arena, s, piece, p, q)?;
+    Ok(into_bump_slice(normals))
+}

@@ -6,6 +6,6 @@ mod grid;
 mod normals;
 mod parameters;
 
-pub use diced::{Diced, GridRef, points};
+pub use diced::{Diced, GridRef, normals_alone, points, points_alone};
 pub use grid::{line_at, positions};
 pub use parameters::{placed_derivative, placed_parameter, placed_step};

@@ -18,6 +18,7 @@ use Rattle.builtins.specs.Lights.{Light}
 use Rattle.builtins.specs.Shapes.{shape}
 use Rattle.builtins.specs.Values.{number_of, shape_of}
 use Rattle.grid_code.specs.declared.code.Register.{Register}
+use Rattle.grid_code.specs.declared.register_set.RegisterSet.{RegisterSet}
 use Rattle.grid_code.specs.declared.shader_code.Code.{Code}
 use Rattle.grid_code.specs.declared.slot.Slot.{Slot}
 use Rattle.grid_code.specs.Names.{reg, name_at, first_free}
@@ -28,7 +29,7 @@ use Rattle.grid_code.specs.View.{block_of}
 use Rattle.sl_meaning.specs.Core as core
 use Rattle.sl_meaning.specs.Environment.{zero_value}
 use Rattle.sl_meaning.specs.Runs.{Names, ran}
-use Rattle.mask_codegen.specs.Compiled.{IsCodeOf}
+use Rattle.mask_codegen.specs.Compiled.{IsCodeOf, NamesVarying}
 use Rattle.core_codegen.specs.Correct.{Answers}
 use Rattle.grid_variables.specs.Points.{Leaf, columns, rows, lines}
 use Rattle.shader_binding.specs.Sets.{Bound}
@@ -37,17 +38,18 @@ use Rattle.place_rows.specs.Layout.{row_length, height, same_class}
 use Rattle.grid_machine.specs.Run.{rows_of, params_of, step_names, uniform_inputs, varying_inputs, begun, lines_given, Leaves}
 use Rattle.grid_rows.specs.Rows.{heights, AreRows, values_of, triple_in}
 use Rattle.displace_shade.specs.Rows.{HoldNames, written_order, uniform_values, varying_values, slot_of}
-use Rattle.grid_variables.specs.Places.{point_count, over, IsSized, ArePlaces}
+use Rattle.grid_variables.specs.Places.{point_count, over, normals_of, IsSized}
 use Rattle.displace_shade.specs.Diced.{names_of, Hold}
-use Rattle.grid_rows.specs.Given.{surface_rows, displacement_rows}
-use Rattle.grid_variables.specs.declared.places.Places.{Places}
+use Rattle.grid_rows.specs.Given.{wanted_rows, all_rows}
+use Rattle.grid_rows.specs.Wanted.{given_order}
 use Rattle.grid_variables.specs.declared.variables.Variables.{Variables}
 use Rattle.displace_shade.proofs.Begun.{values_counted, values_shaped}
-use Rattle.displace_shade.proofs.Looks.{Fit, Paired, shape_of_reg}
+use Rattle.displace_shade.proofs.Looks.{Every, Fit, Paired, shape_of_reg}
 use Rattle.displace_shade.proofs.Starts.{inputs_fit, params_paired}
 use Rattle.displace_shade.proofs.Ran.{AreValues, run_leaves}
 use Rattle.displace_shade.proofs.Stages.{hold_names, hold_steps, displaced_hold, surface_hold, volume_hold}
-use Rattle.displace_shade.proofs.GivenRows.{surface_given, displacement_given}
+use Rattle.displace_shade.proofs.GivenRows.{HasRows, rows_held, seen_held}
+use Rattle.displace_shade.proofs.Wanted.{seen, seen_names}
 use Rattle.displace_shade.proofs.Plain.{lines_unread, placed_plain}
 
 paired_long : (rs : List Register) (vs : List Value) → Paired rs vs → length rs ≡ length vs
@@ -73,7 +75,7 @@ params_shapes u n (p ∷ ps) [] h g = absurd (omega arith)
 params_shapes u n (p ∷ ps) (v ∷ vs) h g =
     head_shapes (same_class p.uniform u) u (shape_of p.kind) n v (params_of u (n + 1) ps) (values_of u ps vs) (g 0 (omega arith)) (params_shapes u (n + 1) ps vs (omega arith) (λ k l. g (suc k) (omega arith)))
 
-module _ (l : Leaf) (t : Tree) (code : Code) (base : List Value) (space : Map) (is : IsCodeOf t code) (vs : ℕ → List Value) (values : AreValues code.params t.params vs) (front : List ℤ) (fronts : AreRows (point_count l) (λ i. values_of false code.params (vs i)) front) where
+module _ (l : Leaf) (t : Tree) (code : Code) (base : List Value) (space : Map) (is : IsCodeOf t code) (named : RegisterSet) (covers : NamesVarying named (block_of code.nodes)) (vs : ℕ → List Value) (values : AreValues code.params t.params vs) (front : List ℤ) (fronts : AreRows (point_count l) (λ i. values_of false code.params (vs i)) front) where
   abbrev c : ℕ
   c = point_count l
 
@@ -121,8 +123,17 @@ module _ (l : Leaf) (t : Tree) (code : Code) (base : List Value) (space : Map) (
       made : ℤ → ℤ → Lines
       made x y = record { columns = columns l; rows = rows l; du = x; dv = y }
 
+  -- ---- what the rows that a run is given hold
+  abbrev pub Given : Variables → List ℤ → Type 0
+  Given d varyings = AreRows c (λ i. varying_values t.kind code.params (vs i) (seen t.kind named (names_of l d i))) varyings
+
+  pub given_as : (d : Variables) → IsSized l d → (kind : SlKind) → t.kind ≡ kind → Every (HasRows l d) (given_order kind) → (q : SlKind) → q ≡ code.kind → (varyings : List ℤ) → varyings ≡ front ++ all_rows (wanted_rows q named l d) (given_order q) → Given d varyings
+  given_as d sized kind k held q eq varyings e =
+      subst (Given d) (sym (e ∙ ap (λ z. front ++ all_rows (wanted_rows z named l d) (given_order z)) (eq ∙ is.kind)))
+      (rows_held l d sized t.kind named code.params vs front fronts (subst (λ z. Every (HasRows l d) (given_order z)) (sym k) held))
+
   -- ---- what the rows that a run leaves hold
-  left : (f : ℕ → Names) (d : Variables) (asked : List Asked) (lights : List (Vec3 → Light)) (uniforms : List Value) (varyings out : List ℤ) (ls : Lines) → Answers c asked lights → Hold l d f → uniforms ≡ uniform_values t.kind code.params (vs 0) (f 0) → AreRows c (λ i. varying_values t.kind code.params (vs i) (f i)) varyings →
+  left : (f : ℕ → Names) (d : Variables) (asked : List Asked) (lights : List (Vec3 → Light)) (uniforms : List Value) (varyings out : List ℤ) (ls : Lines) → Answers c asked lights → Hold l d f → uniforms ≡ uniform_values t.kind code.params (vs 0) (f 0) → Given d varyings →
       masked (block_of code.nodes) (ground ls asked) c 65536 ≡ masked (block_of code.nodes) (ground (lines l) asked) c 65536 → Leaves code.kind c out (masked (block_of code.nodes) (ground ls asked) c 65536 (begun code.kind code.params c uniforms varyings)) →
       (i : ℕ) → i < c → HoldNames (ran t (around l bound lights) vs f i) (written_order t.kind) out (row_length c) 0 i
   left f d asked lights uniforms varyings out ls answers h eu er em lv =
@@ -130,7 +141,7 @@ module _ (l : Leaf) (t : Tree) (code : Code) (base : List Value) (space : Map) (
       let lv1 = subst (λ m. Leaves code.kind c out (m (begun code.kind code.params c uniforms varyings))) em lv in
       let lv2 = subst (λ us. Leaves code.kind c out (masked block (ground (lines l) asked) c 65536 (begun code.kind code.params c us varyings))) eu lv1 in
       let lv3 = subst (λ k. Leaves k c out (masked block (ground (lines l) asked) c 65536 (begun k code.params c (uniform_values t.kind code.params (vs 0) (f 0)) varyings))) is.kind lv2 in
-      run_leaves t block (around l bound lights) (ground (lines l) asked) vs f code.params varyings out is.means wide tall values (hold_names l d f h) record { lines = refl; spaces = refl; lights = answers } er lv3
+      run_leaves t block (around l bound lights) (ground (lines l) asked) vs f code.params named varyings out is.means covers wide tall values (hold_names l d f h) record { lines = refl; spaces = refl; lights = answers } (seen_held l d f h t.kind named code.params vs varyings er) lv3
 
   stepped : (kind : SlKind) → t.kind ≡ kind → has_surface kind ≡ true → (f : ℕ → Names) (d : Variables) → Hold l d f → with_steps ≡ uniform_values t.kind code.params (vs 0) (f 0)
   stepped kind k s f d h =
@@ -145,31 +156,26 @@ module _ (l : Leaf) (t : Tree) (code : Code) (base : List Value) (space : Map) (
   abbrev Left : List Asked → List Value → List ℤ → List ℤ → Type 0
   Left asked uniforms varyings out = Leaves code.kind c out (masked (block_of code.nodes) (ground (lines_given (columns l) (rows l) code.params uniforms) asked) c 65536 (begun code.kind code.params c uniforms varyings))
 
-  pub displace_law : t.kind ≡ Displacement → (fx : Places) (d e : Variables) (uniforms : List Value) (varyings out : List ℤ) → ArePlaces l fx → IsSized l d → uniforms ≡ with_steps → varyings ≡ displacement_rows front fx d → Left [] uniforms varyings out →
-      e.points.now ≡ over c (triple_in out (row_length c) 0) → e.normals.now ≡ over c (triple_in out (row_length c) 3) → e.sights.now ≡ d.sights.now → e.colours.now ≡ d.colours.now → e.opacities.now ≡ d.opacities.now →
+  pub displace_law : t.kind ≡ Displacement → (d e : Variables) (uniforms : List Value) (varyings out : List ℤ) → Given d varyings → uniforms ≡ with_steps → Left [] uniforms varyings out →
+      e.points.now ≡ over c (triple_in out (row_length c) 0) → normals_of l e.normals ≡ over c (triple_in out (row_length c) 3) → e.sights.now ≡ d.sights.now → e.colours.now ≡ d.colours.now → e.opacities.now ≡ d.opacities.now →
       (f : ℕ → Names) → Hold l d f → Hold l e (ran t (around l bound []) vs f)
-  displace_law k fx d e uniforms varyings out places sized eu er lv ep en es ec eo f h =
-      let given = subst (λ rs. AreRows c (λ i. varying_values Displacement code.params (vs i) (f i)) rs) (sym er) (displacement_given l fx d f code.params vs front fronts h places sized.points sized.normals sized.sights) in
-      let rows' = subst (λ q. AreRows c (λ i. varying_values q code.params (vs i) (f i)) varyings) (sym k) given in
-      displaced_hold l t (around l bound []) vs f d e h out (left f d [] [] uniforms varyings out _ tt h (eu ∙ stepped Displacement k refl f d h) rows' (surface_masked [] uniforms eu) lv) k ep en es ec eo
+  displace_law k d e uniforms varyings out given eu lv ep en es ec eo f h =
+      displaced_hold l t (around l bound []) vs f d e h out (left f d [] [] uniforms varyings out _ tt h (eu ∙ stepped Displacement k refl f d h) given (surface_masked [] uniforms eu) lv) k ep en es ec eo
 
-  pub surface_law : t.kind ≡ Surface → (fx : Places) (d e : Variables) (asked : List Asked) (lights : List (Vec3 → Light)) (uniforms : List Value) (varyings out : List ℤ) → Answers c asked lights → ArePlaces l fx → IsSized l d → uniforms ≡ with_steps → varyings ≡ surface_rows front fx d → Left asked uniforms varyings out →
-      e.colours.now ≡ over c (triple_in out (row_length c) 0) → e.opacities.now ≡ over c (triple_in out (row_length c) 3) → e.points.now ≡ d.points.now → e.normals.now ≡ d.normals.now → e.sights.now ≡ d.sights.now →
+  pub surface_law : t.kind ≡ Surface → (d e : Variables) (asked : List Asked) (lights : List (Vec3 → Light)) (uniforms : List Value) (varyings out : List ℤ) → Answers c asked lights → Given d varyings → uniforms ≡ with_steps → Left asked uniforms varyings out →
+      e.colours.now ≡ over c (triple_in out (row_length c) 0) → e.opacities.now ≡ over c (triple_in out (row_length c) 3) → e.points.now ≡ d.points.now → e.normals ≡ d.normals → e.sights.now ≡ d.sights.now →
       (f : ℕ → Names) → Hold l d f → Hold l e (ran t (around l bound lights) vs f)
-  surface_law k fx d e asked lights uniforms varyings out answers places sized eu er lv ec eo ep en es f h =
-      let given = subst (λ rs. AreRows c (λ i. varying_values Surface code.params (vs i) (f i)) rs) (sym er) (surface_given l fx d f code.params vs front fronts h places sized.points sized.normals sized.sights) in
-      let rows' = subst (λ q. AreRows c (λ i. varying_values q code.params (vs i) (f i)) varyings) (sym k) given in
-      surface_hold l t (around l bound lights) vs f d e h out (left f d asked lights uniforms varyings out _ answers h (eu ∙ stepped Surface k refl f d h) rows' (surface_masked asked uniforms eu) lv) k ec eo ep en es
+  surface_law k d e asked lights uniforms varyings out answers given eu lv ec eo ep en es f h =
+      surface_hold l t (around l bound lights) vs f d e h out (left f d asked lights uniforms varyings out _ answers h (eu ∙ stepped Surface k refl f d h) given (surface_masked asked uniforms eu) lv) k ec eo ep en es
 
-  pub volume_law : t.kind ≡ Volume → is_placed code.kind false true (block_of code.nodes) ≡ true → (d e : Variables) (uniforms : List Value) (varyings out : List ℤ) → ((f : ℕ → Names) → Hold l d f → AreRows c (λ i. varying_values Volume code.params (vs i) (f i)) varyings) → uniforms ≡ values_of true code.params (vs 0) → Left [] uniforms varyings out →
-      e.colours.now ≡ over c (triple_in out (row_length c) 0) → e.opacities.now ≡ over c (triple_in out (row_length c) 3) → e.points.now ≡ d.points.now → e.normals.now ≡ d.normals.now → e.sights.now ≡ d.sights.now →
+  pub volume_law : t.kind ≡ Volume → is_placed code.kind false true (block_of code.nodes) ≡ true → (d e : Variables) (uniforms : List Value) (varyings out : List ℤ) → Given d varyings → uniforms ≡ values_of true code.params (vs 0) → Left [] uniforms varyings out →
+      e.colours.now ≡ over c (triple_in out (row_length c) 0) → e.opacities.now ≡ over c (triple_in out (row_length c) 3) → e.points.now ≡ d.points.now → e.normals ≡ d.normals → e.sights.now ≡ d.sights.now →
       (f : ℕ → Names) → Hold l d f → Hold l e (ran t (around l bound []) vs f)
   volume_law k valid d e uniforms varyings out given eu lv ec eo ep en es f h =
-      let rows' = subst (λ q. AreRows c (λ i. varying_values q code.params (vs i) (f i)) varyings) (sym k) (given f h) in
       let none : uniforms ≡ uniform_values t.kind code.params (vs 0) (f 0) = eu ∙ sym (append-nil (values_of true code.params (vs 0))) ∙ ap (λ b. values_of true code.params (vs 0) ++ cond b (f 0 names.Du ∷ f 0 names.Dv ∷ []) []) (sym (ap has_surface k)) in
       let away : has_surface code.kind ≡ false = ap has_surface (is.kind ∙ k) in
       let same = lines_unread (lines_given (columns l) (rows l) code.params uniforms) (lines l) (spaces_of l bound) [] c 65536 (block_of code.nodes) (placed_plain code.kind away false true (block_of code.nodes) valid) in
-      volume_hold l t (around l bound []) vs f d e h out (left f d [] [] uniforms varyings out _ tt h none rows' same lv) k ec eo ep en es
+      volume_hold l t (around l bound []) vs f d e h out (left f d [] [] uniforms varyings out _ tt h none given same lv) k ec eo ep en es
 
   -- ---- what the run asks of what it is given
   surface_shapes : has_surface code.kind ≡ true → (uniforms : List Value) → uniforms ≡ with_steps → map shape uniforms ≡ map register_shape (uniform_inputs code.kind code.params)
@@ -191,18 +197,7 @@ module _ (l : Leaf) (t : Tree) (code : Code) (base : List Value) (space : Map) (
   self_hold : (d : Variables) → Hold l d (names_of l d)
   self_hold d = record { at = λ i p m. refl }
 
-  long_rows : (kind : SlKind) → t.kind ≡ kind → (d : Variables) (varyings : List ℤ) → AreRows c (λ i. varying_values kind code.params (vs i) (names_of l d i)) varyings → length varyings ≡ rows_of (varying_inputs code.kind code.params) * row_length c
-  long_rows kind k d varyings r =
-      let fit = inputs_fit c some kind code.params t.params (vs 0) (names_of l d) varyings (values.params 0) (hold_names l d (names_of l d) (self_hold d)) 0 some in
-      r.long 0 some ∙ ap (λ n. n * row_length c) (fit_heights (varying_inputs kind code.params) _ fit) ∙ ap (λ q. rows_of (varying_inputs q code.params) * row_length c) (sym (is.kind ∙ k))
-
-  pub displace_long : t.kind ≡ Displacement → (fx : Places) (d : Variables) (varyings : List ℤ) → ArePlaces l fx → IsSized l d → varyings ≡ displacement_rows front fx d → length varyings ≡ rows_of (varying_inputs code.kind code.params) * row_length c
-  displace_long k fx d varyings places sized e =
-      long_rows Displacement k d varyings (subst (λ rs. AreRows c (λ i. varying_values Displacement code.params (vs i) (names_of l d i)) rs) (sym e) (displacement_given l fx d (names_of l d) code.params vs front fronts (self_hold d) places sized.points sized.normals sized.sights))
-
-  pub look_long : t.kind ≡ Surface → (fx : Places) (d : Variables) (varyings : List ℤ) → ArePlaces l fx → IsSized l d → varyings ≡ surface_rows front fx d → length varyings ≡ rows_of (varying_inputs code.kind code.params) * row_length c
-  look_long k fx d varyings places sized e =
-      long_rows Surface k d varyings (subst (λ rs. AreRows c (λ i. varying_values Surface code.params (vs i) (names_of l d i)) rs) (sym e) (surface_given l fx d (names_of l d) code.params vs front fronts (self_hold d) places sized.points sized.normals sized.sights))
-
-  pub volume_long : t.kind ≡ Volume → (d : Variables) (varyings : List ℤ) → ((f : ℕ → Names) → Hold l d f → AreRows c (λ i. varying_values Volume code.params (vs i) (f i)) varyings) → length varyings ≡ rows_of (varying_inputs code.kind code.params) * row_length c
-  volume_long k d varyings given = long_rows Volume k d varyings (given (names_of l d) (self_hold d))
+  pub given_long : (d : Variables) (varyings : List ℤ) → Given d varyings → length varyings ≡ rows_of (varying_inputs code.kind code.params) * row_length c
+  given_long d varyings r =
+      let fit = inputs_fit c some t.kind code.params t.params (vs 0) (λ i. seen t.kind named (names_of l d i)) varyings (values.params 0) (seen_names t.kind named c (names_of l d) (hold_names l d (names_of l d) (self_hold d))) 0 some in
+      r.long 0 some ∙ ap (λ n. n * row_length c) (fit_heights (varying_inputs t.kind code.params) _ fit) ∙ ap (λ q. rows_of (varying_inputs q code.params) * row_length c) (sym is.kind)

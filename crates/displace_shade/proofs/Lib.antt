@@ -1,6 +1,8 @@
 pub mod Begun
 pub mod Looks
 pub mod Starts
+pub mod Unread
+pub mod Wanted
 pub mod Ran
 pub mod Dicing
 pub mod Stages

@@ -1,5 +1,5 @@
 -- The rows that the code of a tree leaves are what a run of the tree means.
-use Rattle.std.proofs.Common.{◌≡◌, ℕ, ◌+◌, ◌*◌, ◌<◌, ◌≤◌, true, cond, ℤ, List, [], ◌∷◌, ◌++◌, map, refl, sym, ap, ◌∙◌, subst, arith}
+use Rattle.std.proofs.Common.{◌≡◌, ℕ, ◌+◌, ◌*◌, ◌<◌, ◌≤◌, true, false, cond, ℤ, List, [], ◌∷◌, ◌++◌, map, refl, sym, ap, ◌∙◌, subst, arith}
 use Rattle.std.proofs.Math.Nat.{mul-pos}
 use Rattle.std.proofs.lemmas.Bool.{cond-true}
 use Rattle.sl_ast.specs.declared.kinds.Predefined.{Predefined}
@@ -16,8 +16,11 @@ use Rattle.grid_code.specs.Code.{Block}
 use Rattle.grid_code.specs.Names.{name_at, first_free}
 use Rattle.grid_code.specs.Masked.{State, Ground, read, masked}
 use Rattle.grid_code.specs.Shapes.{register_shape}
+use Rattle.grid_code.specs.declared.register_set.RegisterSet.{RegisterSet}
 use Rattle.grid_code.specs.declared.slot.Slot.{Slot}
+use Rattle.mask_codegen.specs.Compiled.{NamesVarying}
 use Rattle.sl_meaning.specs.Environment.{Around}
+use Rattle.sl_meaning.specs.Grid.{inside_all, grid_all}
 use Rattle.sl_meaning.specs.Lowered.{body_of, slots}
 use Rattle.sl_meaning.specs.Runs.{Names, most_turns, beginning, ran}
 use Rattle.core_codegen.specs.Correct.{IsGround, Holds, Begins, Means}
@@ -26,9 +29,11 @@ use Rattle.grid_machine.specs.Run.{written_names, HoldRows, begun, Leaves}
 use Rattle.grid_machine.specs.Run as run
 use Rattle.displace_shade.specs.Rows.{HoldNames, written_order, uniform_values, varying_values}
 use Rattle.grid_rows.specs.Rows.{AreRows, values_of}
+use Rattle.grid_rows.specs.Wanted.{is_optional}
 use Rattle.displace_shade.proofs.Begun.{AreNames, values_counted}
 use Rattle.displace_shade.proofs.Looks.{Every, shape_of_reg, same_value}
 use Rattle.displace_shade.proofs.Starts.{AreParams, state_keeps, state_name, state_lit, state_param}
+use Rattle.displace_shade.proofs.Wanted.{seen, du_seen, dv_seen, seen_names, whole, whole_same, whole_begins, written_kept}
 
 -- the values of parameters by places: those of each place, and the uniform ones the same at all
 pub record AreValues (ps : List Slot) (ls : List Local) (vs : ℕ → List Value) : Type 0 where
@@ -77,25 +82,41 @@ written_is Displacement = refl
 written_is Light = refl
 written_is Volume = refl
 
-left_rows : (s : State) (after : Names) (around : Names) (rows : List ℤ) (w i : ℕ) (kind : SlKind) → ((p : Predefined) → read s (name_at p) i ≡ after p) → (ps : List Predefined) → Every (λ p. writes kind p ≡ true) ps → (k at : ℕ) → at ≡ k * w → HoldRows w rows i (map name_at ps) at s →
+left_rows : (s : State) (after : Names) (around : Names) (rows : List ℤ) (w i : ℕ) (kind : SlKind) → (ps : List Predefined) → Every (λ p. read s (name_at p) i ≡ after p) ps → Every (λ p. writes kind p ≡ true) ps → (k at : ℕ) → at ≡ k * w → HoldRows w rows i (map name_at ps) at s →
     HoldNames (λ p. cond (writes kind p) (after p) (around p)) ps rows w k i
-left_rows s after around rows w i kind h [] e k at m r = tt
-left_rows s after around rows w i kind h (p ∷ ps) e k at m r =
+left_rows s after around rows w i kind [] h e k at m r = tt
+left_rows s after around rows w i kind (p ∷ ps) h e k at m r =
     let t = shape_of (name_type p) in
     let of_reg = shape_of_reg (is_uniform_name p) t (place_of p) in
     let next : at + height (register_shape (name_at p)) * w ≡ (k + height t) * w = let b = ap (λ q. height q * w) of_reg in omega (arith, m, b) in (
-      cond-true (writes kind p) (after p) (around p) e.0 ∙ sym (h p) ∙ sym r.0 ∙ ap (λ q. run.value_in q rows w (at + i)) of_reg ∙ ap (λ n. run.value_in t rows w (n + i)) m ∙ same_value t rows w k i,
-      left_rows s after around rows w i kind h ps e.1 (k + height t) (at + height (register_shape (name_at p)) * w) next r.1,
+      cond-true (writes kind p) (after p) (around p) e.0 ∙ sym h.0 ∙ sym r.0 ∙ ap (λ q. run.value_in q rows w (at + i)) of_reg ∙ ap (λ n. run.value_in t rows w (n + i)) m ∙ same_value t rows w k i,
+      left_rows s after around rows w i kind ps h.1 e.1 (k + height t) (at + height (register_shape (name_at p)) * w) next r.1,
     )
 
--- a run of the code on what it is given
-pub run_leaves : (t : Tree) (code : Block) (a : Around) (g : Ground) (vs : ℕ → List Value) (f : ℕ → Names) (ps : List Slot) (varyings out : List ℤ) → Means (body_of t) (slots t.params) code → 2 ≤ a.lines.columns → 2 ≤ a.lines.rows → AreValues ps t.params vs →
-    AreNames (a.lines.columns * a.lines.rows) f → IsGround (a.lines.columns * a.lines.rows) g a → AreRows (a.lines.columns * a.lines.rows) (λ i. varying_values t.kind ps (vs i) (f i)) varyings →
+written_needed : (kind : SlKind) → Every (λ p. is_optional kind (place_of p) ≡ false) (written_order kind)
+written_needed Surface = (refl, (refl, tt))
+written_needed Displacement = (refl, (refl, tt))
+written_needed Light = (refl, tt)
+written_needed Volume = (refl, (refl, tt))
+
+steps_seen : (kind : SlKind) (named : RegisterSet) (f : Names) (ps : List Slot) (vs : List Value) → uniform_values kind ps vs f ≡ uniform_values kind ps vs (seen kind named f)
+steps_seen kind named f ps vs =
+    ap (λ x. values_of true ps vs ++ cond (has_surface kind) (x ∷ f names.Dv ∷ []) []) (sym (du_seen kind named f))
+    ∙ ap (λ y. values_of true ps vs ++ cond (has_surface kind) (seen kind named f names.Du ∷ y ∷ []) []) (sym (dv_seen kind named f))
+
+-- a run of the code on what it is given, which names no other varying registers than these
+pub run_leaves : (t : Tree) (code : Block) (a : Around) (g : Ground) (vs : ℕ → List Value) (f : ℕ → Names) (ps : List Slot) (named : RegisterSet) (varyings out : List ℤ) → Means (body_of t) (slots t.params) code → NamesVarying named code → 2 ≤ a.lines.columns → 2 ≤ a.lines.rows → AreValues ps t.params vs →
+    AreNames (a.lines.columns * a.lines.rows) f → IsGround (a.lines.columns * a.lines.rows) g a → AreRows (a.lines.columns * a.lines.rows) (λ i. varying_values t.kind ps (vs i) (seen t.kind named (f i))) varyings →
     Leaves t.kind (a.lines.columns * a.lines.rows) out (masked code g (a.lines.columns * a.lines.rows) 65536 (begun t.kind ps (a.lines.columns * a.lines.rows) (uniform_values t.kind ps (vs 0) (f 0)) varyings)) →
     (i : ℕ) → i < a.lines.columns * a.lines.rows → HoldNames (ran t a vs f i) (written_order t.kind) out (row_length (a.lines.columns * a.lines.rows)) 0 i
-run_leaves t code a g vs f ps varyings out m wide tall params h ground given leaves i l =
+run_leaves t code a g vs f ps named varyings out m names wide tall params h ground given leaves i l =
     let c = a.lines.columns * a.lines.rows in
     let s = begun t.kind ps c (uniform_values t.kind ps (vs 0) (f 0)) varyings in
-    let held = m.gives a g most_turns (λ j. beginning t.kind (f j) (vs j)) s (begins t a vs f ps varyings wide tall params h given) ground i l in
-    left_rows (masked code g c 65536 s) _ (f i) out (row_length c) i t.kind held.named (written_order t.kind) (written_all t.kind) 0 0 (omega arith)
+    let begin = subst (λ us. Begins (slots t.params) a (λ j. beginning t.kind (seen t.kind named (f j)) (vs j)) (begun t.kind ps c us varyings)) (sym (steps_seen t.kind named (f 0) ps (vs 0)))
+    (begins t a vs (λ j. seen t.kind named (f j)) ps varyings wide tall params (seen_names t.kind named c f h) given) in
+    let held = m.gives a g most_turns (λ j. beginning t.kind (f j) (vs j)) (whole t.kind named f s) (whole_begins t.kind named f vs (slots t.params) a s begin) ground i l in
+    let after = ((inside_all (grid_all (body_of t) (slots t.params) a most_turns) (λ j. beginning t.kind (f j) (vs j))).1 i).named in
+    let seen_after : (p : Predefined) → read (whole t.kind named f (masked code g c 65536 s)) (name_at p) i ≡ after p =
+    λ p. ap (λ (z : State). read z (name_at p) i) (sym (whole_same t.kind named f code g c 65536 s names)) ∙ held.named p in
+    left_rows (masked code g c 65536 s) after (f i) out (row_length c) i t.kind (written_order t.kind) (written_kept t.kind named f (masked code g c 65536 s) i after seen_after (written_order t.kind) (written_needed t.kind)) (written_all t.kind) 0 0 (omega arith)
     (subst (λ rs. HoldRows (row_length c) out i rs 0 (masked code g c 65536 s)) (written_is t.kind) (leaves i l))

@@ -1,6 +1,6 @@
 -- What the variables at the points are behind each shader, by the rows that its code leaves.
-use Rattle.std.specs.Prelude.{Result, Ok, Err, IfOk}
-use Rattle.std.proofs.Common.{◌≡◌, ℕ, ◌<◌, true, false, ℤ, List, length, map, get_or, refl, sym, ap, ◌∙◌, subst, arith}
+use Rattle.std.specs.Prelude.{Result, Ok, Err, IfOk, None}
+use Rattle.std.proofs.Common.{◌≡◌, ℕ, ◌<◌, ◌≤ℤ◌, true, false, ℤ, pos, List, length, map, get_or, refl, sym, ap, ◌∙◌, subst, arith}
 use Rattle.std.proofs.lemmas.Bool.{cond-false, false≢true}
 use Rattle.std.proofs.lemmas.List.{get_or-map, length-map}
 use Rattle.fixed_math.specs.Axes.{origin}
@@ -21,16 +21,17 @@ use Rattle.sl_meaning.specs.Environment.{Around}
 use Rattle.sl_meaning.specs.Runs.{Names, ran}
 use Rattle.dice.specs.declared.diced.GridRef.{GridRef}
 use Rattle.shader_binding.specs.Sets.{SetValue}
-use Rattle.grid_variables.specs.Points.{Leaf, columns, rows, sight, lines}
+use Rattle.grid_variables.specs.Points.{Leaf, columns, rows, point_at, sight, lines}
 use Rattle.grid_variables.specs.Kept.{moved, opacity}
-use Rattle.displace_shade.specs.Shaded.{placed, GridValue, shaded_names, shaded}
+use Rattle.displace_shade.specs.Shaded.{diced_names, placed, displaced, GridValue, shaded_names, shaded}
 use Rattle.place_rows.specs.Layout.{row_length}
 use Rattle.displace_shade.specs.Rows.{HoldNames, written_order}
-use Rattle.grid_variables.specs.Places.{point_count, over, IsSized}
+use Rattle.grid_variables.specs.Places.{point_count, over, normals_of, IsSized}
 use Rattle.grid_rows.specs.Rows.{triple_in}
 use Rattle.displace_shade.specs.Diced.{names_of, Hold, grid_value}
 use Rattle.grid_variables.specs.declared.variables.Variables.{Variables}
 use Rattle.displace_shade.proofs.Begun.{AreNames}
+use Rattle.grid_variables.proofs.Bounded.{unmoved}
 use Rattle.grid_variables.proofs.Over.{over_at, over_all, over_long}
 
 -- ---- they are values of their shapes, and the uniform ones are alike
@@ -70,7 +71,7 @@ module _ (l : Leaf) (t : Tree) (a : Around) (vs : ℕ → List Value) (f : ℕ �
   passed : (kind : SlKind) → t.kind ≡ kind → (i : ℕ) (p : Predefined) → i < point_count l → writes kind p ≡ false → ran t a vs f i p ≡ names_of l d i p
   passed kind k i p m w = kept t a vs f i p (ap (λ q. writes q p) k ∙ w) ∙ h.at i p m
 
-  pub displaced_hold : t.kind ≡ Displacement → e.points.now ≡ over (point_count l) (triple_in out (row_length (point_count l)) 0) → e.normals.now ≡ over (point_count l) (triple_in out (row_length (point_count l)) 3) →
+  pub displaced_hold : t.kind ≡ Displacement → e.points.now ≡ over (point_count l) (triple_in out (row_length (point_count l)) 0) → normals_of l e.normals ≡ over (point_count l) (triple_in out (row_length (point_count l)) 3) →
       e.sights.now ≡ d.sights.now → e.colours.now ≡ d.colours.now → e.opacities.now ≡ d.opacities.now → Hold l e (ran t a vs f)
   displaced_hold k ep en es ec eo = record { at = λ i p m. at i p m }
     where
@@ -87,29 +88,29 @@ module _ (l : Leaf) (t : Tree) (a : Around) (vs : ℕ → List Value) (f : ℕ �
 
   coloured : (kind : SlKind) → t.kind ≡ kind → ((i : ℕ) → i < point_count l → (ran t a vs f i names.Ci ≡ Triple (triples 0 i)) × (ran t a vs f i names.Oi ≡ Triple (triples 3 i))) → ((p : Predefined) → writes kind p ≡ writes Surface p) →
       e.colours.now ≡ over (point_count l) (triple_in out (row_length (point_count l)) 0) → e.opacities.now ≡ over (point_count l) (triple_in out (row_length (point_count l)) 3) →
-      e.points.now ≡ d.points.now → e.normals.now ≡ d.normals.now → e.sights.now ≡ d.sights.now → Hold l e (ran t a vs f)
+      e.points.now ≡ d.points.now → e.normals ≡ d.normals → e.sights.now ≡ d.sights.now → Hold l e (ran t a vs f)
   coloured kind k written same ec eo ep en es = record { at = λ i p m. at i p m }
     where
       at : (i : ℕ) (p : Predefined) → i < point_count l → ran t a vs f i p ≡ names_of l e i p
       at i names.Ci m = (written i m).0 ∙ ap (λ q. Triple q) (sym (ap (λ xs. get_or xs i origin) ec ∙ over_at (triples 0) (point_count l) i origin m))
       at i names.Oi m = (written i m).1 ∙ ap (λ q. Triple q) (sym (ap (λ xs. get_or xs i origin) eo ∙ over_at (triples 3) (point_count l) i origin m))
       at i names.P m = passed kind k i names.P m (same names.P) ∙ ap (λ xs. Triple (get_or xs i origin)) (sym ep)
-      at i names.N m = passed kind k i names.N m (same names.N) ∙ ap (λ xs. Triple (get_or xs i origin)) (sym en)
+      at i names.N m = passed kind k i names.N m (same names.N) ∙ ap (λ q. Triple (get_or (normals_of l q) i origin)) (sym en)
       at i names.I m = passed kind k i names.I m (same names.I) ∙ ap (λ xs. Triple (get_or xs i origin)) (sym es)
       at i p m = passed kind k i p m (same p)
 
   pub surface_hold : t.kind ≡ Surface → e.colours.now ≡ over (point_count l) (triple_in out (row_length (point_count l)) 0) → e.opacities.now ≡ over (point_count l) (triple_in out (row_length (point_count l)) 3) →
-      e.points.now ≡ d.points.now → e.normals.now ≡ d.normals.now → e.sights.now ≡ d.sights.now → Hold l e (ran t a vs f)
+      e.points.now ≡ d.points.now → e.normals ≡ d.normals → e.sights.now ≡ d.sights.now → Hold l e (ran t a vs f)
   surface_hold k = coloured Surface k (λ i m. let w = subst (λ q. HoldNames (ran t a vs f i) (written_order q) out (row_length (point_count l)) 0 i) k (left i m) in (w.0, w.1.0)) (λ p. refl)
 
   pub volume_hold : t.kind ≡ Volume → e.colours.now ≡ over (point_count l) (triple_in out (row_length (point_count l)) 0) → e.opacities.now ≡ over (point_count l) (triple_in out (row_length (point_count l)) 3) →
-      e.points.now ≡ d.points.now → e.normals.now ≡ d.normals.now → e.sights.now ≡ d.sights.now → Hold l e (ran t a vs f)
+      e.points.now ≡ d.points.now → e.normals ≡ d.normals → e.sights.now ≡ d.sights.now → Hold l e (ran t a vs f)
   volume_hold k = coloured Volume k (λ i m. let w = subst (λ q. HoldNames (ran t a vs f i) (written_order q) out (row_length (point_count l)) 0 i) k (left i m) in (w.0, w.1.0)) (λ p. refl)
 
 -- ---- behind the displacement: points kept near their old places, and seen from there
 pub placed_hold : (l : Leaf) (old d e : Variables) (f g : ℕ → Names) → Hold l old f → Hold l d g → length old.points.now ≡ point_count l →
     e.points.now ≡ over (length old.points.now) (λ i. moved l.prim.bound (get_or old.points.now i origin) (get_or d.points.now i origin)) → e.sights.now ≡ map (sight l.camera) e.points.now →
-    e.normals.now ≡ d.normals.now → e.colours.now ≡ d.colours.now → e.opacities.now ≡ d.opacities.now → Hold l e (λ i. placed l (f i) (g i))
+    e.normals ≡ d.normals → e.colours.now ≡ d.colours.now → e.opacities.now ≡ d.opacities.now → Hold l e (λ i. placed l (f i) (g i))
 placed_hold l old d e f g hf hg long ep es en ec eo = record { at = λ i p m. at i p m }
   where
     near : ℕ → Vec3
@@ -125,16 +126,34 @@ placed_hold l old d e f g hf hg long ep es en ec eo = record { at = λ i p m. at
     at i names.I m =
         let there : i < length e.points.now = let k = ap (λ xs. length xs) ep ∙ over_long near (length old.points.now) in omega (arith, k, long, m) in
         ap (λ q. Triple (sight l.camera q)) (near_by i m) ∙ ap (λ q. Triple q) (sym (ap (λ xs. get_or xs i origin) es ∙ get_or-map (sight l.camera) e.points.now i origin origin there))
-    at i names.N m = hg.at i names.N m ∙ ap (λ xs. Triple (get_or xs i origin)) (sym en)
+    at i names.N m = hg.at i names.N m ∙ ap (λ q. Triple (get_or (normals_of l q) i origin)) (sym en)
     at i names.Ci m = hg.at i names.Ci m ∙ ap (λ xs. Triple (get_or xs i origin)) (sym ec)
     at i names.Oi m = hg.at i names.Oi m ∙ ap (λ xs. Triple (get_or xs i origin)) (sym eo)
     at i p m = hg.at i p m
 
+-- nothing moves without a displacement
+pub stays_hold : (l : Leaf) (d : Variables) → pos 0 ≤ℤ l.prim.bound → Hold l d (diced_names l) → Hold l d (displaced l None)
+stays_hold l d b h = record { at = λ i p m. stays i p ∙ h.at i p m }
+  where
+    near : (i : ℕ) → moved l.prim.bound (point_at l i) (point_at l i) ≡ point_at l i
+    near i = unmoved l.prim.bound (point_at l i) b
+
+    stays : (i : ℕ) (p : Predefined) → displaced l None i p ≡ diced_names l i p
+    stays i names.P = ap (λ q. Triple q) (near i)
+    stays i names.I = ap (λ q. Triple (sight l.camera q)) (near i)
+    stays i p = refl
+
 pub near_sized : (l : Leaf) (old d e : Variables) → IsSized l old → IsSized l d → e.points.now ≡ over (length old.points.now) (λ i. moved l.prim.bound (get_or old.points.now i origin) (get_or d.points.now i origin)) → e.sights.now ≡ map (sight l.camera) e.points.now →
-    e.normals.now ≡ d.normals.now → IsSized l e
-near_sized l old d e ho hd ep es en =
+    e.normals ≡ d.normals → e.colours.now ≡ d.colours.now → e.opacities.now ≡ d.opacities.now → IsSized l e
+near_sized l old d e ho hd ep es en ec eo =
     let long : length e.points.now ≡ point_count l = ap (λ xs. length xs) ep ∙ over_long (λ i. moved l.prim.bound (get_or old.points.now i origin) (get_or d.points.now i origin)) (length old.points.now) ∙ ho.points in
-    record { points = long; normals = ap (λ xs. length xs) en ∙ hd.normals; sights = ap (λ xs. length xs) es ∙ length-map e.points.now (sight l.camera) ∙ long }
+    record {
+      points = long;
+      normals = ap (λ q. length (normals_of l q)) en ∙ hd.normals;
+      sights = ap (λ xs. length xs) es ∙ length-map e.points.now (sight l.camera) ∙ long;
+      colours = let a = ap (λ xs. length xs) ec in let b = hd.colours in omega (arith, a, b);
+      opacities = let a = ap (λ xs. length xs) eo in let b = hd.opacities in omega (arith, a, b);
+    }
 
 -- ---- behind all shaders
 pub grid_is : (l : Leaf) (s : SetValue) (uses : List ShaderUse) (d : Variables) (g : GridRef) → Hold l d (shaded_names l s uses) → length d.points.now ≡ point_count l → length d.colours.now ≡ point_count l → length d.opacities.now ≡ point_count l → g.columns ≡ columns l → g.rows ≡ rows l →

@@ -33,7 +33,8 @@ use Rattle.place_rows.specs.Layout.{row_length, same_class}
 use Rattle.grid_machine.specs.Run.{params_of, given_names, step_names, uniform_inputs, varying_inputs, assigned, loaded, started, fresh, begun}
 use Rattle.grid_machine.specs.Run as run
 use Rattle.grid_rows.specs.Rows.{HoldList, values_of}
-use Rattle.displace_shade.specs.Rows.{given_order, uniform_values, varying_values, slot_of}
+use Rattle.grid_rows.specs.Wanted.{given_order}
+use Rattle.displace_shade.specs.Rows.{uniform_values, varying_values, slot_of}
 use Rattle.displace_shade.proofs.Begun.{AreNames, values_counted, values_shaped}
 use Rattle.displace_shade.proofs.Looks.{Every, every_map, register_number, same_register, look, read_write, Keeps, write_keeps, keeps_on, live_on, assigned_keeps, loaded_keeps, assigned_look, Fit, loaded_look, Paired, look_on, look_apart, number_apart, class_apart, register_self, shape_of_reg, class_of_reg, number_of_reg}
 

@@ -5,7 +5,7 @@ use Rattle.sl_ast.specs.declared.kinds.Predefined.TheVariants as names
 use Rattle.sl_ast.specs.declared.typed.Value.TheVariants.{Triple}
 use Rattle.sl_meaning.specs.Runs.{Names}
 use Rattle.grid_variables.specs.Points.{Leaf}
-use Rattle.grid_variables.specs.Places.{point_count}
+use Rattle.grid_variables.specs.Places.{point_count, normals_of}
 use Rattle.displace_shade.specs.Shaded.{diced_names, GridValue}
 use Rattle.grid_variables.specs.declared.variables.Variables.{Variables}
 use Rattle.dice.specs.declared.diced.GridRef.{GridRef}
@@ -13,7 +13,7 @@ use Rattle.dice.specs.declared.diced.GridRef.{GridRef}
 -- the variables at place i, by those that shaders change
 abbrev pub names_of : Leaf → Variables → ℕ → Names
 names_of l d i names.P = Triple (get_or d.points.now i origin)
-names_of l d i names.N = Triple (get_or d.normals.now i origin)
+names_of l d i names.N = Triple (get_or (normals_of l d.normals) i origin)
 names_of l d i names.I = Triple (get_or d.sights.now i origin)
 names_of l d i names.Ci = Triple (get_or d.colours.now i origin)
 names_of l d i names.Oi = Triple (get_or d.opacities.now i origin)

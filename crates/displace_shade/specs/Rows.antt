@@ -12,15 +12,9 @@ use Rattle.sl_meaning.specs.Core as core
 use Rattle.sl_meaning.specs.Runs.{Names}
 use Rattle.place_rows.specs.Layout.{height}
 use Rattle.grid_rows.specs.Rows.{value_in, values_of}
+use Rattle.grid_rows.specs.Wanted.{given_order}
 
--- the varying variables that a kind is given: those that it reads alone, and then those that it writes
-abbrev pub given_order : SlKind → List Predefined
-given_order Surface = names.P ∷ names.N ∷ names.Ng ∷ names.I ∷ names.U ∷ names.V ∷ names.S ∷ names.T ∷ names.Cs ∷ names.Os ∷ names.DPdu ∷ names.DPdv ∷ []
-given_order Displacement = names.Ng ∷ names.I ∷ names.U ∷ names.V ∷ names.S ∷ names.T ∷ names.Cs ∷ names.Os ∷ names.DPdu ∷ names.DPdv ∷ names.P ∷ names.N ∷ []
-given_order Light = names.Ps ∷ []
-given_order Volume = names.P ∷ names.I ∷ names.Ci ∷ names.Oi ∷ []
-
--- and those that it writes
+-- the variables that a kind writes
 abbrev pub written_order : SlKind → List Predefined
 written_order Surface = names.Ci ∷ names.Oi ∷ []
 written_order Displacement = names.P ∷ names.N ∷ []

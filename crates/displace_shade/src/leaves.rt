@@ -2,9 +2,9 @@
 ghost use Rattle.std.specs.Prelude.{◌≡◌, [], map, IfOk};
 ghost use Rattle.scene.specs.declared.uses.ShaderKind.TheVariants as requested;
 ghost use Rattle.shader_binding.specs.Sets.{bound_at as bound_at_use, bound_for};
-ghost use Rattle.displace_shade.specs.Shaded.{diced_names, shaded_by, shaded};
+ghost use Rattle.displace_shade.specs.Shaded.{diced_names, shaded_by, displaced as displaced_names, shaded};
 ghost use Rattle.displace_shade.specs.Diced.{Hold, grid_value};
-ghost use Rattle.grid_variables.specs.Places.{IsSized, IsColoured, ArePlaces};
+ghost use Rattle.grid_variables.specs.Places.{IsSized, IsColoured};
 ghost use Rattle.displace_shade.specs.Stages.{set_in, uses_in, Serves, ServesIf, ServesPrim, placed_by, lit_by, Makes};
 
 use crate::asking::asks_lights;
@@ -15,7 +15,7 @@ use crate::set::ShaderSet;
 use bumpalo::Bump;
 use dice::GridRef;
 use fixed_math::NoMemory;
-use grid_variables::{Leaf, Places, Variables, begun, grid_of, kept_near};
+use grid_variables::{Leaf, Variables, begun, grid_of, kept_near};
 use scene::ShaderUse;
 use std::alloc::Global;
 
@@ -32,39 +32,34 @@ fn displaced_by<'a>(
     shaders: &Shaders,
     arena: &'a Bump,
     leaf: &Leaf,
-    places: &Places,
     variables: &Variables<'a>,
     n: u32,
 ) -> Result<Variables<'a>, NoMemory>
     requires serves { Serves shaders.now leaf.now requested.Displacement n }
-    requires places { ArePlaces leaf.now places.now }
     requires sized { IsSized leaf.now variables.now }
     ensures sized { IfOk result (λ e. IsSized leaf.now e) }
     ensures hold { IfOk result (λ e. Makes leaf.now (shaded_by leaf.now (bound_at_use (set_in shaders.now) (uses_in shaders.now) n) []) variables.now e) }
 {
     let bound = bound_at(shaders.set, shaders.uses, n);
-    displace(shaders.alloc, arena, leaf, &bound, places, variables)
+    displace(shaders.alloc, arena, leaf, &bound, variables)
 }
 
-/// The variables behind the displacement, if there is one.
-fn displaced<'a>(
+/// The variables behind the displacement of use `n`, kept near their places.
+fn displaced_near<'a>(
     shaders: &Shaders,
     arena: &'a Bump,
     leaf: &Leaf,
-    places: &Places,
-    variables: &Variables<'a>,
-    shader: Option<u32>,
+    first: &Variables<'a>,
+    n: u32,
 ) -> Result<Variables<'a>, NoMemory>
-    requires serves { ServesIf shaders.now leaf.now requested.Displacement shader }
-    requires places { ArePlaces leaf.now places.now }
-    requires sized { IsSized leaf.now variables.now }
+    requires serves { Serves shaders.now leaf.now requested.Displacement n }
+    requires sized { IsSized leaf.now first.now }
     ensures sized { IfOk result (λ e. IsSized leaf.now e) }
-    ensures hold { IfOk result (λ e. Makes leaf.now (shaded_by leaf.now (bound_for (set_in shaders.now) (uses_in shaders.now) shader) []) variables.now e) }
+    ensures hold { IfOk result (λ e. Hold leaf.now first.now (diced_names leaf.now) → Hold leaf.now e (displaced_names leaf.now (bound_at_use (set_in shaders.now) (uses_in shaders.now) n))) }
 {
-    match shader {
-        None => Ok(*variables),
-        Some(n) => displaced_by(shaders, arena, leaf, places, variables, n),
-    }
+    let free = displaced_by(shaders, arena, leaf, first, n)?;
+    let near = kept_near(arena, leaf, first, &free)?;
+    Ok(near)
 }
 
 /// The variables behind the volume of use `n`.
@@ -107,23 +102,24 @@ fn dimmed<'a>(
     }
 }
 
-/// The variables behind the displacement, kept near their places.
+/// The variables behind the displacement `shader`, kept near their places: where there is none, they stay.
 fn placed<'a>(
     shaders: &Shaders,
     arena: &'a Bump,
     leaf: &Leaf,
-    places: &Places,
     first: &Variables<'a>,
+    shader: Option<u32>,
 ) -> Result<Variables<'a>, NoMemory>
-    requires serves { ServesPrim shaders.now leaf.now }
-    requires places { ArePlaces leaf.now places.now }
+    requires serves { ServesIf shaders.now leaf.now requested.Displacement shader }
     requires sized { IsSized leaf.now first.now }
     ensures sized { IfOk result (λ e. IsSized leaf.now e) }
-    ensures hold { IfOk result (λ e. Hold leaf.now first.now (diced_names leaf.now) → Hold leaf.now e (placed_by shaders.now leaf.now)) }
+    ensures hold { IfOk result (λ e. Hold leaf.now first.now (diced_names leaf.now) → Hold leaf.now e (displaced_names leaf.now (bound_for (set_in shaders.now) (uses_in shaders.now) shader))) }
 {
-    let free = displaced(shaders, arena, leaf, places, first, leaf.displacement())?;
-    let near = kept_near(arena, leaf, first, &free)?;
-    Ok(near)
+    let _bound = leaf.bound();
+    match shader {
+        None => Ok(*first),
+        Some(n) => displaced_near(shaders, arena, leaf, first, n),
+    }
 }
 
 /// The variables behind the surface under the lights of the primitive, which are laid out where its code asks lights.
@@ -131,11 +127,9 @@ fn lighted<'a>(
     shaders: &Shaders,
     arena: &'a Bump,
     leaf: &Leaf,
-    places: &Places,
     variables: &Variables<'a>,
 ) -> Result<Variables<'a>, NoMemory>
     requires serves { ServesPrim shaders.now leaf.now }
-    requires places { ArePlaces leaf.now places.now }
     requires sized { IsSized leaf.now variables.now }
     ensures sized { IfOk result (λ e. IsSized leaf.now e) }
     ensures coloured { IfOk result (λ e. IsColoured leaf.now e) }
@@ -146,46 +140,40 @@ fn lighted<'a>(
     let code = compiled.code();
     if asks_lights(code.nodes.as_slice()) {
         let lamps = lamps_of(arena, shaders.set, shaders.uses, leaf)?;
-        return colour(
-            shaders.alloc,
-            arena,
-            leaf,
-            &bound,
-            &lamps,
-            places,
-            variables,
-        );
+        return colour(shaders.alloc, arena, leaf, &bound, &lamps, variables);
     }
-    colour(shaders.alloc, arena, leaf, &bound, &[], places, variables)
+    colour(shaders.alloc, arena, leaf, &bound, &[], variables)
 }
 
-/// The shaded grid, by the variables behind the surface.
-fn grid_behind<'a>(
+/// The shaded grid in the arena, by the variables behind the surface.
+fn grid_behind<'a, 'w>(
     shaders: &Shaders,
+    work: &'w Bump,
     arena: &'a Bump,
     leaf: &Leaf,
-    lit: &Variables<'a>,
+    lit: &Variables<'w>,
 ) -> Result<GridRef<'a>, NoMemory>
     requires serves { ServesPrim shaders.now leaf.now }
     requires sized { IsSized leaf.now lit.now }
     requires coloured { IsColoured leaf.now lit.now }
     ensures { IfOk result (λ grid. Hold leaf.now lit.now (lit_by shaders.now leaf.now (placed_by shaders.now leaf.now)) → grid_value grid ≡ shaded leaf.now (set_in shaders.now) (uses_in shaders.now)) }
 {
-    let last = dimmed(shaders, arena, leaf, lit, leaf.atmosphere())?;
+    let last = dimmed(shaders, work, leaf, lit, leaf.atmosphere())?;
     grid_of(arena, leaf, &last)
 }
 
-/// The shaded grid of a leaf.
+/// The shaded grid of a leaf in the arena. What is made on the way lies in another one.
 pub(crate) fn shaded_leaf<'a>(
     shaders: &Shaders,
+    work: &Bump,
     arena: &'a Bump,
     leaf: &Leaf,
 ) -> Result<GridRef<'a>, NoMemory>
     requires { ServesPrim shaders.now leaf.now }
     ensures { IfOk result (λ grid. grid_value grid ≡ shaded leaf.now (set_in shaders.now) (uses_in shaders.now)) }
 {
-    let first = begun(arena, leaf)?;
-    let near = placed(shaders, arena, leaf, &first.places, &first.variables)?;
-    let lit = lighted(shaders, arena, leaf, &first.places, &near)?;
-    grid_behind(shaders, arena, leaf, &lit)
+    let first = begun(work, leaf)?;
+    let near = placed(shaders, work, leaf, &first, leaf.displacement())?;
+    let lit = lighted(shaders, work, leaf, &near)?;
+    grid_behind(shaders, work, arena, leaf, &lit)
 }

@@ -4,10 +4,12 @@ ghost use Rattle.fixed_math.specs.declared.vec3.Vec3.{Vec3 as AnyVec3};
 ghost use Rattle.sl_ast.specs.declared.kinds.SlKind.TheVariants as kinds;
 ghost use Rattle.builtins.specs.Lights.{Light};
 ghost use Rattle.displace_shade.specs.Shaded.{spaces_of as maps_of};
+ghost use Rattle.grid_code.specs.View.{block_of};
+ghost use Rattle.mask_codegen.specs.Compiled.{NamesVarying};
 ghost use Rattle.place_rows.specs.Layout.{row_length};
 ghost use Rattle.grid_machine.specs.Run.{rows_of, written_names};
 ghost use Rattle.grid_rows.specs.Rows.{AreRaws};
-ghost use Rattle.grid_variables.specs.Places.{point_count, IsSized, IsColoured, ArePlaces};
+ghost use Rattle.grid_variables.specs.Places.{point_count, IsSized, IsColoured};
 ghost use Rattle.displace_shade.specs.Shop.{bound_value};
 ghost use Rattle.displace_shade.specs.Stages.{parameters_of as parameters_list, Runs, RunsOn, run_by, Makes};
 ghost use Rattle.displace_shade.specs.Unlit.{AsksNone};
@@ -17,13 +19,12 @@ use crate::bound::BoundShader;
 use crate::lamps::{Lamp, Lamps, kept};
 use bumpalo::Bump;
 use bumpalo::collections::into_bump_slice_mut;
-use fixed_math::{NoMemory, Num, Vec3};
+use fixed_math::{NoMemory, Vec3};
 use grid_machine::{Inputs, run};
 use grid_rows::{
-    Parameters, displacement_rows, length_of_row, raws_of, surface_rows, surface_values,
-    triples_left, uniform_values, volume_rows,
+    Parameters, Wanted, length_of_row, rows_given, surface_values, triples_left, uniform_values,
 };
-use grid_variables::{Leaf, Places, Variables};
+use grid_variables::{Leaf, Variables};
 use sl_ast::Value;
 use std::alloc::Global;
 use transforms::{Affine, Spaces};
@@ -56,6 +57,19 @@ fn parameters_of<'s>(bound: &BoundShader<'s>) -> Parameters<'s>
         declared: compiled.params(),
         slots: code.params.as_slice(),
         values: bound.values,
+    }
+}
+
+/// What a shader that is bound is given of the variables of its kind.
+fn wanted_by<'s>(bound: &BoundShader<'s>) -> Wanted<'s>
+    ensures kind { result.kind ≡ bound.now.compiled.now.code.kind }
+    ensures named { NamesVarying result.named.now (block_of bound.now.compiled.now.code.nodes) }
+{
+    let compiled = bound.compiled;
+    let code = compiled.code();
+    Wanted {
+        kind: code.kind,
+        named: compiled.named(),
     }
 }
 
@@ -101,19 +115,19 @@ fn run_on<'a, 's>(
     bound: &BoundShader<'s>,
     lamps: &[Lamp<'s, 'a>],
     uniforms: &[Value],
-    rows: &[Num],
+    rows: &[i64],
 ) -> Result<&'a [i64], NoMemory>
-    requires { IsGiven leaf.now bound.now lamps.now uniforms.now rows.now }
+    requires given { IsGiven leaf.now bound.now lamps.now uniforms.now rows.now }
+    requires small { AreRaws rows.now }
     ensures long { IfOk result (λ out. length out.now ≡ 6 * row_length (point_count leaf.now)) }
     ensures small { IfOk result (λ out. AreRaws out.now) }
     ensures values { IfOk result (λ out. IsLeft leaf.now bound.now lamps.now uniforms.now rows.now out.now) }
 {
-    let raws = raws_of(arena, rows)?;
     let spaces = kept(arena, spaces_of(leaf, bound.space))?;
     let width = length_of_row(leaf.point_count());
     let zeros = vec![in arena; 0; 6 * width]?;
     let out = into_bump_slice_mut(zeros);
-    run_into(arena, leaf, bound, lamps, spaces, uniforms, raws, out)?;
+    run_into(arena, leaf, bound, lamps, spaces, uniforms, rows, out)?;
     Ok(out)
 }
 
@@ -124,9 +138,10 @@ fn run_behind<'a, 's>(
     bound: &BoundShader<'s>,
     lamps: &[Lamp<'s, 'a>],
     uniforms: Vec<Value>,
-    rows: &[Num],
+    rows: &[i64],
 ) -> Result<&'a [i64], NoMemory>
-    requires { IsGiven leaf.now bound.now lamps.now uniforms.items rows.now }
+    requires given { IsGiven leaf.now bound.now lamps.now uniforms.items rows.now }
+    requires small { AreRaws rows.now }
     ensures long { IfOk result (λ out. length out.now ≡ 6 * row_length (point_count leaf.now)) }
     ensures small { IfOk result (λ out. AreRaws out.now) }
     ensures values { IfOk result (λ out. IsLeft leaf.now bound.now lamps.now uniforms.items rows.now out.now) }
@@ -148,9 +163,10 @@ fn left_behind<'a, 's>(
     bound: &BoundShader<'s>,
     lamps: &[Lamp<'s, 'a>],
     uniforms: Vec<Value>,
-    rows: &[Num],
+    rows: &[i64],
 ) -> Result<Left<'a>, NoMemory>
-    requires { IsGiven leaf.now bound.now lamps.now uniforms.items rows.now }
+    requires given { IsGiven leaf.now bound.now lamps.now uniforms.items rows.now }
+    requires small { AreRaws rows.now }
     ensures { IfOk result (λ left. AreLeft leaf.now bound.now lamps.now uniforms.items rows.now left.first.now left.second.now) }
 {
     let out = run_behind(arena, leaf, bound, lamps, uniforms, rows)?;
@@ -165,22 +181,21 @@ pub(crate) fn displace<'a>(
     arena: &'a Bump,
     leaf: &Leaf,
     bound: &BoundShader,
-    places: &Places,
     variables: &Variables<'a>,
 ) -> Result<Variables<'a>, NoMemory>
     requires on { RunsOn bound.now leaf.now kinds.Displacement }
-    requires places { ArePlaces leaf.now places.now }
     requires sized { IsSized leaf.now variables.now }
     ensures sized { IfOk result (λ e. IsSized leaf.now e) }
     ensures hold { IfOk result (λ e. Makes leaf.now (run_by leaf.now bound.now []) variables.now e) }
 {
     let parameters = parameters_of(bound);
-    let rows = displacement_rows(arena, leaf, &parameters, places, variables)?;
+    let wanted = wanted_by(bound);
+    let rows = rows_given(arena, leaf, &parameters, &wanted, variables)?;
     let uniforms = surface_values(alloc, leaf, &parameters)?;
     let left = left_behind(arena, leaf, bound, &[], uniforms, rows)?;
     Ok(Variables {
         points: left.first,
-        normals: left.second,
+        normals: Some(left.second),
         sights: variables.sights,
         colours: variables.colours,
         opacities: variables.opacities,
@@ -194,12 +209,10 @@ pub(crate) fn colour<'a, 's>(
     leaf: &Leaf,
     bound: &BoundShader<'s>,
     lamps: &[Lamp<'s, 'a>],
-    places: &Places,
     variables: &Variables<'a>,
 ) -> Result<Variables<'a>, NoMemory>
     requires on { RunsOn bound.now leaf.now kinds.Surface }
     requires lamps { All (IsLamp leaf.now) lamps.now }
-    requires places { ArePlaces leaf.now places.now }
     requires sized { IsSized leaf.now variables.now }
     ensures sized { IfOk result (λ e. IsSized leaf.now e) }
     ensures coloured { IfOk result (λ e. IsColoured leaf.now e) }
@@ -207,7 +220,8 @@ pub(crate) fn colour<'a, 's>(
     ensures unlit { IfOk result (λ e. AsksNone bound.now → (lights : List (AnyVec3 → Light)) → Makes leaf.now (run_by leaf.now bound.now lights) variables.now e) }
 {
     let parameters = parameters_of(bound);
-    let rows = surface_rows(arena, leaf, &parameters, places, variables)?;
+    let wanted = wanted_by(bound);
+    let rows = rows_given(arena, leaf, &parameters, &wanted, variables)?;
     let uniforms = surface_values(alloc, leaf, &parameters)?;
     let left = left_behind(arena, leaf, bound, lamps, uniforms, rows)?;
     Ok(Variables {
@@ -235,7 +249,8 @@ pub(crate) fn dim<'a>(
     ensures hold { IfOk result (λ e. Makes leaf.now (run_by leaf.now bound.now []) variables.now e) }
 {
     let parameters = parameters_of(bound);
-    let rows = volume_rows(arena, leaf, &parameters, variables)?;
+    let wanted = wanted_by(bound);
+    let rows = rows_given(arena, leaf, &parameters, &wanted, variables)?;
     let uniforms = uniform_values(alloc, leaf, &parameters)?;
     let left = left_behind(arena, leaf, bound, &[], uniforms, rows)?;
     Ok(Variables {

@@ -11,33 +11,43 @@ use crate::set::ShaderSet;
 use bumpalo::Bump;
 use dice::GridRef;
 use fixed_math::NoMemory;
-use grid_variables::Leaf;
+use grid_variables::{Leaf, NamedVariables};
 use patches::Piece;
 use scene::{Frame, Scene, ShaderUse};
 use std::alloc::Global;
 
 /// The leaf of a piece of a primitive of a frame.
-fn leaf_at<'s>(frame: &'s Frame, piece: &'s Piece, p: u8, q: u8) -> Leaf<'s>
+fn leaf_at<'s>(
+    alloc: Global,
+    frame: &'s Frame,
+    piece: &'s Piece,
+    p: u8,
+    q: u8,
+) -> Result<Leaf<'s>, NoMemory>
     requires prim { piece.now.prim < length frame.now.prims }
     requires columns { p ≤ 4 }
     requires rows { q ≤ 4 }
-    ensures leaf { (prim : PrimValue) → slice_get frame.now.prims piece.now.prim ≡ Some prim → result ≡ leaf_of frame.now prim piece.now p q }
-    ensures prim { slice_get frame.now.prims piece.now.prim ≡ Some result.prim }
+    ensures leaf { IfOk result (λ l. (prim : PrimValue) → slice_get frame.now.prims piece.now.prim ≡ Some prim → l ≡ leaf_of frame.now prim piece.now p q) }
+    ensures prim { IfOk result (λ l. slice_get frame.now.prims piece.now.prim ≡ Some l.prim) }
 {
     let prims = frame.prims.as_slice();
-    Leaf {
+    let prim = &prims[piece.prim as usize];
+    let named = NamedVariables::new(alloc, prim.vars.as_slice())?;
+    Ok(Leaf {
         camera: &frame.camera,
         world: &frame.world,
-        prim: &prims[piece.prim as usize],
+        prim,
+        named,
         piece,
         p,
         q,
-    }
+    })
 }
 
 /// The shaded grid of a piece of a primitive of a frame.
 fn shaded_piece<'a>(
     shaders: &Shaders,
+    work: &Bump,
     arena: &'a Bump,
     frame: &Frame,
     piece: &Piece,
@@ -52,8 +62,8 @@ fn shaded_piece<'a>(
     requires rows { q ≤ 4 }
     ensures { IfOk result (IsShadedIn (set_value shaders.now.set.now) shaders.now.uses.now frame.now piece.now p q) }
 {
-    let leaf = leaf_at(frame, piece, p, q);
-    shaded_leaf(shaders, arena, &leaf)
+    let leaf = leaf_at(shaders.alloc, frame, piece, p, q)?;
+    shaded_leaf(shaders, work, arena, &leaf)
 }
 
 /// The uses of a scene.
@@ -73,11 +83,19 @@ fn frame_at(scene: &Scene, frame: usize) -> &Frame
     &frames[frame]
 }
 
-/// The shaders of a scene, and how many grids they have shaded.
+/// Makes an arena free for another grid, and keeps its memory. One that can't be made free is replaced.
+fn clear(alloc: Global, work: &mut Bump) {
+    if work.reset().is_err() {
+        *work = Bump::new(alloc);
+    }
+}
+
+/// The shaders of a scene, how many grids they have shaded, and memory for what is made on the way to a grid.
 #[derive(Drop)]
 pub struct Shop {
     alloc: Global,
     set: ShaderSet,
+    work: Bump,
     count: u64,
 }
 
@@ -90,6 +108,7 @@ impl Shop {
         Shop {
             alloc,
             set,
+            work: Bump::new(alloc),
             count: 0,
         }
     }
@@ -101,9 +120,10 @@ impl Shop {
         self.count
     }
 
-    /// The shaded grid of a piece in the arena, of 2^`p` + 1 columns and 2^`q` + 1 rows: displacement, surface and volume over its points, one
-    /// after another, the surface under the lights of the primitive. The shop's shaders are those of the scene, the frame and the piece's
-    /// primitive are there and its variables fit its shaders, and `p` and `q` are at most 4. The count rises by one, unless memory is wanting.
+    /// The shaded grid of a piece in the arena, which takes nothing else, of 2^`p` + 1 columns and 2^`q` + 1 rows: displacement, surface and
+    /// volume over its points, one after another, the surface under the lights of the primitive. The shop's shaders are those of the scene,
+    /// the frame and the piece's primitive are there and its variables fit its shaders, and `p` and `q` are at most 4. The count rises by
+    /// one, unless memory is wanting.
     pub fn shade<'a>(
         &mut self,
         arena: &'a Bump,
@@ -130,7 +150,9 @@ impl Shop {
             set: &self.set,
             uses: uses_of(scene),
         };
-        let grid = shaded_piece(&shaders, arena, frame, piece, p, q)?;
+        let shaded = shaded_piece(&shaders, &self.work, arena, frame, piece, p, q);
+        clear(self.alloc, &mut self.work);
+        let grid = shaded?;
         self.count += 1;
         Ok(grid)
     }

@@ -1,15 +1,18 @@
 -- The weights by tables are the filter's.
-use Rattle.std.proofs.Common.{◌≡◌, refl, ap, ◌∙◌, arith, ℕ, ◌+◌, ◌*◌, ◌/◌, ◌<◌, ◌≤◌, ℤ, pos, ◌+ℤ◌, ◌-ℤ◌, true, List, get_or}
+use Rattle.std.proofs.Common.{◌≡◌, refl, ap, sym, ◌∙◌, arith, ℕ, ◌+◌, ◌*◌, ◌/◌, ◌<◌, ◌≤◌, ℤ, pos, ◌+ℤ◌, ◌-ℤ◌, true, List, [], ◌∷◌, ◌++◌, length, get_or}
 use Rattle.std.specs.Prelude.{◌≤ℤ◌}
 use Rattle.std.proofs.lemmas.Int.{ints}
+use Rattle.fixed_math.specs.Fixed.{IsRaw}
 use Rattle.fixed_math.specs.Spots.{Spot}
 use Rattle.scene.specs.declared.filter.Filter.{Filter}
 use Rattle.scene.specs.declared.filter.Filter.TheVariants.{Box, Triangle, Gaussian}
 use Rattle.scene.specs.Settings.{OptionValues}
 use Rattle.filter_ppm.specs.Weight.{counts, slope, bell, by_filter, weight, weight_at}
-use Rattle.filter_ppm.specs.Tables.{part, joined, IsTable}
+use Rattle.filter_ppm.specs.Tables.{part, joined, power, IsTable}
 use Rattle.filter_ppm.proofs.Filters.{slope_range, exp2_low, mul_low}
-use Rattle.filter_ppm.proofs.Spans.{counts_true}
+use Rattle.std.proofs.Math.ListN.{get_or-append}
+use Rattle.std.proofs.Math.Seq.{get_or-append_seam}
+use Rattle.filter_ppm.proofs.Spans.{counts_true, by_place}
 
 -- all offsets of a table count
 pub counts_at : (w k : ℕ) → k < w → counts w (pos k -ℤ pos (w / 2)) ≡ true
@@ -47,3 +50,13 @@ unfolding weight_at weight
 weight_low o x y s h k hx hy =
     let e = by_filter_low o.filter o.wx o.wy (s.x -ℤ pos (256 * x + 128)) (s.y -ℤ pos (256 * y + 128)) h k hx hy in
     rw (hx, hy) e
+
+-- one power more
+pub powers_more : (old new : List ℤ) (n : ℕ) (x : ℤ) → length old ≡ n → ((i : ℕ) → i < n → get_or old i (pos 0) ≡ power (pos i)) → ((i : ℕ) → i < n → IsRaw (get_or old i (pos 0))) →
+    x ≡ power (pos n) → IsRaw x → new ≡ old ++ x ∷ [] → (i : ℕ) → i < n + 1 → (get_or new i (pos 0) ≡ power (pos i)) × IsRaw (get_or new i (pos 0))
+powers_more old new n x long values raws value raw e i h =
+    rw e (by_place i n
+    (λ lt. let front = get_or-append old (x ∷ []) (pos 0) i (omega (arith, long, lt)) in (front ∙ values i lt, rw front (raws i lt)))
+    (λ same. let last : get_or (old ++ x ∷ []) i (pos 0) ≡ x = ap (λ k. get_or (old ++ x ∷ []) k (pos 0)) (same ∙ sym long) ∙ get_or-append_seam old x [] (pos 0) in
+    (last ∙ value ∙ ap (λ k. power (pos k)) (sym same), rw last raw))
+    (λ gt. absurd (omega (arith, h, gt))))

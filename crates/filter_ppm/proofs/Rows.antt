@@ -1,7 +1,6 @@
 -- The sums of a rectangle's pixels as samples are added.
 use Rattle.std.proofs.Common.{◌≡◌, ℕ, ◌+◌, ◌-◌, ◌*◌, ◌<◌, ◌≤◌, ◌⊎◌, inl, inr, ap, sym, ◌∙◌, arith, refl, List, [], ◌∷◌, ◌++◌, length, get_or, false}
 use Rattle.std.specs.Prelude.{pos, ◌+ℤ◌, ◌-ℤ◌, ◌*ℤ◌}
-use Rattle.std.proofs.lemmas.Int.{ints, by_lt_z}
 use Rattle.std.proofs.lemmas.Nat.{mul-le, mul-add-lt}
 use Rattle.std.proofs.lemmas.List.{get_or-set_same, get_or-set_other}
 use Rattle.std.proofs.lemmas.List.FromFn.{map-range_with_len_more}
@@ -21,14 +20,9 @@ use Rattle.filter_ppm.specs.Mean.{weighted_mean}
 use Rattle.filter_ppm.specs.Sampled.{shown_with}
 use Rattle.filter_ppm.specs.Sums.{none, with_weighed, mean_of, IsOver, AreSums, row_start, total_at, AddsInRow, AddsSample, AreOver, AreTotals, first_samples}
 use Rattle.filter_ppm.proofs.Filters.{no_weight_x, no_weight_y}
+use Rattle.filter_ppm.proofs.Spans.{by_lt, by_place}
 use Rattle.filter_ppm.proofs.SumsBelow.{sum_of-more}
 use Rattle.filter_ppm.proofs.Totals.{nothing_added, over_none, over_more}
-
-pub by_lt : {P : Type 0} (a b : ℕ) → (a < b → P) → (b ≤ a → P) → P
-by_lt a b f g = by_lt_z (pos a) (pos b) (λ l. f (omega (arith, ints))) (λ l. g (omega (arith, ints)))
-
-pub by_place : {P : Type 0} (i x : ℕ) → (i < x → P) → (i ≡ x → P) → (x < i → P) → P
-by_place i x f g h = by_lt i x f (λ le. by_lt x i h (λ ge. g (omega arith)))
 
 -- ---- places by rows of w
 pub earlier_row : (a b w i : ℕ) → a < b → i < w → a * w + i < b * w

@@ -1,13 +1,19 @@
 -- The pixels for which a sample counts.
-use Rattle.std.proofs.Common.{◌≡◌, arith, ℕ, ◌+◌, ◌*◌, ◌≤◌, sym, ℤ, pos, ◌+ℤ◌, ◌-ℤ◌, ◌*ℤ◌, true, false, to_z, of_z}
+use Rattle.std.proofs.Common.{◌≡◌, arith, ℕ, ◌+◌, ◌*◌, ◌<◌, ◌≤◌, sym, ℤ, pos, ◌+ℤ◌, ◌-ℤ◌, ◌*ℤ◌, true, false, to_z, of_z}
 use Rattle.std.specs.Int.{w64}
 use Rattle.std.specs.Prelude.{◌≤ℤ◌, ◌<ℤ◌, neg_ℤ, int_le, int_lt, unsigned_abs}
-use Rattle.std.proofs.lemmas.Int.{ints}
+use Rattle.std.proofs.lemmas.Int.{ints, by_lt_z}
 use Rattle.std.proofs.lemmas.Bool.{and_from}
 use Rattle.fixed_math.specs.Whole.{floor_by}
 use Rattle.fixed_math.proofs.Floor.{floor_by_le, floor_by_gt}
 use Rattle.filter_ppm.specs.Weight.{counts}
 use Rattle.filter_ppm.proofs.Filters.{left_of, right_of}
+
+pub by_lt : {P : Type 0} (a b : ℕ) → (a < b → P) → (b ≤ a → P) → P
+by_lt a b f g = by_lt_z (pos a) (pos b) (λ l. f (omega (arith, ints))) (λ l. g (omega (arith, ints)))
+
+pub by_place : {P : Type 0} (i x : ℕ) → (i < x → P) → (i ≡ x → P) → (x < i → P) → P
+by_place i x f g h = by_lt i x f (λ le. by_lt x i h (λ ge. g (omega arith)))
 
 pub pixels_small : (n : ℤ) → unsigned_abs n ≤ 536875264 → unsigned_abs (floor_by n 512) ≤ 1048600
 pixels_small n h =

@@ -1,8 +1,10 @@
 // From a pixel's colour to the numbers of the picture.
-ghost use Rattle.std.specs.Prelude.{◌≡◌, ◌≤◌, ◌<◌, ◌*◌, pos};
+ghost use Rattle.std.specs.Prelude.{◌≡◌, ◌≤◌, ◌<◌, ◌*◌, ◌^◌, ◌+ℤ◌, ◌*ℤ◌, pos, unsigned_abs};
+ghost use Rattle.fixed_math.specs.Whole.{floor_by};
 ghost use Rattle.filter_ppm.specs.Levels.{exposed_part, exposed, level, limited, quantized, levels};
 
-use fixed_math::{Num, Vec3, floor_by, plus, times};
+use crate::total::product;
+use fixed_math::{Num, Vec3};
 use scene::Options;
 
 #[tactic(auto, unfolding(crate::specs::Levels::exposed_part))]
@@ -28,27 +30,44 @@ pub fn expose(o: &Options, c: Vec3) -> Vec3
     }
 }
 
+/// Twice `one` times a channel.
+fn doubled(one: u32, v: Num) -> i64
+    requires one { one ≤ 255 }
+    ensures value { result ≡ pos (2 * one) *ℤ v }
+    ensures size { unsigned_abs result < 2 ^ 41 }
+{
+    product((2 * one) as i64, v.raw())
+}
+
+/// A number over 131072, rounded to the nearest whole number, a half up.
+#[tactic(auto, using(fixed_math::proofs::Floor::div_euclid_is))]
+fn rounded(n: i64) -> i64
+    requires { unsigned_abs n < 2 ^ 41 }
+    ensures { result ≡ floor_by (n +ℤ pos 65536) 131072 }
+{
+    (n + 65536).div_euclid(131072)
+}
+
 /// `one` times a channel, rounded to the nearest whole number, a half up.
 #[tactic(auto, unfolding(crate::specs::Levels::level))]
-fn level_of(one: u32, v: Num) -> i128
+fn level_of(one: u32, v: Num) -> i64
     requires { one ≤ 255 }
     ensures { result ≡ level one v }
 {
-    let exact = plus(times::<9, 31>(2 * one as i128, v.raw() as i128), 65536);
-    floor_by(exact, 131072)
+    rounded(doubled(one, v))
 }
 
 /// A number put into `low` to `high`.
 #[tactic(auto, unfolding(crate::specs::Levels::limited))]
-fn put_into(low: u32, high: u32, n: i128) -> u32
+fn put_into(low: u32, high: u32, n: i64) -> u32
     requires { low ≤ high }
     ensures value { result ≡ limited low high n }
     ensures low { low ≤ result }
     ensures high { result ≤ high }
 {
-    if n < low as i128 {
+    if n < low as i64 {
         low
-    } else if n > high as i128 {
+    } else if n > high as i64 {
         high
     } else {
         n as u32

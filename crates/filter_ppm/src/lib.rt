@@ -22,6 +22,6 @@ pub use film::Film;
 pub use filtered::pixels;
 pub use levels::{expose, pixel_levels, quantize};
 pub use pixel_filter::PixelFilter;
-pub use ppm::{band_bytes, header};
+pub use ppm::{append_band, band_bytes, header};
 pub use sums::Sums;
 pub use weights::{reach, weight};

@@ -122,7 +122,8 @@ impl PixelFilter {
     pub fn new(alloc: Global, film: &Film) -> Result<PixelFilter, NoMemory>
         ensures { IfOk result (λ filter. filter ≡ film.now) }
     {
-        let weights = Weights::new(alloc, &film.options)?;
+        let pixels = film.width as usize * film.height as usize;
+        let weights = Weights::new(alloc, &film.options, pixels)?;
         Ok(PixelFilter {
             width: film.width,
             height: film.height,

@@ -37,14 +37,24 @@ fn push_levels(bytes: &mut Vec<u8>, one: u32, levels: &[u32]) -> Result<(), NoMe
     Ok(())
 }
 
+/// Appends the bytes of a row of pixels to those that stand there: one byte for each channel, in turn. So one buffer serves for
+/// all bands of a picture.
+pub fn append_band(bytes: &mut Vec<u8>, o: &Options, pixels: &[[u32; 3]]) -> Result<(), NoMemory>
+    requires { All (λ p. All (λ v. v ≤ o.now.one) p) pixels.now }
+    ensures { OnOk result (bytes.new.items ≡ bytes.old.items ++ band o.now.one pixels.now) }
+{
+    for pixel in pixels {
+        push_levels(bytes, o.one, pixel)?;
+    }
+    Ok(())
+}
+
 /// The bytes of a row of pixels: one byte for each channel, in turn.
 pub fn band_bytes(alloc: Global, o: &Options, pixels: &[[u32; 3]]) -> Result<Vec<u8>, NoMemory>
     requires { All (λ p. All (λ v. v ≤ o.now.one) p) pixels.now }
     ensures { IfOk result (λ bytes. bytes.items ≡ band o.now.one pixels.now) }
 {
-    let mut bytes = Vec::new(alloc);
-    for pixel in pixels {
-        push_levels(&mut bytes, o.one, pixel)?;
-    }
+    let mut bytes = Vec::with_capacity(alloc, pixels.len().saturating_mul(3))?;
+    append_band(&mut bytes, o, pixels)?;
     Ok(bytes)
 }

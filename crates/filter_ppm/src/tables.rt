@@ -2,7 +2,8 @@
 ghost use Rattle.std.specs.Prelude.{◌≡◌, ◌≤◌, ◌<◌, ◌+◌, ◌/◌, ◌*◌, ◌+ℤ◌, ◌-ℤ◌, pos, true, IfOk, unsigned_abs};
 ghost use Rattle.scene.specs.Settings.{OptionValues};
 ghost use Rattle.filter_ppm.specs.Weight.{counts};
-ghost use Rattle.filter_ppm.specs.Tables.{part, joined, IsTable};
+ghost use Rattle.filter_ppm.specs.Tables.{part, joined, power, IsTable, ArePowers};
+ghost use Rattle.fixed_math.specs.Fixed.{IsRaw};
 
 use crate::weights::{across_at, bell_of, slope_at};
 use fixed_math::{NoMemory, Num};
@@ -16,6 +17,7 @@ pub(crate) struct Weights {
     options: Options,
     across: Vec<Num>,
     down: Vec<Num>,
+    powers: Vec<i32>,
 }
 
 impl Model for Weights {
@@ -23,7 +25,7 @@ impl Model for Weights {
 
     ghost view = { λ w. w.options };
 
-    ghost invariant = { λ w. IsTable w.options.filter w.options.wx w.across.items × IsTable w.options.filter w.options.wy w.down.items };
+    ghost invariant = { λ w. IsTable w.options.filter w.options.wx w.across.items × IsTable w.options.filter w.options.wy w.down.items × ArePowers w.powers.items };
 }
 
 /// The number of the offset `d` in one direction.
@@ -89,15 +91,80 @@ fn part_in(filter: Filter, width: u32, table: &[Num], d: i64) -> Num
     table[index_of(width, d)]
 }
 
+/// The raw value of a number.
+fn raw_of(v: Num) -> i32
+    ensures value { result ≡ v }
+    ensures raw { IsRaw result }
+{
+    v.raw() as i32
+}
+
+/// The number of a raw value.
+fn num_of(raw: i32) -> Num
+    requires { IsRaw raw }
+    ensures { result ≡ raw }
+{
+    Num::sat(raw as i128)
+}
+
+/// The power of the sum `k` of squares.
+fn power_from(k: usize) -> i32
+    requires { k < 131073 }
+    ensures value { result ≡ power (pos k) }
+    ensures raw { IsRaw result }
+{
+    raw_of(bell_of(Num::sat(k as i128)))
+}
+
+/// The powers of the first sums of squares.
+fn powers(alloc: Global, count: usize) -> Result<Vec<i32>, NoMemory>
+    requires { count ≤ 131073 }
+    ensures { IfOk result (λ powers. ArePowers powers.items) }
+{
+    let mut powers = Vec::with_capacity(alloc, count)?;
+    for k in 0..count {
+        powers.push(power_from(k))?;
+    }
+    Ok(powers)
+}
+
+/// How many powers are kept for a frame of so many pixels: all that a gaussian can want, unless it looks up fewer than that.
+fn kept(filter: Filter, pixels: usize) -> usize
+    ensures { result ≤ 131073 }
+{
+    match filter {
+        Filter::Gaussian => { if pixels >= 8192 { 131073 } else { 0 } }
+        _ => 0,
+    }
+}
+
+/// The power of a sum of squares: kept, or computed anew.
+fn power_in(powers: &[i32], square: Num) -> Num
+    requires { ArePowers powers.now }
+    ensures { result ≡ power square }
+{
+    let sum = square.raw();
+    if sum < 0 {
+        return bell_of(square);
+    }
+    let k = sum as usize;
+    if k < powers.len() {
+        num_of(powers[k])
+    } else {
+        bell_of(square)
+    }
+}
+
 /// The weight of two numbers of offsets.
 #[tactic(auto, unfolding(crate::specs::Tables::joined))]
-fn joined(filter: Filter, p: Num, q: Num) -> Num
+fn joined(filter: Filter, powers: &[i32], p: Num, q: Num) -> Num
+    requires { ArePowers powers.now }
     ensures { result ≡ joined filter p q }
 {
     match filter {
         Filter::Box => Num::sat(65536),
         Filter::Triangle => p.mul(q),
-        Filter::Gaussian => bell_of(p.add(q)),
+        Filter::Gaussian => power_in(powers, p.add(q)),
     }
 }
 
@@ -111,8 +178,8 @@ fn from_middle(place: i64, pixel: usize) -> i64
 }
 
 impl Weights {
-    /// The weights of the filter that the options have.
-    pub(crate) fn new(alloc: Global, options: &Options) -> Result<Weights, NoMemory>
+    /// The weights of the filter that the options have, for a frame of so many pixels.
+    pub(crate) fn new(alloc: Global, options: &Options, pixels: usize) -> Result<Weights, NoMemory>
         ensures { IfOk result (λ weights. weights ≡ options.now) }
     {
         let o = *options;
@@ -120,6 +187,7 @@ impl Weights {
             options: o,
             across: table(alloc, o.filter, o.wx)?,
             down: table(alloc, o.filter, o.wy)?,
+            powers: powers(alloc, kept(o.filter, pixels))?,
         })
     }
 
@@ -165,6 +233,6 @@ impl Weights {
             self.across.as_slice(),
             from_middle(place, x),
         );
-        joined(self.options.filter, across, down)
+        joined(self.options.filter, self.powers.as_slice(), across, down)
     }
 }

@@ -26,8 +26,8 @@ pub(crate) fn no_total() -> Total
     }
 }
 
-/// A weight times a channel.
-fn product(w: i64, v: i64) -> i64
+/// A weight times a channel, exactly.
+pub(crate) fn product(w: i64, v: i64) -> i64
     requires w { unsigned_abs w ≤ 2147483647 }
     requires v { unsigned_abs v ≤ 2147483647 }
     ensures value { result ≡ w *ℤ v }
@@ -89,8 +89,20 @@ pub(crate) fn with_weighed(t: &Total, w: Num, c: &Vec3, n: usize) -> Total
     }
 }
 
-/// One channel of the mean.
-fn mean_part(sum: i128, weight: i64) -> Num
+/// One channel of the mean, where the sum has 64 bits.
+fn short_part(sum: i64, weight: i64) -> Num
+    requires weight { pos 0 ≤ℤ weight }
+    requires size { unsigned_abs sum ≤ unsigned_abs weight * 2147483647 }
+    ensures { result ≡ mean_part sum weight }
+{
+    if weight == 0 {
+        return Num::sat(0);
+    }
+    Num::sat(sum.div_euclid(weight) as i128)
+}
+
+/// The same where it has more.
+fn long_part(sum: i128, weight: i64) -> Num
     requires weight { pos 0 ≤ℤ weight }
     requires size { unsigned_abs sum ≤ unsigned_abs weight * 2147483647 }
     ensures { result ≡ mean_part sum weight }
@@ -99,6 +111,19 @@ fn mean_part(sum: i128, weight: i64) -> Num
         return Num::sat(0);
     }
     Num::sat(floor_div(sum, weight as i128))
+}
+
+/// One channel of the mean.
+fn mean_part(sum: i128, weight: i64) -> Num
+    requires weight { pos 0 ≤ℤ weight }
+    requires size { unsigned_abs sum ≤ unsigned_abs weight * 2147483647 }
+    ensures { result ≡ mean_part sum weight }
+{
+    if sum < 4611686018427387904 && sum > -4611686018427387904 {
+        short_part(sum as i64, weight)
+    } else {
+        long_part(sum, weight)
+    }
 }
 
 /// The weighted mean, each channel rounded down once; 0 where the weights sum to 0.

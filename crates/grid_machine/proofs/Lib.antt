@@ -21,3 +21,4 @@ mod Answering
 mod Fitting
 mod Level
 mod Roomy
+pub mod Parts

@@ -1,10 +1,12 @@
 -- For private contracts alone: what instructions work on, where each operand has been found.
-use Rattle.std.specs.Prelude.{ℕ, ◌+◌, ◌<◌, ◌≤◌, pos, List, [], ◌∷◌}
+use Rattle.std.specs.Prelude.{ℕ, ◌+◌, ◌<◌, ◌≤◌, pos, Bool, true, false, ◌&&◌, ◌||◌, List, [], ◌∷◌}
 use Rattle.transforms.specs.declared.spaces.Spaces.{Spaces}
 use Rattle.sl_ast.specs.declared.operations.ValueOperation.{ValueOperation}
 use Rattle.sl_ast.specs.declared.typed.Value.TheVariants.{Number}
 use Rattle.sl_ast.specs.declared.typed.Value.{Value}
 use Rattle.builtins.specs.Values.{as_shape}
+use Rattle.builtins.specs.declared.shape.Shape.{Shape}
+use Rattle.builtins.specs.declared.shape.Shape.TheVariants as shapes
 use Rattle.builtins.specs.Table.{applied}
 use Rattle.grid_code.specs.declared.code.Register.{Register}
 use Rattle.grid_code.specs.declared.code.Register.TheVariants.{Uniform, Varying}
@@ -24,6 +26,32 @@ cell_at r (Shared s k) i = held r.shared s k
 
 abbrev pub operand_at : Registers → Operand → ℕ → Value
 operand_at r q i = value_of (texts_of r) (cell_at r q i)
+
+-- the shape of an operand's values
+abbrev pub shape_at : Operand → Shape
+shape_at (Row s k) = s
+shape_at (Shared s k) = s
+
+abbrev pub is_number : Shape → Bool
+is_number shapes.Number = true
+is_number _ = false
+
+abbrev pub is_triple : Shape → Bool
+is_triple shapes.Triple = true
+is_triple _ = false
+
+abbrev pub is_number_at : Operand → Bool
+is_number_at p = is_number (shape_at p)
+
+-- both give numbers, and all three; one of two gives triples
+abbrev pub two_numbers : Operand → Operand → Bool
+two_numbers p q = is_number_at p && is_number_at q
+
+abbrev pub three_numbers : Operand → Operand → Operand → Bool
+three_numbers p q t = is_number_at p && two_numbers q t
+
+abbrev pub has_triple : Operand → Operand → Bool
+has_triple p q = is_triple (shape_at p) || is_triple (shape_at q)
 
 abbrev pub OperandIn : Registers → Operand → Type 0
 OperandIn r (Row s k) = k + r.frame.now.places ≤ size r.rows s

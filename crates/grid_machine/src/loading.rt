@@ -105,8 +105,7 @@ impl Machine<'_> {
         ensures near { Writes self.old to (λ i. value.now) self.new }
     {
         let work = Work::Constant(self.registers.frame.setting.cell(value));
-        let count = self.reach(to);
-        self.registers.fill(&work, count, &mut self.scratch);
+        self.registers.compute(to, &work, &mut self.scratch);
         self.commit(to);
     }
 

@@ -79,8 +79,7 @@ impl Machine<'_> {
         ensures near { Writes self.old to (result_of source.now (ground_of self.old.registers.frame.now) (state_of self.old)) self.new }
     {
         let work = self.registers.work(source);
-        let count = self.reach(to);
-        self.registers.fill(&work, count, &mut self.scratch);
+        self.registers.compute(to, &work, &mut self.scratch);
         self.commit(to);
     }
 

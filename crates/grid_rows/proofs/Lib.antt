@@ -2,4 +2,4 @@ pub mod Filled
 pub mod Raws
 pub mod Params
 pub mod ParamRows
-pub mod Lengths
+pub mod Pushed

@@ -9,12 +9,17 @@ use Rattle.scene.specs.Scene.{VariableValue}
 use Rattle.sl_ast.specs.declared.typed.Value.{Value}
 use Rattle.sl_ast.specs.Typed.{Local}
 use Rattle.grid_code.specs.declared.slot.Slot.{Slot}
-use Rattle.grid_variables.specs.Points.{Leaf}
-use Rattle.grid_variables.specs.Variables.{spread, bound_variable}
-use Rattle.grid_rows.specs.Rows.{row_of, triple_rows, value_rows}
-use Rattle.grid_variables.specs.Places.{point_count, over}
-use Rattle.grid_variables.specs.declared.places.Places.{Places}
+use Rattle.grid_code.specs.declared.register_set.RegisterSet.{RegisterSet}
+use Rattle.sl_ast.specs.declared.kinds.SlKind.{SlKind}
+use Rattle.sl_ast.specs.declared.kinds.Predefined.{Predefined}
+use Rattle.sl_ast.specs.declared.kinds.Predefined.TheVariants as names
+use Rattle.grid_variables.specs.Points.{Leaf, normal_of, u_at, v_at, dpdu, dpdv}
+use Rattle.grid_variables.specs.Variables.{s_at, t_at, cs_at, os_at, spread, bound_variable}
+use Rattle.grid_variables.specs.Places.{point_count, over, normals_of}
 use Rattle.grid_variables.specs.declared.variables.Variables.{Variables}
+use Rattle.grid_rows.specs.Parameters.{ParameterValues}
+use Rattle.grid_rows.specs.Rows.{row_of, triple_rows, value_rows}
+use Rattle.grid_rows.specs.Wanted.{given_order, wanted, zero_of_name}
 
 -- a variable's value at all points
 abbrev pub rows_by : Kind → List Vec3 → List ℤ
@@ -36,32 +41,32 @@ abbrev pub param_rows : Leaf → List Local → List Slot → List Value → Lis
 param_rows l (p ∷ ps) (s ∷ ss) (v ∷ vs) = cond s.uniform (param_rows l ps ss vs) (rows_or l (bound_variable p.name l.prim.vars) v ++ param_rows l ps ss vs)
 param_rows l _ _ _ = []
 
--- behind some rows: points and normals
-abbrev pub with_points : List ℤ → Variables → List ℤ
-with_points front d = front ++ triple_rows d.points.now ++ triple_rows d.normals.now
+-- a variable at all points
+abbrev pub name_rows : Leaf → Variables → Predefined → List ℤ
+name_rows l d names.P = triple_rows d.points.now
+name_rows l d names.N = triple_rows (normals_of l d.normals)
+name_rows l d names.Ng = triple_rows (over (point_count l) (normal_of l))
+name_rows l d names.I = triple_rows d.sights.now
+name_rows l d names.U = row_of (over (point_count l) (u_at l))
+name_rows l d names.V = row_of (over (point_count l) (v_at l))
+name_rows l d names.S = row_of (over (point_count l) (s_at l))
+name_rows l d names.T = row_of (over (point_count l) (t_at l))
+name_rows l d names.Cs = triple_rows (over (point_count l) (cs_at l))
+name_rows l d names.Os = triple_rows (over (point_count l) (os_at l))
+name_rows l d names.DPdu = triple_rows (over (point_count l) (dpdu l))
+name_rows l d names.DPdv = triple_rows (over (point_count l) (dpdv l))
+name_rows l d names.Ci = triple_rows d.colours.now
+name_rows l d names.Oi = triple_rows d.opacities.now
+name_rows l d name = []
 
--- geometric normals and sights
-abbrev pub with_sights : List ℤ → Places → Variables → List ℤ
-with_sights front f d = front ++ triple_rows f.normals.now ++ triple_rows d.sights.now
+-- the same as a shader whose code names some registers is given it
+abbrev pub wanted_rows : SlKind → RegisterSet → Leaf → Variables → Predefined → List ℤ
+wanted_rows kind named l d p = cond (wanted kind named p) (name_rows l d p) (value_rows (point_count l) (zero_of_name p))
 
--- u, v, s and t
-abbrev pub with_parameters : List ℤ → Places → List ℤ
-with_parameters front f = front ++ row_of f.u.now ++ row_of f.v.now ++ row_of f.s.now ++ row_of f.t.now
+abbrev pub all_rows : (Predefined → List ℤ) → List Predefined → List ℤ
+all_rows rows [] = []
+all_rows rows (p ∷ ps) = rows p ++ all_rows rows ps
 
--- the primitive's colour and opacity, and the derivatives of the place
-abbrev pub with_look : List ℤ → Places → List ℤ
-with_look front f = front ++ triple_rows f.cs.now ++ triple_rows f.os.now ++ triple_rows f.dpdu.now ++ triple_rows f.dpdv.now
-
--- what shaders on a surface are given beside points and normals
-abbrev pub with_rest : List ℤ → Places → Variables → List ℤ
-with_rest front f d = with_look (with_parameters (with_sights front f d) f) f
-
--- what a surface, a displacement and a volume are given, with the rows of their parameters
-abbrev pub surface_rows : List ℤ → Places → Variables → List ℤ
-surface_rows params f d = with_rest (with_points params d) f d
-
-abbrev pub displacement_rows : List ℤ → Places → Variables → List ℤ
-displacement_rows params f d = with_points (with_rest params f d) d
-
-abbrev pub volume_rows : List ℤ → Variables → List ℤ
-volume_rows params d = params ++ triple_rows d.points.now ++ triple_rows d.sights.now ++ triple_rows d.colours.now ++ triple_rows d.opacities.now
+-- what such a shader is given: its parameters that vary, and the variables of its kind
+abbrev pub given_rows : Leaf → ParameterValues → SlKind → RegisterSet → Variables → List ℤ
+given_rows l ps kind named d = param_rows l ps.locals ps.slots ps.values ++ all_rows (wanted_rows kind named l d) (given_order kind)

@@ -1,3 +1,4 @@
 pub mod Parameters
 pub mod Rows
+pub mod Wanted
 pub mod Given

@@ -8,23 +8,19 @@ ghost use Rattle.grid_rows.specs.Rows.{values_of};
 ghost use Rattle.grid_rows.specs.Given.{rows_by, variable_rows, rows_or, param_rows};
 
 use crate::parameters::Parameters;
-use crate::rows::{push_parts, push_triples, push_value};
+use crate::rows::{Rows, push_parts, push_triples, push_value};
 use bumpalo::Bump;
-use fixed_math::{Axis, NoMemory, Num, Text, Vec3};
+use fixed_math::{Axis, NoMemory, Text, Vec3};
 use grid_code::Slot;
-use grid_variables::{Leaf, bound_variable, kind_of, spread, value_or};
+use grid_variables::{Leaf, kind_of, spread, value_or};
 use scene::{Kind, Variable};
 use sl_ast::{ParamDecl, Value};
-use std::alloc::{Allocator, Global};
+use std::alloc::Global;
 
 /// Appends the rows of numbers of that kind at all points.
-fn push_by<A: Allocator>(
-    rows: &mut Vec<Num, A>,
-    kind: Kind,
-    numbers: &[Vec3],
-) -> Result<(), NoMemory>
+fn push_by(rows: &mut Rows, kind: Kind, numbers: &[Vec3]) -> Result<(), NoMemory>
     requires { length numbers.now ≤ 289 }
-    ensures { IfOk result (λ _. rows.new.items ≡ rows.old.items ++ rows_by kind numbers.now) }
+    ensures { IfOk result (λ _. rows.new ≡ rows.old ++ rows_by kind numbers.now) }
 {
     match kind {
         Kind::Float | Kind::Pair => push_parts(rows, numbers, Axis::X),
@@ -34,13 +30,13 @@ fn push_by<A: Allocator>(
 }
 
 /// Appends the rows of a variable's value at all points.
-fn push_variable<A: Allocator>(
-    rows: &mut Vec<Num, A>,
+fn push_variable(
+    rows: &mut Rows,
     arena: &Bump,
     leaf: &Leaf,
     variable: &Variable,
 ) -> Result<(), NoMemory>
-    ensures { IfOk result (λ _. rows.new.items ≡ rows.old.items ++ variable_rows leaf.now variable.now) }
+    ensures { IfOk result (λ _. rows.new ≡ rows.old ++ variable_rows leaf.now variable.now) }
 {
     let _points = leaf.point_count();
     let numbers = spread(arena, leaf, variable, false)?;
@@ -48,24 +44,24 @@ fn push_variable<A: Allocator>(
 }
 
 /// Appends the rows of a parameter's value at all points.
-fn push_or<A: Allocator>(
-    rows: &mut Vec<Num, A>,
+fn push_or(
+    rows: &mut Rows,
     arena: &Bump,
     leaf: &Leaf,
     name: &Text,
     value: &Value,
 ) -> Result<(), NoMemory>
-    ensures { IfOk result (λ _. rows.new.items ≡ rows.old.items ++ rows_or leaf.now (bound_of name.now leaf.now.prim.vars) value.now) }
+    ensures { IfOk result (λ _. rows.new ≡ rows.old ++ rows_or leaf.now (bound_of name.now leaf.now.prim.vars) value.now) }
 {
-    match bound_variable(leaf.variables(), name) {
+    match leaf.bound_variable(name) {
         None => push_value(rows, value, leaf.point_count()),
         Some(variable) => push_variable(rows, arena, leaf, variable),
     }
 }
 
 /// Appends the rows of the parameters that vary.
-fn push_params<A: Allocator>(
-    rows: &mut Vec<Num, A>,
+fn push_params(
+    rows: &mut Rows,
     arena: &Bump,
     leaf: &Leaf,
     names: &[ParamDecl],
@@ -74,7 +70,7 @@ fn push_params<A: Allocator>(
 ) -> Result<(), NoMemory>
     requires named { length names.now ≡ length params.now }
     requires alike { length values.now ≡ length params.now }
-    ensures { IfOk result (λ _. rows.new.items ≡ rows.old.items ++ param_rows leaf.now (map local_of names.now) params.now values.now) }
+    ensures { IfOk result (λ _. rows.new ≡ rows.old ++ param_rows leaf.now (map local_of names.now) params.now values.now) }
 {
     for k in 0..params.len() {
         if !params[k].uniform {
@@ -84,24 +80,23 @@ fn push_params<A: Allocator>(
     Ok(())
 }
 
-/// The rows of a shader's parameters that vary.
-pub(crate) fn params_given<'a>(
-    arena: &'a Bump,
+/// Appends the rows of a shader's parameters that vary.
+pub(crate) fn push_parameters(
+    rows: &mut Rows,
+    arena: &Bump,
     leaf: &Leaf,
     parameters: &Parameters,
-) -> Result<Vec<Num, &'a Bump>, NoMemory>
-    ensures { IfOk result (λ rows. rows.items ≡ param_rows leaf.now parameters.now.locals parameters.now.slots parameters.now.values) }
+) -> Result<(), NoMemory>
+    ensures { IfOk result (λ _. rows.new ≡ rows.old ++ param_rows leaf.now parameters.now.locals parameters.now.slots parameters.now.values) }
 {
-    let mut rows = Vec::new(arena);
     push_params(
-        &mut rows,
+        rows,
         arena,
         leaf,
         parameters.declared,
         parameters.slots,
         parameters.values,
-    )?;
-    Ok(rows)
+    )
 }
 
 /// The values of the parameters that don't vary.

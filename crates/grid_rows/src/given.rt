@@ -1,140 +1,315 @@
 // What runs of shaders are given.
-ghost use Rattle.std.specs.Prelude.{◌≡◌, ◌≤◌, length, IfOk};
-ghost use Rattle.grid_variables.specs.Places.{IsSized, IsColoured, ArePlaces, AreLong};
-ghost use Rattle.grid_rows.specs.Given.{param_rows, with_points, with_sights, with_parameters, with_look, with_rest, surface_rows as surface_list, displacement_rows as displacement_list, volume_rows as volume_list};
+ghost use Rattle.std.specs.Prelude.{◌≡◌, ◌++◌, length, IfOk};
+ghost use Rattle.sl_ast.specs.declared.kinds.SlKind.TheVariants as kinds;
+ghost use Rattle.builtins.specs.Names.{place_of};
+ghost use Rattle.fixed_math.specs.Axes.{origin};
+ghost use Rattle.grid_variables.specs.Places.{point_count, normals_of, IsSized};
+ghost use Rattle.grid_rows.specs.Rows.{AreRaws, triple_rows, value_rows};
+ghost use Rattle.grid_rows.specs.Wanted.{given_order, is_optional as is_optional_at, is_named, wanted, zero_of_name};
+ghost use Rattle.grid_rows.specs.Given.{name_rows, wanted_rows, all_rows, given_rows};
 
-use crate::arguments::params_given;
+use crate::arguments::push_parameters;
 use crate::parameters::Parameters;
-use crate::rows::{push_numbers, push_triples};
+use crate::rows::{Rows, length_of_row, push_numbers, push_triples, push_value};
 use bumpalo::Bump;
-use bumpalo::collections::into_bump_slice;
-use fixed_math::{NoMemory, Num};
-use grid_variables::{Leaf, Places, Variables};
-use std::alloc::Allocator;
+use fixed_math::{NoMemory, Num, Vec3};
+use grid_code::{Register, RegisterSet, named};
+use grid_variables::{
+    Along, Leaf, Variables, derivatives, first_colours, first_coordinates, first_normals,
+    first_opacities, geometric_normals, parameters, second_coordinates,
+};
+use sl_ast::{Predefined, SlKind, Value};
 
-/// Appends points and normals.
-fn push_points<A: Allocator>(rows: &mut Vec<Num, A>, variables: &Variables) -> Result<(), NoMemory>
-    requires points { length variables.now.points.now ≤ 289 }
-    requires normals { length variables.now.normals.now ≤ 289 }
-    ensures { IfOk result (λ _. rows.new.items ≡ with_points rows.old.items variables.now) }
+/// The varying variables that a kind is given: those that it reads alone, and then those that it writes.
+fn given(kind: SlKind) -> &'static [Predefined]
+    ensures { result.now ≡ given_order kind }
 {
-    push_triples(rows, variables.points)?;
-    push_triples(rows, variables.normals)
+    match kind {
+        SlKind::Surface => &[
+            Predefined::P,
+            Predefined::N,
+            Predefined::Ng,
+            Predefined::I,
+            Predefined::U,
+            Predefined::V,
+            Predefined::S,
+            Predefined::T,
+            Predefined::Cs,
+            Predefined::Os,
+            Predefined::DPdu,
+            Predefined::DPdv,
+        ],
+        SlKind::Displacement => &[
+            Predefined::Ng,
+            Predefined::I,
+            Predefined::U,
+            Predefined::V,
+            Predefined::S,
+            Predefined::T,
+            Predefined::Cs,
+            Predefined::Os,
+            Predefined::DPdu,
+            Predefined::DPdv,
+            Predefined::P,
+            Predefined::N,
+        ],
+        SlKind::Volume => &[Predefined::P, Predefined::I, Predefined::Ci, Predefined::Oi],
+        SlKind::Light => &[Predefined::Ps],
+    }
 }
 
-/// Appends geometric normals, and the directions in which the points are seen.
-fn push_sights<A: Allocator>(
-    rows: &mut Vec<Num, A>,
-    places: &Places,
+// Whether a surface doesn't need a variable unless its code names it.
+fn is_optional_in_surface(name: Predefined) -> bool
+    ensures { result ≡ is_optional_at kinds.Surface (place_of name) }
+{
+    match name {
+        Predefined::N
+        | Predefined::Ng
+        | Predefined::I
+        | Predefined::U
+        | Predefined::V
+        | Predefined::S
+        | Predefined::T
+        | Predefined::DPdu
+        | Predefined::DPdv => true,
+        Predefined::P
+        | Predefined::E
+        | Predefined::Du
+        | Predefined::Dv
+        | Predefined::Cs
+        | Predefined::Os
+        | Predefined::L
+        | Predefined::Cl
+        | Predefined::Ci
+        | Predefined::Oi
+        | Predefined::Ps
+        | Predefined::Pi => false,
+    }
+}
+
+// Whether a displacement doesn't need a variable unless its code names it.
+fn is_optional_in_displacement(name: Predefined) -> bool
+    ensures { result ≡ is_optional_at kinds.Displacement (place_of name) }
+{
+    match name {
+        Predefined::Ng
+        | Predefined::I
+        | Predefined::U
+        | Predefined::V
+        | Predefined::S
+        | Predefined::T
+        | Predefined::Cs
+        | Predefined::Os
+        | Predefined::DPdu
+        | Predefined::DPdv => true,
+        Predefined::P
+        | Predefined::N
+        | Predefined::E
+        | Predefined::Du
+        | Predefined::Dv
+        | Predefined::L
+        | Predefined::Cl
+        | Predefined::Ci
+        | Predefined::Oi
+        | Predefined::Ps
+        | Predefined::Pi => false,
+    }
+}
+
+// Whether a kind of shader doesn't need a variable unless its code names it.
+fn is_optional(kind: SlKind, name: Predefined) -> bool
+    ensures { result ≡ is_optional_at kind (place_of name) }
+{
+    match kind {
+        SlKind::Surface => is_optional_in_surface(name),
+        SlKind::Displacement => is_optional_in_displacement(name),
+        SlKind::Light | SlKind::Volume => false,
+    }
+}
+
+// Whether a varying register is one of a set.
+fn names(set: &RegisterSet, register: Register) -> bool
+    ensures { result ≡ is_named set.now register }
+{
+    match register {
+        Register::Varying(shape, number) => set.index(shape, number).is_some(),
+        Register::Uniform(_, _) => false,
+    }
+}
+
+/// A kind of shader with the varying registers that its code names. Variables that it can't see are given as 0.
+#[derive(Clone, Copy)]
+pub struct Wanted<'s> {
+    pub kind: SlKind,
+    pub named: &'s RegisterSet,
+}
+
+// Whether a shader is given a variable as it is.
+fn wants(shader: &Wanted, name: Predefined) -> bool
+    ensures { result ≡ wanted shader.now.kind shader.now.named.now name }
+{
+    !is_optional(shader.kind, name) || names(shader.named, named::register_of(name))
+}
+
+// Appends the normals.
+fn push_normals(
+    rows: &mut Rows,
+    arena: &Bump,
+    leaf: &Leaf,
     variables: &Variables,
 ) -> Result<(), NoMemory>
-    requires normals { length places.now.normals.now ≤ 289 }
-    requires sights { length variables.now.sights.now ≤ 289 }
-    ensures { IfOk result (λ _. rows.new.items ≡ with_sights rows.old.items places.now variables.now) }
-{
-    push_triples(rows, places.normals)?;
-    push_triples(rows, variables.sights)
-}
-
-/// Appends u, v, s and t.
-fn push_parameters<A: Allocator>(rows: &mut Vec<Num, A>, places: &Places) -> Result<(), NoMemory>
-    requires u { length places.now.u.now ≤ 289 }
-    requires v { length places.now.v.now ≤ 289 }
-    requires s { length places.now.s.now ≤ 289 }
-    requires t { length places.now.t.now ≤ 289 }
-    ensures { IfOk result (λ _. rows.new.items ≡ with_parameters rows.old.items places.now) }
-{
-    push_numbers(rows, places.u)?;
-    push_numbers(rows, places.v)?;
-    push_numbers(rows, places.s)?;
-    push_numbers(rows, places.t)
-}
-
-/// Appends a primitive's colour and opacity, and the derivatives of the place.
-fn push_look<A: Allocator>(rows: &mut Vec<Num, A>, places: &Places) -> Result<(), NoMemory>
-    requires cs { length places.now.cs.now ≤ 289 }
-    requires os { length places.now.os.now ≤ 289 }
-    requires dpdu { length places.now.dpdu.now ≤ 289 }
-    requires dpdv { length places.now.dpdv.now ≤ 289 }
-    ensures { IfOk result (λ _. rows.new.items ≡ with_look rows.old.items places.now) }
-{
-    push_triples(rows, places.cs)?;
-    push_triples(rows, places.os)?;
-    push_triples(rows, places.dpdu)?;
-    push_triples(rows, places.dpdv)
-}
-
-/// Appends what shaders on a surface are given beside points and normals.
-fn push_rest<A: Allocator>(
-    rows: &mut Vec<Num, A>,
-    points: usize,
-    places: &Places,
-    variables: &Variables,
-) -> Result<(), NoMemory>
-    requires few { points ≤ 289 }
-    requires sights { length variables.now.sights.now ≡ points }
-    requires places { AreLong points places.now }
-    ensures { IfOk result (λ _. rows.new.items ≡ with_rest rows.old.items places.now variables.now) }
-{
-    push_sights(rows, places, variables)?;
-    push_parameters(rows, places)?;
-    push_look(rows, places)
-}
-
-/// The rows that a surface is given.
-pub fn surface_rows<'a>(
-    arena: &'a Bump,
-    leaf: &Leaf,
-    parameters: &Parameters,
-    places: &Places,
-    variables: &Variables,
-) -> Result<&'a [Num], NoMemory>
-    requires places { ArePlaces leaf.now places.now }
-    requires sized { IsSized leaf.now variables.now }
-    ensures { IfOk result (λ rows. rows.now ≡ surface_list (param_rows leaf.now parameters.now.locals parameters.now.slots parameters.now.values) places.now variables.now) }
-{
-    let points = leaf.point_count();
-    let mut rows = params_given(arena, leaf, parameters)?;
-    push_points(&mut rows, variables)?;
-    push_rest(&mut rows, points, places, variables)?;
-    Ok(into_bump_slice(rows))
-}
-
-/// The rows that a displacement is given.
-pub fn displacement_rows<'a>(
-    arena: &'a Bump,
-    leaf: &Leaf,
-    parameters: &Parameters,
-    places: &Places,
-    variables: &Variables,
-) -> Result<&'a [Num], NoMemory>
-    requires places { ArePlaces leaf.now places.now }
-    requires sized { IsSized leaf.now variables.now }
-    ensures { IfOk result (λ rows. rows.now ≡ displacement_list (param_rows leaf.now parameters.now.locals parameters.now.slots parameters.now.values) places.now variables.now) }
-{
-    let points = leaf.point_count();
-    let mut rows = params_given(arena, leaf, parameters)?;
-    push_rest(&mut rows, points, places, variables)?;
-    push_points(&mut rows, variables)?;
-    Ok(into_bump_slice(rows))
-}
-
-/// The rows that a volume is given.
-pub fn volume_rows<'a>(
-    arena: &'a Bump,
-    leaf: &Leaf,
-    parameters: &Parameters,
-    variables: &Variables,
-) -> Result<&'a [Num], NoMemory>
-    requires sized { IsSized leaf.now variables.now }
-    requires coloured { IsColoured leaf.now variables.now }
-    ensures { IfOk result (λ rows. rows.now ≡ volume_list (param_rows leaf.now parameters.now.locals parameters.now.slots parameters.now.values) variables.now) }
+    requires { length (normals_of leaf.now variables.now.normals) ≡ point_count leaf.now }
+    ensures { IfOk result (λ _. rows.new ≡ rows.old ++ triple_rows (normals_of leaf.now variables.now.normals)) }
 {
     let _points = leaf.point_count();
-    let mut rows = params_given(arena, leaf, parameters)?;
-    push_triples(&mut rows, variables.points)?;
-    push_triples(&mut rows, variables.sights)?;
-    push_triples(&mut rows, variables.colours)?;
-    push_triples(&mut rows, variables.opacities)?;
-    Ok(into_bump_slice(rows))
+    match variables.normals {
+        Some(normals) => push_triples(rows, normals),
+        None => push_triples(rows, first_normals(arena, leaf)?),
+    }
+}
+
+// Appends the rows of a variable.
+fn push_name(
+    rows: &mut Rows,
+    arena: &Bump,
+    leaf: &Leaf,
+    variables: &Variables,
+    name: Predefined,
+) -> Result<(), NoMemory>
+    requires sized { IsSized leaf.now variables.now }
+    ensures { IfOk result (λ _. rows.new ≡ rows.old ++ name_rows leaf.now variables.now name) }
+{
+    let _points = leaf.point_count();
+    match name {
+        Predefined::P => push_triples(rows, variables.points),
+        Predefined::N => push_normals(rows, arena, leaf, variables),
+        Predefined::Ng => push_triples(rows, geometric_normals(arena, leaf)?),
+        Predefined::I => push_triples(rows, variables.sights),
+        Predefined::U => push_numbers(rows, parameters(arena, leaf, Along::U)?),
+        Predefined::V => push_numbers(rows, parameters(arena, leaf, Along::V)?),
+        Predefined::S => push_numbers(rows, first_coordinates(arena, leaf)?),
+        Predefined::T => push_numbers(rows, second_coordinates(arena, leaf)?),
+        Predefined::Cs => push_triples(rows, first_colours(arena, leaf)?),
+        Predefined::Os => push_triples(rows, first_opacities(arena, leaf)?),
+        Predefined::DPdu => push_triples(rows, derivatives(arena, leaf, Along::U)?),
+        Predefined::DPdv => push_triples(rows, derivatives(arena, leaf, Along::V)?),
+        Predefined::Ci => push_triples(rows, variables.colours),
+        Predefined::Oi => push_triples(rows, variables.opacities),
+        Predefined::E
+        | Predefined::Du
+        | Predefined::Dv
+        | Predefined::L
+        | Predefined::Cl
+        | Predefined::Ps
+        | Predefined::Pi => Ok(()),
+    }
+}
+
+// The value 0 of a predefined variable.
+fn zero_for(name: Predefined) -> Value
+    ensures { result ≡ zero_of_name name }
+{
+    match name {
+        Predefined::U
+        | Predefined::V
+        | Predefined::Du
+        | Predefined::Dv
+        | Predefined::S
+        | Predefined::T
+        | Predefined::Pi => Value::Number(Num::default()),
+        Predefined::P
+        | Predefined::N
+        | Predefined::Ng
+        | Predefined::I
+        | Predefined::E
+        | Predefined::Cs
+        | Predefined::Os
+        | Predefined::DPdu
+        | Predefined::DPdv
+        | Predefined::L
+        | Predefined::Cl
+        | Predefined::Ci
+        | Predefined::Oi
+        | Predefined::Ps => Value::Triple(nowhere()),
+    }
+}
+
+// Three zeros.
+fn nowhere() -> Vec3
+    ensures { result ≡ origin }
+{
+    Vec3 {
+        x: Num::default(),
+        y: Num::default(),
+        z: Num::default(),
+    }
+}
+
+// Appends zeros for a variable.
+fn push_zeros(rows: &mut Rows, leaf: &Leaf, name: Predefined) -> Result<(), NoMemory>
+    ensures { IfOk result (λ _. rows.new ≡ rows.old ++ value_rows (point_count leaf.now) (zero_of_name name)) }
+{
+    push_value(rows, &zero_for(name), leaf.point_count())
+}
+
+// Appends the rows of a variable as a shader is given it.
+fn push_wanted(
+    rows: &mut Rows,
+    arena: &Bump,
+    leaf: &Leaf,
+    shader: &Wanted,
+    variables: &Variables,
+    name: Predefined,
+) -> Result<(), NoMemory>
+    requires { IsSized leaf.now variables.now }
+    ensures { IfOk result (λ _. rows.new ≡ rows.old ++ wanted_rows shader.now.kind shader.now.named.now leaf.now variables.now name) }
+{
+    if wants(shader, name) {
+        push_name(rows, arena, leaf, variables, name)
+    } else {
+        push_zeros(rows, leaf, name)
+    }
+}
+
+// Appends the rows of variables as a shader is given them.
+fn push_all(
+    rows: &mut Rows,
+    arena: &Bump,
+    leaf: &Leaf,
+    shader: &Wanted,
+    variables: &Variables,
+    names: &[Predefined],
+) -> Result<(), NoMemory>
+    requires { IsSized leaf.now variables.now }
+    ensures { IfOk result (λ _. rows.new ≡ rows.old ++ all_rows (wanted_rows shader.now.kind shader.now.named.now leaf.now variables.now) names.now) }
+{
+    for name in names {
+        push_wanted(rows, arena, leaf, shader, variables, *name)?;
+    }
+    Ok(())
+}
+
+/// The rows that a shader is given: those of its parameters that vary, and those of the varying variables of its kind.
+pub fn rows_given<'a>(
+    arena: &'a Bump,
+    leaf: &Leaf,
+    parameters: &Parameters,
+    shader: &Wanted,
+    variables: &Variables,
+) -> Result<&'a [i64], NoMemory>
+    requires { IsSized leaf.now variables.now }
+    ensures value { IfOk result (λ rows. rows.now ≡ given_rows leaf.now parameters.now shader.now.kind shader.now.named.now variables.now) }
+    ensures small { IfOk result (λ rows. AreRaws rows.now) }
+{
+    let mut rows = Rows::new(arena, 28 * length_of_row(leaf.point_count()))?;
+    push_parameters(&mut rows, arena, leaf, parameters)?;
+    push_all(
+        &mut rows,
+        arena,
+        leaf,
+        shader,
+        variables,
+        given(shader.kind),
+    )?;
+    Ok(rows.kept())
 }

@@ -49,7 +49,7 @@ fn triples_from<'a>(
     ensures { IfOk result (λ ts. ts.now ≡ over points (triple_in rows.now (row_length points) first)) }
 {
     let width = length_of_row(points);
-    let mut triples = Vec::new(arena);
+    let mut triples = Vec::with_capacity(arena, points)?;
     for i in 0..points {
         triples.push(triple_at(rows, width, first, i))?;
     }

@@ -8,7 +8,7 @@ mod parameters;
 mod rows;
 
 pub use arguments::{surface_values, uniform_values};
-pub use given::{displacement_rows, surface_rows, volume_rows};
+pub use given::{Wanted, rows_given};
 pub use left::triples_left;
 pub use parameters::Parameters;
-pub use rows::{length_of_row, raws_of};
+pub use rows::length_of_row;

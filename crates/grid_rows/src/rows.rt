@@ -1,5 +1,5 @@
-// Rows of numbers, as code takes them.
-ghost use Rattle.std.specs.Prelude.{◌≡◌, ◌≤◌, ◌-◌, ◌++◌, pos, length, map, replicate, IfOk};
+// Rows of raws, as code takes them.
+ghost use Rattle.std.specs.Prelude.{◌≡◌, ◌≤◌, ◌-◌, ◌++◌, ◌∷◌, [], pos, length, map, replicate, IfOk};
 ghost use Rattle.fixed_math.specs.Axes.{part_of};
 ghost use Rattle.place_rows.specs.Layout.{row_length};
 ghost use Rattle.grid_rows.specs.Rows.{row_of, triple_rows, value_rows, AreRaws};
@@ -8,7 +8,51 @@ use bumpalo::Bump;
 use bumpalo::collections::into_bump_slice;
 use fixed_math::{Axis, NoMemory, Num, Vec3};
 use sl_ast::Value;
-use std::alloc::Allocator;
+use std::marker::Model;
+
+/// Rows of raws in an arena, one behind another. Contracts see them as the list of the raws.
+#[derive(Drop)]
+pub(crate) struct Rows<'a> {
+    raws: Vec<i64, &'a Bump>,
+}
+
+impl<'a> Model for Rows<'a> {
+    ghost use Rattle.std.specs.Prelude.{ℤ, List};
+    ghost use Rattle.grid_rows.specs.Rows.{AreRaws};
+
+    ghost Value = { List ℤ };
+
+    ghost view = { λ r. r.raws.items };
+
+    ghost invariant = { λ r. AreRaws r.raws.items };
+}
+
+impl<'a> Rows<'a> {
+    /// No rows, with room for so many numbers.
+    pub(crate) fn new(arena: &'a Bump, room: usize) -> Result<Rows<'a>, NoMemory>
+        ensures { IfOk result (λ rows. rows ≡ []) }
+    {
+        let raws = Vec::with_capacity(arena, room)?;
+        Ok(Rows { raws })
+    }
+
+    /// Appends a number.
+    fn push(&mut self, number: Num) -> Result<(), NoMemory>
+        ensures { IfOk result (λ _. self.new ≡ self.old ++ number ∷ []) }
+    {
+        self.raws.push(number.raw())?;
+        Ok(())
+    }
+
+    /// The raws, which stay in the arena.
+    pub(crate) fn kept(self) -> &'a [i64]
+        ensures value { result.now ≡ self.entry }
+        ensures small { AreRaws result.now }
+    {
+        let Rows { raws } = self;
+        into_bump_slice(raws)
+    }
+}
 
 /// How many elements a row of `points` numbers takes: the least multiple of eight.
 pub fn length_of_row(points: usize) -> usize
@@ -21,9 +65,9 @@ pub fn length_of_row(points: usize) -> usize
 }
 
 /// Fills a row of `points` numbers up with zeros.
-fn fill_up<A: Allocator>(rows: &mut Vec<Num, A>, points: usize) -> Result<(), NoMemory>
+fn fill_up(rows: &mut Rows, points: usize) -> Result<(), NoMemory>
     requires { points ≤ 289 }
-    ensures { IfOk result (λ _. rows.new.items ≡ rows.old.items ++ replicate (row_length points - points) (pos 0)) }
+    ensures { IfOk result (λ _. rows.new ≡ rows.old ++ replicate (row_length points - points) (pos 0)) }
 {
     for _rest in 0..length_of_row(points) - points {
         rows.push(Num::default())?;
@@ -32,12 +76,9 @@ fn fill_up<A: Allocator>(rows: &mut Vec<Num, A>, points: usize) -> Result<(), No
 }
 
 /// Appends a row of numbers, one for each point.
-pub(crate) fn push_numbers<A: Allocator>(
-    rows: &mut Vec<Num, A>,
-    numbers: &[Num],
-) -> Result<(), NoMemory>
+pub(crate) fn push_numbers(rows: &mut Rows, numbers: &[Num]) -> Result<(), NoMemory>
     requires { length numbers.now ≤ 289 }
-    ensures { IfOk result (λ _. rows.new.items ≡ rows.old.items ++ row_of numbers.now) }
+    ensures { IfOk result (λ _. rows.new ≡ rows.old ++ row_of numbers.now) }
 {
     for number in numbers {
         rows.push(*number)?;
@@ -46,13 +87,9 @@ pub(crate) fn push_numbers<A: Allocator>(
 }
 
 /// Appends a row of one coordinate of triples.
-pub(crate) fn push_parts<A: Allocator>(
-    rows: &mut Vec<Num, A>,
-    triples: &[Vec3],
-    axis: Axis,
-) -> Result<(), NoMemory>
+pub(crate) fn push_parts(rows: &mut Rows, triples: &[Vec3], axis: Axis) -> Result<(), NoMemory>
     requires { length triples.now ≤ 289 }
-    ensures { IfOk result (λ _. rows.new.items ≡ rows.old.items ++ row_of (map (part_of axis) triples.now)) }
+    ensures { IfOk result (λ _. rows.new ≡ rows.old ++ row_of (map (part_of axis) triples.now)) }
 {
     for triple in triples {
         rows.push(triple.part(axis))?;
@@ -61,12 +98,9 @@ pub(crate) fn push_parts<A: Allocator>(
 }
 
 /// Appends the three rows of triples, one for each point.
-pub(crate) fn push_triples<A: Allocator>(
-    rows: &mut Vec<Num, A>,
-    triples: &[Vec3],
-) -> Result<(), NoMemory>
+pub(crate) fn push_triples(rows: &mut Rows, triples: &[Vec3]) -> Result<(), NoMemory>
     requires { length triples.now ≤ 289 }
-    ensures { IfOk result (λ _. rows.new.items ≡ rows.old.items ++ triple_rows triples.now) }
+    ensures { IfOk result (λ _. rows.new ≡ rows.old ++ triple_rows triples.now) }
 {
     push_parts(rows, triples, Axis::X)?;
     push_parts(rows, triples, Axis::Y)?;
@@ -74,13 +108,9 @@ pub(crate) fn push_triples<A: Allocator>(
 }
 
 /// Appends a row of one number at all points.
-fn push_same<A: Allocator>(
-    rows: &mut Vec<Num, A>,
-    number: Num,
-    points: usize,
-) -> Result<(), NoMemory>
+fn push_same(rows: &mut Rows, number: Num, points: usize) -> Result<(), NoMemory>
     requires { points ≤ 289 }
-    ensures { IfOk result (λ _. rows.new.items ≡ rows.old.items ++ row_of (replicate points number)) }
+    ensures { IfOk result (λ _. rows.new ≡ rows.old ++ row_of (replicate points number)) }
 {
     for _point in 0..points {
         rows.push(number)?;
@@ -89,13 +119,9 @@ fn push_same<A: Allocator>(
 }
 
 /// Appends the rows of a number or triple that is the same at all points.
-pub(crate) fn push_value<A: Allocator>(
-    rows: &mut Vec<Num, A>,
-    value: &Value,
-    points: usize,
-) -> Result<(), NoMemory>
+pub(crate) fn push_value(rows: &mut Rows, value: &Value, points: usize) -> Result<(), NoMemory>
     requires { points ≤ 289 }
-    ensures { IfOk result (λ _. rows.new.items ≡ rows.old.items ++ value_rows points value.now) }
+    ensures { IfOk result (λ _. rows.new ≡ rows.old ++ value_rows points value.now) }
 {
     match value {
         Value::Number(number) => push_same(rows, *number, points),
@@ -106,16 +132,4 @@ pub(crate) fn push_value<A: Allocator>(
         }
         Value::Word(_) => Ok(()),
     }
-}
-
-/// The raws of rows.
-pub fn raws_of<'a>(arena: &'a Bump, rows: &[Num]) -> Result<&'a [i64], NoMemory>
-    ensures value { IfOk result (λ raws. raws.now ≡ rows.now) }
-    ensures small { IfOk result (λ raws. AreRaws raws.now) }
-{
-    let mut raws = Vec::new(arena);
-    for number in rows {
-        raws.push(number.raw())?;
-    }
-    Ok(into_bump_slice(raws))
 }

@@ -3,8 +3,9 @@ use Rattle.std.proofs.Common.{◌≡◌, ℤ, pos, neg_ℤ, ◌+ℤ◌, ◌-ℤ�
 use Rattle.std.specs.Int.{int_max, int_min, w64, w128}
 use Rattle.std.proofs.lemmas.Int.{ints}
 use Rattle.fixed_math.specs.Fixed.{sat}
+use Rattle.fixed_math.specs.declared.vec3.Vec3.{Vec3}
 use Rattle.fixed_math.proofs.Sat.{sat_of_raw}
-use Rattle.grid_variables.specs.Kept.{kept_near, share}
+use Rattle.grid_variables.specs.Kept.{kept_near, moved, share}
 
 max_low : (m x y : ℤ) → m ≤ℤ y → m ≤ℤ int_max x y
 max_low m x y h = grind (arith, ints)
@@ -88,3 +89,15 @@ share_high x = grind (arith, ints)
 
 pub share_raw : (x : ℤ) → sat (share x) ≡ share x
 share_raw x = sat_of_raw (share x) (share_low x) (share_high x)
+
+-- what doesn't move stays
+unmoved_coordinate : (bound x : ℤ) → pos 0 ≤ℤ bound → kept_near bound x x ≡ x
+unmoved_coordinate bound x h = grind (arith, ints)
+
+pub unmoved : (bound : ℤ) (p : Vec3) → pos 0 ≤ℤ bound → moved bound p p ≡ p
+unmoved bound p h =
+    ap (λ x. triple x (kept_near bound p.y p.y) (kept_near bound p.z p.z)) (unmoved_coordinate bound p.x h)
+    ∙ ap (λ y. triple p.x y (kept_near bound p.z p.z)) (unmoved_coordinate bound p.y h) ∙ ap (λ z. triple p.x p.y z) (unmoved_coordinate bound p.z h)
+  where
+    triple : ℤ → ℤ → ℤ → Vec3
+    triple x y z = record { x = x; y = y; z = z }

@@ -1,4 +1,5 @@
 pub mod Passing
+pub mod LastNamed
 pub mod Results
 pub mod Bounded
 pub mod Over

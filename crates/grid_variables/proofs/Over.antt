@@ -24,3 +24,7 @@ over_map h f g c d e k =
 -- what a function makes of the first elements, and of one more
 pub taken_more : {A B : Type 0} (f : A → B) (xs : List A) (i : ℕ) (items new : List B) (y : B) (d : A) → i < length xs → new ≡ items ++ y ∷ [] → y ≡ f (get_or xs i d) → items ≡ map f (take i xs) → new ≡ map f (take (i + 1) xs)
 taken_more f xs i items new y d l e p h = e ∙ ap (λ z. items ++ z ∷ []) p ∙ ap (λ zs. zs ++ f (get_or xs i d) ∷ []) h ∙ sym (map_more f xs i d l)
+
+-- a function that makes one thing of all
+pub over_alike : {A B : Type 0} (h : A → B) (x : B) (xs : List A) (d : A) → ((y : A) → h y ≡ x) → map h xs ≡ over (length xs) (λ i. x)
+over_alike h x xs d k = over_all (λ i. x) (map h xs) (length xs) x (length-map xs h) (λ i l. get_or-map h xs i d x l ∙ k (get_or xs i d))

@@ -62,6 +62,9 @@ abbrev pub last_passing : (VariableValue → Bool) → List VariableValue → Op
 last_passing test [] = None
 last_passing test (x ∷ xs) = option_or (last_passing test xs) (cond (test x) (Some x) None)
 
+abbrev pub variable_name : VariableValue → List ℕ
+variable_name x = x.name
+
 abbrev pub variable_named : List ℕ → List VariableValue → Option VariableValue
 variable_named name xs = last_passing (λ x. bytes_eq x.name name) xs
 

@@ -2,15 +2,16 @@
 ghost use Rattle.std.specs.Prelude.{◌≡◌, length, map, IfOk};
 ghost use Rattle.fixed_math.specs.Axes.{part_of};
 ghost use Rattle.builtins.specs.Triples.{normalize as unit_of};
-ghost use Rattle.grid_variables.specs.Points.{turned as turned_by, normal_of};
-ghost use Rattle.grid_variables.specs.Variables.{spread_by, spread as spread_of, triple_or, variable_named as variable_of, is_pair as is_pair_of, setter as setter_of, texture_part, texture_or as coordinate_or, cs_at, os_at, given_normal, n_at};
+ghost use Rattle.grid_variables.specs.Points.{turned as turned_by};
+ghost use Rattle.grid_variables.specs.Variables.{spread_by, spread as spread_of, triple_or, variable_named as variable_of, is_pair as is_pair_of, setter as setter_of, texture_part, texture_or as coordinate_or, cs_at, os_at, s_at, t_at, given_normal, n_at};
 ghost use Rattle.grid_variables.specs.Places.{point_count, over, parameter_at};
 
 use crate::corners::{between, corners_of, is_varying};
 use crate::leaf::{Along, Leaf};
-use crate::moves::turned;
+use crate::moves::{same, turned};
 use crate::named::{is_pair, setter, variable_named};
 use crate::places::parameters;
+use crate::stages::geometric_normals;
 use builtins::normalize;
 use bumpalo::Bump;
 use bumpalo::collections::into_bump_slice;
@@ -28,22 +29,11 @@ pub fn spread<'a>(
 {
     let corners = corners_of(turn, variable, leaf.object());
     let varying = is_varying(variable);
-    let mut values = Vec::new(arena);
+    let mut values = Vec::with_capacity(arena, leaf.point_count())?;
     for i in 0..leaf.point_count() {
         values.push(between(varying, &corners, leaf.own_u(i), leaf.own_v(i)))?;
     }
     Ok(into_bump_slice(values))
-}
-
-/// One triple at all points.
-fn same<'a>(arena: &'a Bump, points: usize, triple: &Vec3) -> Result<&'a [Vec3], NoMemory>
-    ensures { IfOk result (λ ts. ts.now ≡ over points (λ _. triple.now)) }
-{
-    let mut triples = Vec::new(arena);
-    for _point in 0..points {
-        triples.push(*triple)?;
-    }
-    Ok(into_bump_slice(triples))
 }
 
 /// The values of the variable of that name at all points, or one triple where there is none.
@@ -62,14 +52,14 @@ fn triples_or<'a>(
 }
 
 /// The colours that shaders begin with.
-pub(crate) fn first_colours<'a>(arena: &'a Bump, leaf: &Leaf) -> Result<&'a [Vec3], NoMemory>
+pub fn first_colours<'a>(arena: &'a Bump, leaf: &Leaf) -> Result<&'a [Vec3], NoMemory>
     ensures { IfOk result (λ ts. ts.now ≡ over (point_count leaf.now) (cs_at leaf.now)) }
 {
     triples_or(arena, leaf, "Cs", leaf.cs())
 }
 
 /// The opacities that shaders begin with.
-pub(crate) fn first_opacities<'a>(arena: &'a Bump, leaf: &Leaf) -> Result<&'a [Vec3], NoMemory>
+pub fn first_opacities<'a>(arena: &'a Bump, leaf: &Leaf) -> Result<&'a [Vec3], NoMemory>
     ensures { IfOk result (λ ts. ts.now ≡ over (point_count leaf.now) (os_at leaf.now)) }
 {
     triples_or(arena, leaf, "Os", leaf.os())
@@ -79,7 +69,7 @@ pub(crate) fn first_opacities<'a>(arena: &'a Bump, leaf: &Leaf) -> Result<&'a [V
 fn parts<'a>(arena: &'a Bump, triples: &[Vec3], axis: Axis) -> Result<&'a [Num], NoMemory>
     ensures { IfOk result (λ xs. xs.now ≡ map (part_of axis) triples.now) }
 {
-    let mut numbers = Vec::new(arena);
+    let mut numbers = Vec::with_capacity(arena, triples.len())?;
     for triple in triples {
         numbers.push(triple.part(axis))?;
     }
@@ -107,7 +97,7 @@ fn texture_by<'a>(
 }
 
 /// The coordinate of textures of that name at all points, or the parameter where no variable sets it.
-pub(crate) fn texture_or<'a>(
+fn texture_or<'a>(
     arena: &'a Bump,
     leaf: &Leaf,
     name: &str,
@@ -122,11 +112,25 @@ pub(crate) fn texture_or<'a>(
     }
 }
 
+/// s at all points.
+pub fn first_coordinates<'a>(arena: &'a Bump, leaf: &Leaf) -> Result<&'a [Num], NoMemory>
+    ensures { IfOk result (λ xs. xs.now ≡ over (point_count leaf.now) (s_at leaf.now)) }
+{
+    texture_or(arena, leaf, "s", Along::U, Axis::X)
+}
+
+/// t at all points.
+pub fn second_coordinates<'a>(arena: &'a Bump, leaf: &Leaf) -> Result<&'a [Num], NoMemory>
+    ensures { IfOk result (λ xs. xs.now ≡ over (point_count leaf.now) (t_at leaf.now)) }
+{
+    texture_or(arena, leaf, "t", Along::V, Axis::Y)
+}
+
 /// Vectors made of length 1, and turned over where that is asked.
 fn units<'a>(arena: &'a Bump, vectors: &[Vec3], flip: bool) -> Result<&'a [Vec3], NoMemory>
     ensures { IfOk result (λ ns. ns.now ≡ map (λ v. turned_by flip (unit_of v)) vectors.now) }
 {
-    let mut units = Vec::new(arena);
+    let mut units = Vec::with_capacity(arena, vectors.len())?;
     for vector in vectors {
         units.push(turned(flip, &normalize(*vector)))?;
     }
@@ -146,17 +150,12 @@ fn given_normals<'a>(
     units(arena, vectors, leaf.flip())
 }
 
-/// The normals that shaders begin with: the given ones, else these geometric ones.
-pub(crate) fn normals_or<'a>(
-    arena: &'a Bump,
-    leaf: &Leaf,
-    geometric: &'a [Vec3],
-) -> Result<&'a [Vec3], NoMemory>
-    requires { geometric.now ≡ over (point_count leaf.now) (normal_of leaf.now) }
+/// The normals that shaders begin with: the given ones, else the geometric ones.
+pub fn first_normals<'a>(arena: &'a Bump, leaf: &Leaf) -> Result<&'a [Vec3], NoMemory>
     ensures { IfOk result (λ ns. ns.now ≡ over (point_count leaf.now) (n_at leaf.now)) }
 {
     match variable_named(leaf.variables(), "N") {
-        None => Ok(geometric),
+        None => geometric_normals(arena, leaf),
         Some(variable) => given_normals(arena, leaf, variable),
     }
 }

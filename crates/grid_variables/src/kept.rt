@@ -60,7 +60,7 @@ pub(crate) fn kept_points<'a>(
     requires alike { length new.now ≡ length old.now }
     ensures { IfOk result (λ ps. ps.now ≡ over (length old.now) (λ i. moved_by bound (get_or old.now i origin) (get_or new.now i origin))) }
 {
-    let mut points = Vec::new(arena);
+    let mut points = Vec::with_capacity(arena, old.len())?;
     for i in 0..old.len() {
         points.push(moved(bound, &old[i], &new[i]))?;
     }
@@ -78,7 +78,7 @@ pub fn kept_near<'a>(
     requires new { IsSized leaf.now new.now }
     ensures points { IfOk result (λ e. e.points.now ≡ over (length old.now.points.now) (λ i. moved_by leaf.now.prim.bound (get_or old.now.points.now i origin) (get_or new.now.points.now i origin))) }
     ensures sights { IfOk result (λ e. e.sights.now ≡ map (sight leaf.now.camera) e.points.now) }
-    ensures normals { IfOk result (λ e. e.normals.now ≡ new.now.normals.now) }
+    ensures normals { IfOk result (λ e. e.normals ≡ new.now.normals) }
     ensures colours { IfOk result (λ e. e.colours.now ≡ new.now.colours.now) }
     ensures opacities { IfOk result (λ e. e.opacities.now ≡ new.now.opacities.now) }
 {
@@ -122,7 +122,7 @@ pub(crate) fn kept_opacities<'a>(
 ) -> Result<&'a [Vec3], NoMemory>
     ensures { IfOk result (λ os. os.now ≡ map opacity_of opacities.now) }
 {
-    let mut shares = Vec::new(arena);
+    let mut shares = Vec::with_capacity(arena, opacities.len())?;
     for each in opacities {
         shares.push(opacity(each))?;
     }

@@ -1,11 +1,13 @@
 // A leaf of a primitive, and what is known of a place of its grid.
-ghost use Rattle.std.specs.Prelude.{◌≡◌, ◌≤◌, ◌<◌, ◌*◌};
+ghost use Rattle.std.specs.Prelude.{◌≡◌, ◌≤◌, ◌<◌, ◌*◌, ◌≤ℤ◌, pos, option_map};
 ghost use Rattle.dice.specs.Grids.{line_count};
 ghost use Rattle.grid_variables.specs.Points.{Leaf as LeafValue, columns, rows, own_u, own_v, lines};
 ghost use Rattle.grid_variables.specs.Places.{point_count, parameter_at, derivative_at};
+ghost use Rattle.grid_variables.specs.Variables.{bound_variable as bound_of};
 
+use crate::named::NamedVariables;
 use dice::{line_at, placed_derivative, placed_parameter, placed_step};
-use fixed_math::{Num, Vec3};
+use fixed_math::{Num, Text, Vec3};
 use patches::{Dyadic, Piece, Surface};
 use scene::{Prim, Variable};
 use std::marker::Model;
@@ -13,17 +15,19 @@ use transforms::{Affine, Camera};
 
 /// One of both directions of a surface's parameters.
 #[derive(Clone, Copy)]
-pub(crate) enum Along {
+pub enum Along {
     U,
     V,
 }
 
 /// A part of a primitive of a frame, to be cut into 2^`p` cells by 2^`q`; `p` and `q` are at most 4.
+/// `named` are the primitive's variables.
 #[derive(Drop)]
 pub struct Leaf<'s> {
     pub camera: &'s Camera,
     pub world: &'s Affine,
     pub prim: &'s Prim,
+    pub named: NamedVariables<'s>,
     pub piece: &'s Piece,
     pub p: u8,
     pub q: u8,
@@ -34,7 +38,7 @@ impl<'s> Model for Leaf<'s> {
 
     ghost view = { λ l. record { camera = l.camera.now; world = l.world.now; prim = l.prim.now; part = l.piece.now; p = l.p; q = l.q } };
 
-    ghost invariant = { λ l. (l.p ≤ 4) × (l.q ≤ 4) };
+    ghost invariant = { λ l. (l.p ≤ 4) × ((l.q ≤ 4) × (l.named ≡ l.prim.now.vars)) };
 }
 
 /// The number of lines that bound 2^`p` cells.
@@ -140,6 +144,15 @@ impl<'s> Leaf<'s> {
         placed_step(prim.place[3], piece.b, self.q)
     }
 
+    /// How far a displacement moves its points in each coordinate, at least 0.
+    pub fn bound(&self) -> Num
+        ensures value { result ≡ self.now.prim.bound }
+        ensures least { pos 0 ≤ℤ self.now.prim.bound }
+    {
+        let prim = self.prim;
+        prim.bound
+    }
+
     /// The use of its primitive's displacement.
     pub fn displacement(&self) -> Option<u32>
         ensures { result ≡ self.now.prim.displacement }
@@ -210,6 +223,13 @@ impl<'s> Leaf<'s> {
     {
         let prim = self.prim;
         prim.vars.as_slice()
+    }
+
+    /// The variable of its primitive that binds to the parameter of that name.
+    pub fn bound_variable(&self, name: &Text) -> Option<&'s Variable>
+        ensures { option_map (λ x. x.now) result ≡ bound_of name.now self.now.prim.vars }
+    {
+        self.named.bound(name)
     }
 
     /// The uses of its primitive's lights.

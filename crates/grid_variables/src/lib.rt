@@ -14,11 +14,13 @@ mod stages;
 mod values;
 mod variables;
 
-pub use at_points::spread;
+pub use at_points::{
+    first_colours, first_coordinates, first_normals, first_opacities, second_coordinates, spread,
+};
 pub use kept::kept_near;
-pub use leaf::Leaf;
-pub use named::bound_variable;
-pub use places::Places;
-pub use stages::{Start, begun, grid_of};
+pub use leaf::{Along, Leaf};
+pub use named::NamedVariables;
+pub use places::{derivatives, parameters};
+pub use stages::{begun, geometric_normals, grid_of};
 pub use values::{kind_of, value_or};
 pub use variables::Variables;

@@ -1,7 +1,9 @@
 // Normals turned over, and the directions in which points are seen.
-ghost use Rattle.std.specs.Prelude.{◌≡◌, map, IfOk};
+ghost use Rattle.std.specs.Prelude.{◌≡◌, None, map, IfOk};
+ghost use Rattle.fixed_math.specs.declared.vec3.Vec3.{Vec3 as AnyVec3};
 ghost use Rattle.builtins.specs.Triples.{negated as negated_of};
-ghost use Rattle.grid_variables.specs.Points.{turned as turned_by, flat_or as flat_of, sight as sight_of};
+ghost use Rattle.grid_variables.specs.Points.{turned as turned_by, sight_by, sight as sight_of};
+ghost use Rattle.grid_variables.specs.Places.{over};
 
 use bumpalo::Bump;
 use bumpalo::collections::into_bump_slice;
@@ -24,42 +26,47 @@ pub(crate) fn turned(flip: bool, normal: &Vec3) -> Vec3
     if flip { negated(normal) } else { *normal }
 }
 
-fn flat_or(flat: &Option<Vec3>, normal: &Vec3) -> Vec3
-    ensures { result ≡ flat_of flat.now normal.now }
-{
-    match flat {
-        Some(flat) => *flat,
-        None => *normal,
-    }
-}
-
-/// The normals of a primitive from the units of its patch: those of a flat one are its own, and they are turned over where it is.
-pub(crate) fn primitive_normals<'a>(
+/// Normals turned over where that is asked.
+pub(crate) fn all_turned<'a>(
     arena: &'a Bump,
-    flat: &Option<Vec3>,
     flip: bool,
-    normals: &[Vec3],
+    normals: &'a [Vec3],
 ) -> Result<&'a [Vec3], NoMemory>
-    ensures { IfOk result (λ ns. ns.now ≡ map (λ n. turned_by flip (flat_of flat.now n)) normals.now) }
+    ensures { IfOk result (λ ns. ns.now ≡ map (λ n. turned_by flip n) normals.now) }
 {
-    let mut turning = Vec::new(arena);
+    if !flip {
+        return Ok(normals);
+    }
+    let mut turning = Vec::with_capacity(arena, normals.len())?;
     for normal in normals {
-        turning.push(turned(flip, &flat_or(flat, normal)))?;
+        turning.push(turned(flip, normal))?;
     }
     Ok(into_bump_slice(turning))
 }
 
-/// The direction in which a camera sees a point.
-fn sight(view: &View, point: &Vec3) -> Vec3
-    ensures { result ≡ sight_of view.now point.now }
+/// One triple at all points.
+pub(crate) fn same<'a>(
+    arena: &'a Bump,
+    points: usize,
+    triple: &Vec3,
+) -> Result<&'a [Vec3], NoMemory>
+    ensures { IfOk result (λ ts. ts.now ≡ over points (λ _. triple.now)) }
 {
-    match view.fov {
-        Some(_) => *point,
-        None => Vec3 {
-            x: Num::default(),
-            y: Num::default(),
-            z: Num::sat(65536),
-        },
+    let mut triples = Vec::with_capacity(arena, points)?;
+    for _point in 0..points {
+        triples.push(*triple)?;
+    }
+    Ok(into_bump_slice(triples))
+}
+
+/// The direction in which a camera without perspective sees all points.
+fn ahead() -> Vec3
+    ensures { (p : AnyVec3) → result ≡ sight_by None p }
+{
+    Vec3 {
+        x: Num::default(),
+        y: Num::default(),
+        z: Num::sat(65536),
     }
 }
 
@@ -67,13 +74,12 @@ fn sight(view: &View, point: &Vec3) -> Vec3
 pub(crate) fn sights<'a>(
     arena: &'a Bump,
     view: &View,
-    points: &[Vec3],
+    points: &'a [Vec3],
 ) -> Result<&'a [Vec3], NoMemory>
     ensures { IfOk result (λ is. is.now ≡ map (sight_of view.now) points.now) }
 {
-    let mut directions = Vec::new(arena);
-    for point in points {
-        directions.push(sight(view, point))?;
+    match view.fov {
+        Some(_) => Ok(points),
+        None => same(arena, points.len(), &ahead()),
     }
-    Ok(into_bump_slice(directions))
 }

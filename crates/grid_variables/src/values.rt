@@ -4,7 +4,6 @@ ghost use Rattle.grid_variables.specs.Variables.{spread as spread_of, text_of as
 
 use crate::corners::{between, corners_of, is_varying};
 use crate::leaf::Leaf;
-use crate::named::bound_variable;
 use builtins::copied;
 use fixed_math::{NoMemory, Text, Vec3};
 use scene::{Kind, Values, Variable};
@@ -72,7 +71,7 @@ fn value_at(alloc: Global, leaf: &Leaf, variable: &Variable) -> Result<Value, No
 pub fn value_or(alloc: Global, leaf: &Leaf, name: &Text, value: &Value) -> Result<Value, NoMemory>
     ensures { IfOk result (λ v. v ≡ value_else leaf.now 0 (bound_of name.now leaf.now.prim.vars) value.now) }
 {
-    match bound_variable(leaf.variables(), name) {
+    match leaf.bound_variable(name) {
         None => copied(alloc, value),
         Some(variable) => value_at(alloc, leaf, variable),
     }

@@ -19,3 +19,4 @@ pub mod Showings
 pub mod Frames
 pub mod Depths
 pub mod Flats
+pub mod Numbers

@@ -1,23 +1,46 @@
 // The rows of a tile: places and fragments by the numbers of samples.
-ghost use Rattle.std.specs.Prelude.{ℕ, ◌≡◌, ◌<◌, ◌≤◌, ◌↔◌, true, [], IsTrue, List, length, slice_index_or, vec_capacity};
+ghost use Rattle.std.specs.Prelude.{ℕ, ◌≡◌, ◌<◌, ◌≤◌, ◌+◌, ◌*◌, ◌↔◌, true, [], IsTrue, List, length, slice_index_or, vec_capacity};
+ghost use Rattle.fixed_math.specs.Spots.{Spot};
 ghost use Rattle.hider.specs.declared.fragment.Fragment.{Fragment};
 ghost use Rattle.hider.specs.Kept.{blocks};
+ghost use Rattle.hider.specs.Samples.{sample_at};
 ghost use Rattle.hider.specs.Tiles.{IsSampleGrid, ArePlacesOf, AreEmpty, sample_count};
 
 use crate::list::FragmentList;
 use crate::sample_grid::SampleGrid;
+use crate::sampling::place_at;
 use crate::spot::Spot;
 use fixed_math::Num;
+use sample_pattern::pixel_hash;
 
-/// Puts the places of a grid's samples into a row that has room for them.
+/// Appends the places of a pixel's samples, for which there is room.
+fn push_pixel(spots: &mut Vec<Spot>, x: u32, y: u32, xs: u32, ys: u32)
+    requires x { x < 4096 }
+    requires y { y < 4096 }
+    requires xs { xs ≤ 16 }
+    requires ys { ys ≤ 16 }
+    requires room { length spots.old.items + xs * ys ≤ vec_capacity spots.old }
+    ensures long { length spots.new.items ≡ length spots.old.items + xs * ys }
+    ensures room { vec_capacity spots.new ≡ vec_capacity spots.old }
+    ensures kept { (m : ℕ) (d : Spot) → m < length spots.old.items → slice_index_or spots.new.items m d ≡ slice_index_or spots.old.items m d }
+    ensures each { (c : ℕ) (d : Spot) → c < xs * ys → slice_index_or spots.new.items (length spots.old.items + c) d ≡ (sample_at xs ys x y c).place }
+{
+    let hash = pixel_hash(x, y);
+    for cell in 0..xs * ys {
+        spots.push_reserved(place_at(hash, x, y, cell, xs, ys));
+    }
+}
+
+/// Puts the places of a grid's samples into a row that has room for them, pixel by pixel.
 pub(crate) fn fill_places(spots: &mut Vec<Spot>, grid: &SampleGrid)
     requires valid { IsSampleGrid grid.now }
     requires room { sample_count grid.now ≤ vec_capacity spots.old }
     ensures { ArePlacesOf grid.now spots.new.items }
 {
     spots.clear();
-    for n in 0..grid.count() {
-        spots.push_reserved(grid.sample(n).place);
+    for pixel in 0..grid.width() * grid.height() {
+        let [x, y] = grid.pixel(pixel);
+        push_pixel(spots, x, y, grid.xs, grid.ys);
     }
 }
 
@@ -43,11 +66,31 @@ pub(crate) fn fill_lists(lists: &mut Vec<FragmentList>, count: usize)
     }
 }
 
-/// Whether an opaque fragment lies nearer than `z` at each of the first samples.
-pub(crate) fn all_block(lists: &[FragmentList], count: usize, z: Num) -> bool
+/// The first sample from number `from` on at which no opaque fragment shows, and `count` where one shows at each.
+pub(crate) fn next_open(lists: &[FragmentList], from: usize, count: usize) -> usize
+    requires { count ≤ length lists.now }
+    ensures { result ≤ count }
+{
+    let farthest = Num::sat(2147483647);
+    for n in from..count {
+        if !lists[n].blocks(farthest) {
+            return n;
+        }
+    }
+    count
+}
+
+/// Whether an opaque fragment lies nearer than `z` at each of the first samples. Sample `open` is asked first, since it may
+/// tell at once that it isn't so.
+pub(crate) fn all_block(lists: &[FragmentList], count: usize, open: usize, z: Num) -> bool
     requires { count ≤ length lists.now }
     ensures { IsTrue result ↔ ((n : ℕ) (d : List Fragment) → n < count → blocks z (slice_index_or lists.now n d) ≡ true) }
 {
+    if open < count {
+        if !lists[open].blocks(z) {
+            return false;
+        }
+    }
     for n in 0..count {
         if !lists[n].blocks(z) {
             return false;

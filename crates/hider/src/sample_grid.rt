@@ -1,6 +1,7 @@
 // Which samples a tile has.
-ghost use Rattle.std.specs.Prelude.{◌≡◌, ◌≤◌, ◌<◌, ◌+◌, ◌-◌, ◌*◌, ◌/◌, ◌%◌};
-ghost use Rattle.hider.specs.Tiles.{IsSampleGrid, sample_count, sample_of};
+ghost use Rattle.std.specs.Prelude.{◌≡◌, ◌≤◌, ◌<◌, ◌+◌, ◌-◌, ◌*◌, ◌/◌, ◌%◌, [], ◌∷◌};
+ghost use Rattle.fixed_math.specs.Spots.{pixel_count, pixel_x, pixel_y};
+ghost use Rattle.hider.specs.Tiles.{IsSampleGrid, rect_of, sample_count, sample_of};
 
 use crate::sample::Sample;
 use crate::sampling::sample_at;
@@ -54,6 +55,20 @@ impl SampleGrid {
         ensures { result ≡ sample_count self.now }
     {
         self.width() * self.height() * self.per_pixel()
+    }
+
+    /// The column and the row of a pixel, by its number.
+    pub(crate) fn pixel(&self, pixel: usize) -> [u32; 2]
+        requires valid { IsSampleGrid self.now }
+        requires inside { pixel < pixel_count (rect_of self.now) }
+        ensures value { result ≡ pixel_x (rect_of self.now) pixel ∷ pixel_y (rect_of self.now) pixel ∷ [] }
+        ensures column { pixel_x (rect_of self.now) pixel < 4096 }
+        ensures row { pixel_y (rect_of self.now) pixel < 4096 }
+    {
+        let width = self.width();
+        let x = self.left + (pixel % width) as u32;
+        let y = self.top + (pixel / width) as u32;
+        [x, y]
     }
 
     /// Sample `n`.

@@ -14,7 +14,7 @@ use crate::hiding::hide_cells;
 use crate::list::FragmentList;
 use crate::places::Places;
 use crate::raster_point::RasterPoint;
-use crate::rooms::{all_block, fill_lists, fill_places};
+use crate::rooms::{all_block, fill_lists, fill_places, next_open};
 use crate::sample_grid::SampleGrid;
 use crate::spot::Spot;
 use fixed_math::{NoMemory, Num, Vec3};
@@ -32,6 +32,8 @@ pub struct Tile {
     lists: Vec<FragmentList>,
     // room for the points of a grid
     points: Vec<RasterPoint>,
+    // the first sample without an opaque fragment, mostly
+    open: usize,
 }
 
 impl Model for Tile {
@@ -76,6 +78,7 @@ impl Tile {
             spots,
             lists,
             points,
+            open: 0,
         })
     }
 
@@ -93,6 +96,7 @@ impl Tile {
         fill_places(&mut self.spots, &grid);
         fill_lists(&mut self.lists, count);
         self.grid = grid;
+        self.open = 0;
         Ok(())
     }
 
@@ -122,6 +126,7 @@ impl Tile {
             one_sided,
             flip,
         )?;
+        self.open = next_open(self.lists.as_slice(), self.open, self.grid.count());
         Ok(())
     }
 
@@ -129,7 +134,7 @@ impl Tile {
     pub fn all_behind(&self, z: Num) -> bool
         ensures { (f : Sample → List Fragment) → Shows self.now f → IsTrue result ↔ BlocksAll z self.now.grid f }
     {
-        all_block(self.lists.as_slice(), self.grid.count(), z)
+        all_block(self.lists.as_slice(), self.grid.count(), self.open, z)
     }
 
     /// The number of samples.

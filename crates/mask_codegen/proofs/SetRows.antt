@@ -21,6 +21,7 @@ use Rattle.grid_code.specs.declared.register_set.RegisterSet.{RegisterSet}
 use Rattle.grid_code.specs.Shapes.{register_class, register_shape}
 use Rattle.grid_code.specs.Uses.{numbers_of, has, rows_in}
 use Rattle.mask_codegen.specs.Collected.{is_of, number_of, numbers_among, IsSetOf}
+use Rattle.mask_codegen.specs.Compiled.{is_among}
 use Rattle.mask_codegen.proofs.Made.{weight}
 
 equal_numbers : IsEquivalence eqb
@@ -65,6 +66,15 @@ pub has_all : (varying uniform : RegisterSet) (qs : List Register) → IsSetOf v
 has_all varying uniform qs v u =
     let d = Varying shapes.Number 0 in
     list_all-from_AllPass (has varying uniform) qs (All-from_get_or (λ q. has varying uniform q ≡ true) qs d (λ i h. has_one varying uniform qs v u (get_or qs i d) (among_at qs i d h)))
+
+one_named : (set : RegisterSet) (qs : List Register) → IsSetOf set false qs → (q : Register) → Among qs q → is_among set q ≡ true
+one_named set qs v (Uniform s r) h = refl
+one_named set qs v (Varying s r) h = found (numbers_of set s) r (v.keeps s r h)
+
+pub all_named : (set : RegisterSet) (qs : List Register) → IsSetOf set false qs → list_all (is_among set) qs ≡ true
+all_named set qs v =
+    let d = Varying shapes.Number 0 in
+    list_all-from_AllPass (is_among set) qs (All-from_get_or (λ q. is_among set q ≡ true) qs d (λ i h. one_named set qs v (get_or qs i d) (among_at qs i d h)))
 
 -- a varying register is one of some registers
 

@@ -1,12 +1,16 @@
 -- A tree with a code that means it.
-use Rattle.std.specs.Prelude.{◌≡◌, ◌*◌, ◌<◌, ◌≤◌, Result, Ok, Err}
+use Rattle.std.specs.Prelude.{◌≡◌, ◌*◌, ◌<◌, ◌≤◌, Bool, true, Result, Ok, Err}
 use Rattle.sl_ast.specs.Registers.{rows_of}
 use Rattle.sl_ast.specs.Settled.{IsSettled}
 use Rattle.sl_ast.specs.Typed as T
 use Rattle.sl_ast.specs.TreeView.{tree_of}
 use Rattle.sl_ast.specs.declared.tree.Tree.{Tree}
+use Rattle.grid_code.specs.declared.code.Register.{Register}
+use Rattle.grid_code.specs.declared.code.Register.TheVariants.{Uniform, Varying}
+use Rattle.grid_code.specs.declared.register_set.RegisterSet.{RegisterSet}
 use Rattle.grid_code.specs.declared.shader_code.Code.{Code}
-use Rattle.grid_code.specs.Uses.{rows_in}
+use Rattle.grid_code.specs.Code.{Block}
+use Rattle.grid_code.specs.Uses.{is_in, within, rows_in}
 use Rattle.grid_code.specs.Valid.{has_light_statement}
 use Rattle.grid_code.specs.View.{block_of}
 use Rattle.sl_meaning.specs.Lowered.{slots, body_of}
@@ -25,6 +29,14 @@ pub record IsCodeOf (t : T.Tree) (c : Code) : Type 0 where
   pub settled : IsSettled t
   pub lights : has_light_statement (block_of c.nodes) ≡ lights_in_all (body_of t)
   pub rows : rows_in c.varying ≤ 16 * rows_of t
+
+-- each varying register that code names is in a set
+abbrev pub is_among : RegisterSet → Register → Bool
+is_among set (Uniform s r) = true
+is_among set (Varying s r) = is_in set s r
+
+abbrev pub NamesVarying : RegisterSet → Block → Type 0
+NamesVarying set x = within (is_among set) x ≡ true
 
 -- what is seen of a compiled tree
 pub record Seen : Type 0 where

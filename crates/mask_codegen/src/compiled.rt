@@ -3,7 +3,8 @@ ghost use Rattle.std.specs.Prelude.{◌≡◌, ◌≤◌, IfOk};
 ghost use Rattle.sl_ast.specs.Registers.{rows_of};
 ghost use Rattle.sl_ast.specs.Settled.{IsSettled};
 ghost use Rattle.sl_ast.specs.TreeView.{tree_of};
-ghost use Rattle.mask_codegen.specs.Compiled.{IsCodeOf, Compiles};
+ghost use Rattle.grid_code.specs.View.{block_of};
+ghost use Rattle.mask_codegen.specs.Compiled.{IsCodeOf, NamesVarying, Compiles};
 
 use crate::fault::CodeFault;
 use crate::lit::is_ambient;
@@ -11,7 +12,7 @@ use crate::named::name_all;
 use crate::sets::set_of;
 use core_codegen::{emit, given_registers, param_slots};
 use fixed_math::{List, NoMemory};
-use grid_code::Code;
+use grid_code::{Code, RegisterSet};
 use sl_ast::{ParamDecl, Tree};
 use sl_lowering::lower_body;
 use std::alloc::Global;
@@ -45,6 +46,15 @@ fn code_of(alloc: Global, tree: &Tree) -> Result<Code, NoMemory>
     })
 }
 
+// The varying registers that code names.
+fn named_in(alloc: Global, code: &Code) -> Result<RegisterSet, NoMemory>
+    ensures { IfOk result (λ named. NamesVarying named (block_of code.now.nodes)) }
+{
+    let mut seen = Vec::new(alloc);
+    name_all(code.nodes.as_slice(), &mut seen)?;
+    set_of(alloc, &seen, false)
+}
+
 /// A tree with a code that means it: at each place of a grid the code gives what the tree means there.
 ///
 /// No call gives the tree back, so whoever has this alone can run nothing but its code.
@@ -52,6 +62,7 @@ fn code_of(alloc: Global, tree: &Tree) -> Result<Code, NoMemory>
 pub struct Compiled {
     tree: Tree,
     code: Code,
+    named: RegisterSet,
 }
 
 impl Model for Compiled {
@@ -60,7 +71,8 @@ impl Model for Compiled {
     ghost use Rattle.sl_ast.specs.contracts.typed.TreeExpr as e;
     ghost use Rattle.sl_ast.specs.contracts.typed.TreeStmt as s;
     ghost use Rattle.grid_code.specs.contracts.code.Node as n;
-    ghost use Rattle.mask_codegen.specs.Compiled.{Seen, IsCodeOf};
+    ghost use Rattle.grid_code.specs.View.{block_of};
+    ghost use Rattle.mask_codegen.specs.Compiled.{Seen, IsCodeOf, NamesVarying};
 
     ghost Value = { Seen };
 
@@ -68,13 +80,14 @@ impl Model for Compiled {
 
     ghost view = { λ c. record { tree = c.tree; code = c.code } };
 
-    ghost invariant = { λ c. IsCodeOf (tree_of c.tree) c.code };
+    ghost invariant = { λ c. IsCodeOf (tree_of c.tree) c.code × NamesVarying c.named (block_of c.code.nodes) };
 }
 
 impl Compiled {
     ghost use Rattle.std.specs.Prelude.{◌≡◌};
     ghost use Rattle.sl_ast.specs.TreeView.{tree_of};
-    ghost use Rattle.mask_codegen.specs.Compiled.{IsCodeOf};
+    ghost use Rattle.grid_code.specs.View.{block_of};
+    ghost use Rattle.mask_codegen.specs.Compiled.{IsCodeOf, NamesVarying};
 
     /// The parameters of the tree.
     pub fn params(&self) -> &[ParamDecl]
@@ -91,6 +104,13 @@ impl Compiled {
     {
         &self.code
     }
+
+    /// The varying registers that the code names: what others hold is nothing to it.
+    pub fn named(&self) -> &RegisterSet
+        ensures { NamesVarying result.now (block_of self.now.code.nodes) }
+    {
+        &self.named
+    }
 }
 
 /// A settled tree with its code. `M9` comes exactly where the tree counts more than 4,096 rows of registers. A refused
@@ -104,5 +124,6 @@ pub fn compile(alloc: Global, tree: Tree) -> Result<Compiled, CodeFault>
         return Err(CodeFault::M9);
     }
     let code = code_of(alloc, &tree)?;
-    Ok(Compiled { tree, code })
+    let named = named_in(alloc, &code)?;
+    Ok(Compiled { tree, code, named })
 }

@@ -6,6 +6,7 @@ use Rattle.builtins.specs.declared.shape.Shape.TheVariants as shapes
 use Rattle.grid_code.specs.Masked.{same_shape}
 use Rattle.place_values.specs.declared.cell.Cell.{Cell}
 use Rattle.place_values.specs.declared.cell.Cell.TheVariants.{Number, Triple, Word}
+use Rattle.number_rows.specs.Planes.{triple_in}
 use Rattle.place_rows.specs.declared.bank.Bank.{Bank}
 
 abbrev pub shape_of_cell : Cell → Shape
@@ -27,12 +28,12 @@ of_shape numbers triples words shapes.Word = words
 -- how many values of a shape there are
 abbrev pub size : Bank → Shape → ℕ
 size b shapes.Number = length b.numbers.items
-size b shapes.Triple = length b.triples.items
+size b shapes.Triple = length b.xs.items
 size b shapes.Word = length b.words.items
 
 abbrev pub held : Bank → Shape → ℕ → Cell
 held b shapes.Number k = Number (get_or b.numbers.items k (pos 0))
-held b shapes.Triple k = Triple (get_or b.triples.items k origin)
+held b shapes.Triple k = Triple (triple_in b.xs.items b.ys.items b.zs.items k)
 held b shapes.Word k = Word (get_or b.words.items k 0)
 
 -- rows of c elements after one of them took another row's elements at the places that are live

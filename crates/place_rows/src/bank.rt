@@ -1,119 +1,17 @@
-// Values of registers by shape, in an arena.
-ghost use Rattle.std.specs.Prelude.{◌≡◌, ℕ, ◌+◌, ◌*◌, ◌&&◌, ◌==◌, ◌<◌, ◌≤◌, cond, false, length, get_or, IfOk};
-ghost use Rattle.builtins.specs.declared.shape.Shape.{Shape as AnyShape};
-ghost use Rattle.builtins.specs.declared.shape.Shape.TheVariants as shapes;
-ghost use Rattle.grid_code.specs.Masked.{same_shape};
-ghost use Rattle.place_rows.specs.Banks.{size, held, of_shape, shape_of_cell, zero_cell, IsStored, IsRowStored};
+// Rows of values in an arena.
+ghost use Rattle.std.specs.Prelude.{◌≡◌, length};
 
-use builtins::Shape;
 use bumpalo::Bump;
-use fixed_math::{NoMemory, Num, Vec3};
-use place_values::Cell;
+use number_rows::Raw;
 
-/// Rows of values: the numbers, the triples and the texts each by themselves.
+/// Rows of values: the numbers, the triples in rows of each of their parts, and the texts, each by themselves.
 #[derive(Drop)]
 pub struct Bank<'a> {
-    pub numbers: Vec<Num, &'a Bump>,
-    pub triples: Vec<Vec3, &'a Bump>,
+    pub numbers: Vec<Raw, &'a Bump>,
+    pub xs: Vec<Raw, &'a Bump>,
+    pub ys: Vec<Raw, &'a Bump>,
+    pub zs: Vec<Raw, &'a Bump>,
     pub words: Vec<usize, &'a Bump>,
-}
-
-// Writes a row into the row of a register, at the places that are live.
-fn store_row<T: Copy>(rows: &mut [T], register: usize, live: &[bool], row: &[T])
-    requires live { length row.now ≤ length live.now }
-    requires fits { register * length row.now + length row.now ≤ length rows.old }
-    ensures long { length rows.new ≡ length rows.old }
-    ensures each { IsRowStored T register live.now row.now rows.old rows.new }
-{
-    for i in 0..row.len() {
-        if live[i] {
-            rows[register * row.len() + i] = row[i];
-        }
-    }
-}
-
-// Makes the first elements that one.
-fn make_first<T: Copy>(row: &mut [T], count: usize, value: T)
-    requires { count ≤ length row.old }
-    ensures long { length row.new ≡ length row.old }
-    ensures each { (d : T) (i : ℕ) → i < count → get_or row.new i d ≡ value }
-{
-    for n in 0..count {
-        row[n] = value;
-    }
-}
-
-impl<'a> Bank<'a> {
-    /// A bank of that many values of each shape, or want of memory.
-    pub fn zeros(
-        arena: &'a Bump,
-        numbers: usize,
-        triples: usize,
-        words: usize,
-    ) -> Result<Bank<'a>, NoMemory>
-        ensures numbers { IfOk result (λ b. size b shapes.Number ≡ numbers) }
-        ensures triples { IfOk result (λ b. size b shapes.Triple ≡ triples) }
-        ensures words { IfOk result (λ b. size b shapes.Word ≡ words) }
-        ensures zero { IfOk result (λ b. (shape : AnyShape) (k : ℕ) → held b shape k ≡ zero_cell shape) }
-    {
-        Ok(Bank {
-            numbers: vec![in arena; Num::sat(0); numbers]?,
-            triples: vec![in arena; Vec3::default(); triples]?,
-            words: vec![in arena; 0; words]?,
-        })
-    }
-}
-
-impl Bank<'_> {
-    /// The value at a place.
-    pub fn get(&self, shape: Shape, at: usize) -> Cell
-        requires { at < size self.now shape }
-        ensures { result ≡ held self.now shape at }
-    {
-        match shape {
-            Shape::Number => Cell::Number(self.numbers[at]),
-            Shape::Triple => Cell::Triple(self.triples[at]),
-            Shape::Word => Cell::Word(self.words[at]),
-        }
-    }
-
-    /// Sets the value at a place to one of its shape.
-    pub fn set(&mut self, at: usize, cell: &Cell)
-        requires at { at < size self.old (shape_of_cell cell.now) }
-        ensures size { (t : AnyShape) → size self.new t ≡ size self.old t }
-        ensures value { (t : AnyShape) (k : ℕ) → held self.new t k ≡ cond (same_shape t (shape_of_cell cell.now) && k == at) cell.now (held self.old t k) }
-    {
-        match cell {
-            Cell::Number(x) => self.numbers[at] = *x,
-            Cell::Triple(t) => self.triples[at] = *t,
-            Cell::Word(w) => self.words[at] = *w,
-        }
-    }
-
-    /// Writes the row of that shape into the row of a register, at the places that are live.
-    pub fn store(&mut self, shape: Shape, register: usize, live: &[bool], row: &Bank)
-        requires live { size row.now shape ≤ length live.now }
-        requires fits { register * size row.now shape + size row.now shape ≤ size self.old shape }
-        ensures size { (t : AnyShape) → size self.new t ≡ size self.old t }
-        ensures value { IsStored (size row.now shape) shape register live.now row.now self.old self.new }
-    {
-        match shape {
-            Shape::Number => store_row(&mut self.numbers, register, live, &row.numbers),
-            Shape::Triple => store_row(&mut self.triples, register, live, &row.triples),
-            Shape::Word => store_row(&mut self.words, register, live, &row.words),
-        }
-    }
-
-    /// Makes that many first values of each shape 0.
-    pub fn clear(&mut self, numbers: usize, triples: usize, words: usize)
-        requires numbers { numbers ≤ size self.old shapes.Number }
-        requires triples { triples ≤ size self.old shapes.Triple }
-        requires words { words ≤ size self.old shapes.Word }
-        ensures size { (s : AnyShape) → size self.new s ≡ size self.old s }
-        ensures zero { (s : AnyShape) (k : ℕ) → k < of_shape numbers triples words s → held self.new s k ≡ zero_cell s }
-    {
-        make_first(&mut self.numbers, numbers, Num::sat(0));
-        make_first(&mut self.triples, triples, Vec3::default());
-        make_first(&mut self.words, words, 0);
-    }
+    pub ghost ys_long: { length ys.items ≡ length xs.items },
+    pub ghost zs_long: { length zs.items ≡ length xs.items },
 }

@@ -6,10 +6,12 @@
 
 mod answers;
 mod bank;
+mod bank_planes;
 mod filling;
 mod illumination;
 mod mask;
 mod points;
+mod storing;
 mod sums;
 mod viewing;
 

@@ -1,23 +1,16 @@
-use Rattle.std.proofs.Common.{◌≡◌, ◌*◌, length, refl, sym, ap, ◌∙◌, subst}
+use Rattle.std.proofs.Common.{◌≡◌, ◌*◌, length, refl, sym, ap, ◌∙◌}
 use Rattle.place_rows.specs.Layout.{row_length}
 use Rattle.grid_variables.specs.Places.{point_count}
-use Rattle.displace_shade.specs.Lamps.{IsGiven, IsLeft}
 use Rattle.displace_shade.specs.Shop.{bound_value}
 use Rattle.displace_shade.proofs.runs.run_on.Goals as goal
 
 pub run_into-requires-clause-spaces : goal.run_into-requires-clause-spaces
 run_into-requires-clause-spaces c = c.in_ok-spaces.ensures ∙ c.spaces_of.ensures (bound_value c.args.bound.now) refl
 
-pub run_into-requires-clause-small : goal.run_into-requires-clause-small
-run_into-requires-clause-small c = c.in_ok-raws.ensures.small
-
-pub run_into-requires-clause-given : goal.run_into-requires-clause-given
-run_into-requires-clause-given c = subst (IsGiven c.args.leaf.now c.args.bound.now c.args.lamps.now c.args.uniforms.now) (sym c.in_ok-raws.ensures.value) c.requires
-
 pub run_into-requires-clause-out : goal.run_into-requires-clause-out
 run_into-requires-clause-out c =
     let items : length c.in_ok-zeros.zeros.items ≡ c.in_ok-zeros.zeros.len = sym c.in_ok-zeros.zeros.ok.0 in
-    ap (λ xs. length xs) c.into_bump_slice_mut-out.ensures ∙ items ∙ c.in_ok-zeros.ensures.len ∙ ap (λ w. 6 * w) (c.length_of_row-width.ensures.value ∙ ap row_length c.point_count.ensures.value) ∙ ap (λ n. n * row_length (point_count c.args.leaf.now)) (sym c.requires.written)
+    ap (λ xs. length xs) c.into_bump_slice_mut-out.ensures ∙ items ∙ c.in_ok-zeros.ensures.len ∙ ap (λ w. 6 * w) (c.length_of_row-width.ensures.value ∙ ap row_length c.point_count.ensures.value) ∙ ap (λ n. n * row_length (point_count c.args.leaf.now)) (sym c.requires.given.written)
 
 pub returns-clause-long : goal.returns-clause-long
 returns-clause-long c =
@@ -27,6 +20,3 @@ returns-clause-long c =
 
 pub returns-clause-small : goal.returns-clause-small
 returns-clause-small c = c.run_into.ensures.small
-
-pub returns-clause-values : goal.returns-clause-values
-returns-clause-values c = subst (λ rows. IsLeft c.args.leaf.now c.args.bound.now c.args.lamps.now c.args.uniforms.now rows c.run_into.new.out) c.in_ok-raws.ensures.value c.in_ok-run_into.ensures.values

@@ -8,8 +8,8 @@ use Rattle.displace_shade.proofs.shop.shaded_piece.Goals as goal
 
 pub shaded_leaf-requires : goal.shaded_leaf-requires
 shaded_leaf-requires c =
-    let x = c.leaf_at-leaf.result.prim in
-    let there = c.leaf_at-leaf.ensures.prim in
+    let x = c.in_ok-leaf.leaf.prim in
+    let there = c.in_ok-leaf.ensures.prim in
     let n = c.args.piece.now.prim in
     record {
       fits = c.requires.fits;
@@ -18,4 +18,4 @@ shaded_leaf-requires c =
     }
 
 pub returns : goal.returns
-returns c = if_ok c.shaded_leaf.result _ _ (λ grid h prim e. h ∙ ap (λ l. shaded l (set_value c.args.shaders.now.set.now) c.args.shaders.now.uses.now) (c.leaf_at-leaf.ensures.leaf prim e)) c.shaded_leaf.ensures
+returns c = if_ok c.shaded_leaf.result _ _ (λ grid h prim e. h ∙ ap (λ l. shaded l (set_value c.args.shaders.now.set.now) c.args.shaders.now.uses.now) (c.in_ok-leaf.ensures.leaf prim e)) c.shaded_leaf.ensures

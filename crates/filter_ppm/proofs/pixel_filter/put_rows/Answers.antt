@@ -1,5 +1,6 @@
 use Rattle.std.proofs.Common.{◌∙◌, ◌-◌, inl, inr, arith}
-use Rattle.filter_ppm.proofs.Rows.{by_place, earlier_row, later_row}
+use Rattle.filter_ppm.proofs.Rows.{earlier_row, later_row}
+use Rattle.filter_ppm.proofs.Spans.{by_place}
 use Rattle.filter_ppm.proofs.pixel_filter.put_rows.Goals as goal
 
 pub loop-y-preserved : goal.loop-y-preserved

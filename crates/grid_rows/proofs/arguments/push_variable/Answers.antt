@@ -7,7 +7,7 @@ use Rattle.grid_variables.proofs.Over.{over_long}
 use Rattle.grid_rows.proofs.arguments.push_variable.Goals as goal
 
 pub push_by-requires : goal.push_by-requires
-push_by-requires g c =
+push_by-requires c =
     let l = c.args.leaf.now in
     let long : length c.in_ok-numbers.numbers.now ≡ point_count l = ap (λ ts. length ts) c.in_ok-numbers.ensures ∙ over_long (spread l c.args.variable.now) (point_count l) in
     let few = c.point_count-points.ensures.to in
@@ -15,7 +15,7 @@ push_by-requires g c =
     omega (arith, long, few, same)
 
 pub returns : goal.returns
-returns g c =
+returns c =
     let l = c.args.leaf.now in
     let x = c.args.variable.now in
-    if_ok c.push_by.result _ _ (λ _ h. h ∙ ap (λ k. c.args.rows.now.items ++ rows_by k c.in_ok-numbers.numbers.now) c.kind_of.ensures ∙ ap (λ ts. c.args.rows.now.items ++ rows_by x.kind ts) c.in_ok-numbers.ensures) c.push_by.ensures
+    if_ok c.push_by.result _ _ (λ _ h. h ∙ ap (λ k. c.args.rows.now ++ rows_by k c.in_ok-numbers.numbers.now) c.kind_of.ensures ∙ ap (λ ts. c.args.rows.now ++ rows_by x.kind ts) c.in_ok-numbers.ensures) c.push_by.ensures

@@ -2,4 +2,4 @@ use Rattle.std.proofs.Common.{◌≡◌, ◌++◌, pos, replicate}
 use Rattle.grid_rows.proofs.rows.fill_up.Given as goal
 
 abbrev pub invariant-loop-rest : goal.invariant-loop-rest
-invariant-loop-rest g l = l.rows.items ≡ l.initial.rows.items ++ replicate l._rest (pos 0)
+invariant-loop-rest l = l.rows ≡ l.initial.rows ++ replicate l._rest (pos 0)

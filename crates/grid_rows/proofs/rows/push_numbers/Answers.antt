@@ -4,6 +4,6 @@ use Rattle.grid_rows.proofs.Filled.{numbers_more}
 use Rattle.grid_rows.proofs.rows.push_numbers.Goals as goal
 
 pub loop-number-preserved : goal.loop-number-preserved
-loop-number-preserved g c =
+loop-number-preserved c =
     let read = get_or_read c.args.numbers.now c.loop-number.number-index c.number-item.result (omega arith) c.number-item.is (pos 0) in
-    numbers_more c.args.numbers.now c.loop-number.number-index c.args.rows.now.items c.loop-number.rows.items c.push.new.self.items c.number-item.result (omega arith) c.in_ok-push.ensures.items read c.loop-number.invariant
+    numbers_more c.args.numbers.now c.loop-number.number-index c.args.rows.now c.loop-number.rows c.push.new.self c.number-item.result (omega arith) c.in_ok-push.ensures read c.loop-number.invariant

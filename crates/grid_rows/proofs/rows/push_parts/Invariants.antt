@@ -3,4 +3,4 @@ use Rattle.fixed_math.specs.Axes.{part_of}
 use Rattle.grid_rows.proofs.rows.push_parts.Given as goal
 
 abbrev pub invariant-loop-triple : goal.invariant-loop-triple
-invariant-loop-triple g l = l.rows.items ≡ l.initial.rows.items ++ map (part_of l.axis) (take l.triple-index l.triples)
+invariant-loop-triple l = l.rows ≡ l.initial.rows ++ map (part_of l.axis) (take l.triple-index l.triples)

@@ -1,11 +1,16 @@
-use Rattle.std.proofs.Common.{ap, ◌∙◌, arith}
-use Rattle.std.proofs.lemmas.List.{get_or_read}
+use Rattle.std.proofs.Common.{map, sym, ap, ◌∙◌}
+use Rattle.std.proofs.lemmas.List.{map-id}
 use Rattle.fixed_math.specs.Axes.{origin}
-use Rattle.grid_variables.specs.Points.{sight}
-use Rattle.grid_variables.proofs.Over.{taken_more}
+use Rattle.grid_variables.specs.Points.{sight, sight_by}
+use Rattle.grid_variables.proofs.Results.{if_ok}
+use Rattle.grid_variables.proofs.Over.{over_alike}
 use Rattle.grid_variables.proofs.moves.sights.Goals as goal
 
-pub loop-point-preserved : goal.loop-point-preserved
-loop-point-preserved c =
-    let read = get_or_read c.args.points.now c.loop-point.point-index c.point-item.result (omega arith) c.point-item.is origin in
-    taken_more (sight c.args.view.now) c.args.points.now c.loop-point.point-index c.loop-point.directions.items c.push.new.self.items c.sight.result origin (omega arith) c.in_ok-push.ensures.items (c.sight.ensures ∙ ap (sight c.args.view.now) read) c.loop-point.invariant
+pub returns-in-Some : goal.returns-in-Some
+returns-in-Some c = sym (ap (λ o. map (sight_by o) c.args.points.now) c.in-Some.is ∙ map-id c.args.points.now)
+
+pub returns-in-None : goal.returns-in-None
+returns-in-None c =
+    if_ok c.same.result _ _
+    (λ is h. h ∙ sym (over_alike (sight c.args.view.now) c.ahead.result c.args.points.now origin (λ p. ap (λ o. sight_by o p) c.in-None.is ∙ sym (c.ahead.ensures p))))
+    c.same.ensures

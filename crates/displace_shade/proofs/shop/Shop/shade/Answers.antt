@@ -8,14 +8,14 @@ use Rattle.displace_shade.specs.Shop.{set_value, leaf_of}
 use Rattle.displace_shade.proofs.BoundLaws.{some_is}
 use Rattle.displace_shade.proofs.shop.Shop.shade.Goals as goal
 
-pub shaded_piece-requires-clause-variables : goal.shaded_piece-requires-clause-variables
-shaded_piece-requires-clause-variables c = λ prim e. subst (λ us. FitsPrim (set_value c.args.self.now.set) us prim) (sym c.uses_of.ensures) (c.requires.variables c.frame_at-frame.result.now prim c.frame_at-frame.ensures.frame e)
+pub shaded_piece-shaded-requires-clause-variables : goal.shaded_piece-shaded-requires-clause-variables
+shaded_piece-shaded-requires-clause-variables c = λ prim e. subst (λ us. FitsPrim (set_value c.args.self.now.set) us prim) (sym c.uses_of.ensures) (c.requires.variables c.frame_at-frame.result.now prim c.frame_at-frame.ensures.frame e)
 
-pub shaded_piece-requires-clause-prim : goal.shaded_piece-requires-clause-prim
-shaded_piece-requires-clause-prim c = c.requires.prim c.frame_at-frame.result.now c.frame_at-frame.ensures.frame
+pub shaded_piece-shaded-requires-clause-prim : goal.shaded_piece-shaded-requires-clause-prim
+shaded_piece-shaded-requires-clause-prim c = c.requires.prim c.frame_at-frame.result.now c.frame_at-frame.ensures.frame
 
-pub shaded_piece-requires-clause-uses : goal.shaded_piece-requires-clause-uses
-shaded_piece-requires-clause-uses c = subst (λ us. All (HasUses us) c.frame_at-frame.result.now.prims) (sym c.uses_of.ensures) c.frame_at-frame.ensures.uses
+pub shaded_piece-shaded-requires-clause-uses : goal.shaded_piece-shaded-requires-clause-uses
+shaded_piece-shaded-requires-clause-uses c = subst (λ us. All (HasUses us) c.frame_at-frame.result.now.prims) (sym c.uses_of.ensures) c.frame_at-frame.ensures.uses
 
 pub returns-clause-grid : goal.returns-clause-grid
 returns-clause-grid c =

@@ -12,4 +12,4 @@ returns-clause-near c =
     c.commit.ensures.near (λ i. v) (λ j l.
     let is = c.cell.ensures in
     let at = ap shape is ∙ c.requires.shape in
-    ap (λ s. value_of (texts_of m.registers) (held c.fill.new.row s j)) (sym at) ∙ c.fill.ensures.each j (subst (λ n. j < n) (sym c.reach-count.ensures) l) ∙ is)
+    ap (λ s. value_of (texts_of m.registers) (held c.compute.new.row s j)) (sym at) ∙ c.compute.ensures.each j l ∙ is)

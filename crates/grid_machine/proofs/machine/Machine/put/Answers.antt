@@ -15,4 +15,4 @@ returns-clause-near c =
     c.commit.ensures.near (result_of o w (state_of m)) (λ j l.
     let is = c.work-work.ensures.same j ∙ result_held m w o j in
     let at = ap shape is ∙ result_shape m w o j ∙ c.requires.shape in
-    ap (λ s. value_of (texts_of m.registers) (held c.fill.new.row s j)) (sym at) ∙ c.fill.ensures.each j (subst (λ n. j < n) (sym c.reach-count.ensures) l) ∙ is)
+    ap (λ s. value_of (texts_of m.registers) (held c.compute.new.row s j)) (sym at) ∙ c.compute.ensures.each j l ∙ is)

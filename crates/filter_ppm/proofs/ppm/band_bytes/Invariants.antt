@@ -1,6 +1,0 @@
-use Rattle.std.proofs.Common.{◌≡◌, take}
-use Rattle.filter_ppm.specs.Levels.{band}
-use Rattle.filter_ppm.proofs.ppm.band_bytes.Given as goal
-
-abbrev pub invariant-loop-pixel : goal.invariant-loop-pixel
-invariant-loop-pixel l = l.bytes.items ≡ band l.o.one (take l.pixel-index l.pixels)

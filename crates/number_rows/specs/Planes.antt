@@ -1,0 +1,27 @@
+-- Numbers and triples at the places of a grid: in rows, or one at all places.
+use Rattle.std.specs.Prelude.{ℕ, ◌≤◌, ℤ, pos, List, length, get_or}
+use Rattle.fixed_math.specs.declared.vec3.Vec3.{Vec3}
+use Rattle.number_rows.specs.declared.plane.Plane.{Plane}
+use Rattle.number_rows.specs.declared.plane.Plane.TheVariants.{Row, Value}
+use Rattle.number_rows.specs.declared.plane.Planes.{Planes}
+
+abbrev pub plane_at : Plane → ℕ → ℤ
+plane_at (Row r) i = get_or r.now i (pos 0)
+plane_at (Value x) i = x
+
+abbrev pub triple_at : Planes → ℕ → Vec3
+triple_at p i = record { x = plane_at p.x i; y = plane_at p.y i; z = plane_at p.z i }
+
+-- there is a number for each of the first n places
+abbrev pub IsPlane : ℕ → Plane → Type 0
+IsPlane n (Row r) = n ≤ length r.now
+IsPlane n (Value x) = Unit {0}
+
+pub record ArePlanes (n : ℕ) (p : Planes) : Type 0 where
+  pub x : IsPlane n p.x
+  pub y : IsPlane n p.y
+  pub z : IsPlane n p.z
+
+-- the triple at a place of three rows
+abbrev pub triple_in : List ℤ → List ℤ → List ℤ → ℕ → Vec3
+triple_in xs ys zs i = record { x = get_or xs i (pos 0); y = get_or ys i (pos 0); z = get_or zs i (pos 0) }

@@ -1,0 +1,23 @@
+//! Rows of numbers at the places of a grid, and operations on them.
+//!
+//! A row holds numbers in 32 bits. An operation is chosen once for a row, and is then one loop over the places.
+#![tactic(auto)]
+
+mod choice;
+mod comparing;
+mod kernels;
+mod loops;
+mod plane;
+mod raw;
+mod triples;
+
+pub use choice::{number_row, order_rows, part_row, parts_rows, three_parts_rows};
+pub use comparing::{And, Chosen, Differs, Not, Or, Same};
+pub use kernels::{One, Power, SmoothStep, Step, Three, Two};
+pub use loops::{copy, fill, one_plane, three_planes, two_planes};
+pub use plane::{Plane, Planes};
+pub use raw::Raw;
+pub use triples::{
+    Cross, Distance, Dot, Length, Normalize, OfTriple, OfTriples, Reflect, ToTriple, ToTriples,
+    faceforward_rows, number_of_triple, number_of_triples, triple_of_triple, triple_of_triples,
+};

@@ -1,0 +1,121 @@
+// Operations on rows, one loop each.
+ghost use Rattle.std.specs.Prelude.{◌≡◌, ℕ, ◌<◌, ◌≤◌, pos, length, get_or};
+ghost use Rattle.number_rows.specs.Planes.{plane_at, IsPlane};
+
+use crate::kernels::{One, Three, Two};
+use crate::plane::Plane;
+use crate::raw::Raw;
+
+/// Each place of a row takes one number.
+pub fn fill(x: Raw, out: &mut [Raw])
+    ensures long { length out.new ≡ length out.old }
+    ensures each { (i : ℕ) → i < length out.old → get_or out.new i (pos 0) ≡ x }
+{
+    for i in 0..out.len() {
+        out[i] = x;
+    }
+}
+
+fn copy_row(a: &[Raw], out: &mut [Raw])
+    requires { length out.old ≤ length a.now }
+    ensures long { length out.new ≡ length out.old }
+    ensures each { (i : ℕ) → i < length out.old → get_or out.new i (pos 0) ≡ get_or a.now i (pos 0) }
+{
+    for i in 0..out.len() {
+        out[i] = a[i];
+    }
+}
+
+/// A row takes the numbers of a plane.
+pub fn copy(a: &Plane, out: &mut [Raw])
+    requires { IsPlane (length out.old) a.now }
+    ensures long { length out.new ≡ length out.old }
+    ensures each { (i : ℕ) → i < length out.old → get_or out.new i (pos 0) ≡ plane_at a.now i }
+{
+    match a {
+        Plane::Row(row) => copy_row(row, out),
+        Plane::Value(x) => fill(*x, out),
+    }
+}
+
+fn one_row<K: One>(a: &[Raw], out: &mut [Raw])
+    requires { length out.old ≤ length a.now }
+    ensures long { length out.new ≡ length out.old }
+    ensures each { (i : ℕ) → i < length out.old → get_or out.new i (pos 0) ≡ K.formula (get_or a.now i (pos 0)) }
+{
+    for i in 0..out.len() {
+        out[i] = K::apply(a[i]);
+    }
+}
+
+/// A row takes what an operation makes of a plane.
+pub fn one_plane<K: One>(a: &Plane, out: &mut [Raw])
+    requires { IsPlane (length out.old) a.now }
+    ensures long { length out.new ≡ length out.old }
+    ensures each { (i : ℕ) → i < length out.old → get_or out.new i (pos 0) ≡ K.formula (plane_at a.now i) }
+{
+    match a {
+        Plane::Row(row) => one_row::<K>(row, out),
+        Plane::Value(x) => fill(K::apply(*x), out),
+    }
+}
+
+fn two_rows<K: Two>(a: &[Raw], b: &[Raw], out: &mut [Raw])
+    requires a { length out.old ≤ length a.now }
+    requires b { length out.old ≤ length b.now }
+    ensures long { length out.new ≡ length out.old }
+    ensures each { (i : ℕ) → i < length out.old → get_or out.new i (pos 0) ≡ K.formula (get_or a.now i (pos 0)) (get_or b.now i (pos 0)) }
+{
+    for i in 0..out.len() {
+        out[i] = K::apply(a[i], b[i]);
+    }
+}
+
+fn row_by_value<K: Two>(a: &[Raw], b: Raw, out: &mut [Raw])
+    requires { length out.old ≤ length a.now }
+    ensures long { length out.new ≡ length out.old }
+    ensures each { (i : ℕ) → i < length out.old → get_or out.new i (pos 0) ≡ K.formula (get_or a.now i (pos 0)) b }
+{
+    for i in 0..out.len() {
+        out[i] = K::apply(a[i], b);
+    }
+}
+
+fn value_by_row<K: Two>(a: Raw, b: &[Raw], out: &mut [Raw])
+    requires { length out.old ≤ length b.now }
+    ensures long { length out.new ≡ length out.old }
+    ensures each { (i : ℕ) → i < length out.old → get_or out.new i (pos 0) ≡ K.formula a (get_or b.now i (pos 0)) }
+{
+    for i in 0..out.len() {
+        out[i] = K::apply(a, b[i]);
+    }
+}
+
+/// A row takes what an operation makes of two planes.
+pub fn two_planes<K: Two>(a: &Plane, b: &Plane, out: &mut [Raw])
+    requires a { IsPlane (length out.old) a.now }
+    requires b { IsPlane (length out.old) b.now }
+    ensures long { length out.new ≡ length out.old }
+    ensures each { (i : ℕ) → i < length out.old → get_or out.new i (pos 0) ≡ K.formula (plane_at a.now i) (plane_at b.now i) }
+{
+    match (a, b) {
+        (Plane::Row(a), Plane::Row(b)) => two_rows::<K>(a, b, out),
+        (Plane::Row(a), Plane::Value(y)) => row_by_value::<K>(a, *y, out),
+        (Plane::Value(x), Plane::Row(b)) => value_by_row::<K>(*x, b, out),
+        (Plane::Value(x), Plane::Value(y)) => fill(K::apply(*x, *y), out),
+    }
+}
+
+/// A row takes what an operation makes of three planes.
+#[tactic(auto, using(crate::proofs::Shorter::shorter))]
+pub fn three_planes<K: Three>(a: &Plane, b: &Plane, c: &Plane, out: &mut [Raw])
+    requires a { IsPlane (length out.old) a.now }
+    requires b { IsPlane (length out.old) b.now }
+    requires c { IsPlane (length out.old) c.now }
+    ensures long { length out.new ≡ length out.old }
+    ensures each { (i : ℕ) → i < length out.old → get_or out.new i (pos 0) ≡ K.formula (plane_at a.now i) (plane_at b.now i) (plane_at c.now i) }
+{
+    for i in 0..out.len() {
+        out[i] = K::apply(a.at(i), b.at(i), c.at(i));
+    }
+}

@@ -1,0 +1,246 @@
+// Operations on triples, place by place.
+ghost use Rattle.std.specs.Prelude.{◌≡◌, ℕ, ℤ, ◌<◌, pos, length, get_or};
+ghost use Rattle.fixed_math.specs.declared.vec3.Vec3.{Vec3 as AnyVec3};
+ghost use Rattle.builtins.specs.Triples as t;
+ghost use Rattle.fixed_math.specs.Fixed.{add, mul};
+ghost use Rattle.number_rows.specs.Planes.{triple_at, triple_in, ArePlanes};
+
+use crate::plane::Planes;
+use crate::raw::Raw;
+use builtins::faceforward;
+use fixed_math::{Num, Vec3};
+use lanes::{direction, raw};
+
+/// A number of a triple.
+pub trait OfTriple {
+    ghost formula: { AnyVec3 → ℤ };
+
+    fn apply(a: Vec3) -> Num
+        ensures { result ≡ formula a };
+}
+
+/// A number of two triples.
+pub trait OfTriples {
+    ghost formula: { AnyVec3 → AnyVec3 → ℤ };
+
+    fn apply(a: Vec3, b: Vec3) -> Num
+        ensures { result ≡ formula a b };
+}
+
+/// A triple of a triple.
+pub trait ToTriple {
+    ghost formula: { AnyVec3 → AnyVec3 };
+
+    fn apply(a: Vec3) -> Vec3
+        ensures { result ≡ formula a };
+}
+
+/// A triple of two triples.
+pub trait ToTriples {
+    ghost formula: { AnyVec3 → AnyVec3 → AnyVec3 };
+
+    fn apply(a: Vec3, b: Vec3) -> Vec3
+        ensures { result ≡ formula a b };
+}
+
+#[inline(always)]
+fn product(x: Raw, y: Raw) -> Raw
+    ensures { result ≡ mul x y }
+{
+    Raw::from_bits(raw::mul(x.bits(), y.bits()))
+}
+
+#[inline(always)]
+fn sum(x: Raw, y: Raw) -> Raw
+    ensures { result ≡ add x y }
+{
+    Raw::from_bits(raw::add(x.bits(), y.bits()))
+}
+
+// The sum of the products of the parts.
+#[inline(always)]
+#[tactic(auto, unfolding(builtins::specs::Triples::dot))]
+fn products(a: &Vec3, b: &Vec3) -> Num
+    ensures { result ≡ t.dot a.now b.now }
+{
+    let x = product(Raw::of(a.x), Raw::of(b.x));
+    let y = product(Raw::of(a.y), Raw::of(b.y));
+    let z = product(Raw::of(a.z), Raw::of(b.z));
+    sum(sum(x, y), z).number()
+}
+
+// The vector of length 1 of a direction; 0 for one of no length.
+#[inline(always)]
+#[tactic(auto, unfolding(builtins::specs::Triples::normalize))]
+fn unit(a: &Vec3) -> Vec3
+    ensures { result ≡ t.normalize a.now }
+{
+    let (x, y, z) = (Raw::of(a.x), Raw::of(a.y), Raw::of(a.z));
+    let u = direction::unit(x.bits(), y.bits(), z.bits());
+    Vec3 {
+        x: Raw::from_bits(u.x).number(),
+        y: Raw::from_bits(u.y).number(),
+        z: Raw::from_bits(u.z).number(),
+    }
+}
+
+/// The length.
+pub struct Length;
+
+impl OfTriple for Length {
+    ghost formula = { t.length };
+
+    #[inline(always)]
+    fn apply(a: Vec3) -> Num {
+        builtins::length(a)
+    }
+}
+
+/// The sum of the products of the parts.
+pub struct Dot;
+
+impl OfTriples for Dot {
+    ghost formula = { t.dot };
+
+    #[inline(always)]
+    fn apply(a: Vec3, b: Vec3) -> Num {
+        products(&a, &b)
+    }
+}
+
+/// The length of the difference.
+pub struct Distance;
+
+impl OfTriples for Distance {
+    ghost formula = { t.distance };
+
+    #[inline(always)]
+    fn apply(a: Vec3, b: Vec3) -> Num {
+        builtins::distance(a, b)
+    }
+}
+
+/// The vector of length 1 of a direction.
+pub struct Normalize;
+
+impl ToTriple for Normalize {
+    ghost formula = { t.normalize };
+
+    #[inline(always)]
+    fn apply(a: Vec3) -> Vec3 {
+        unit(&a)
+    }
+}
+
+/// The cross product.
+pub struct Cross;
+
+impl ToTriples for Cross {
+    ghost formula = { t.cross };
+
+    #[inline(always)]
+    fn apply(a: Vec3, b: Vec3) -> Vec3 {
+        builtins::cross(a, b)
+    }
+}
+
+/// The first direction thrown back by a surface of the second as its normal.
+pub struct Reflect;
+
+impl ToTriples for Reflect {
+    ghost formula = { t.reflect };
+
+    #[inline(always)]
+    fn apply(a: Vec3, b: Vec3) -> Vec3 {
+        builtins::reflect(a, b)
+    }
+}
+
+/// A row takes the numbers of triples.
+#[tactic(auto, using(crate::proofs::Shorter::all_shorter))]
+pub fn number_of_triple<K: OfTriple>(a: &Planes, out: &mut [Raw])
+    requires { ArePlanes (length out.old) a.now }
+    ensures long { length out.new ≡ length out.old }
+    ensures each { (i : ℕ) → i < length out.old → get_or out.new i (pos 0) ≡ K.formula (triple_at a.now i) }
+{
+    for i in 0..out.len() {
+        out[i] = Raw::of(K::apply(a.at(i)));
+    }
+}
+
+/// A row takes the numbers of two triples.
+#[tactic(auto, using(crate::proofs::Shorter::all_shorter))]
+pub fn number_of_triples<K: OfTriples>(a: &Planes, b: &Planes, out: &mut [Raw])
+    requires a { ArePlanes (length out.old) a.now }
+    requires b { ArePlanes (length out.old) b.now }
+    ensures long { length out.new ≡ length out.old }
+    ensures each { (i : ℕ) → i < length out.old → get_or out.new i (pos 0) ≡ K.formula (triple_at a.now i) (triple_at b.now i) }
+{
+    for i in 0..out.len() {
+        out[i] = Raw::of(K::apply(a.at(i), b.at(i)));
+    }
+}
+
+/// Three rows take the triples of triples.
+#[tactic(auto, using(crate::proofs::Shorter::all_shorter))]
+pub fn triple_of_triple<K: ToTriple>(a: &Planes, x: &mut [Raw], y: &mut [Raw], z: &mut [Raw])
+    requires a { ArePlanes (length x.old) a.now }
+    requires same { (length y.old ≡ length x.old) × (length z.old ≡ length x.old) }
+    ensures long { (length x.new ≡ length x.old) × ((length y.new ≡ length y.old) × (length z.new ≡ length z.old)) }
+    ensures each { (i : ℕ) → i < length x.old → triple_in x.new y.new z.new i ≡ K.formula (triple_at a.now i) }
+{
+    for i in 0..x.len() {
+        let t = K::apply(a.at(i));
+        x[i] = Raw::of(t.x);
+        y[i] = Raw::of(t.y);
+        z[i] = Raw::of(t.z);
+    }
+}
+
+/// Three rows take the triples of two triples.
+#[tactic(auto, using(crate::proofs::Shorter::all_shorter))]
+pub fn triple_of_triples<K: ToTriples>(
+    a: &Planes,
+    b: &Planes,
+    x: &mut [Raw],
+    y: &mut [Raw],
+    z: &mut [Raw],
+)
+    requires a { ArePlanes (length x.old) a.now }
+    requires b { ArePlanes (length x.old) b.now }
+    requires same { (length y.old ≡ length x.old) × (length z.old ≡ length x.old) }
+    ensures long { (length x.new ≡ length x.old) × ((length y.new ≡ length y.old) × (length z.new ≡ length z.old)) }
+    ensures each { (i : ℕ) → i < length x.old → triple_in x.new y.new z.new i ≡ K.formula (triple_at a.now i) (triple_at b.now i) }
+{
+    for i in 0..x.len() {
+        let t = K::apply(a.at(i), b.at(i));
+        x[i] = Raw::of(t.x);
+        y[i] = Raw::of(t.y);
+        z[i] = Raw::of(t.z);
+    }
+}
+
+/// Three rows take normals turned against directions, as others say.
+#[tactic(auto, using(crate::proofs::Shorter::all_shorter))]
+pub fn faceforward_rows(
+    a: &Planes,
+    b: &Planes,
+    c: &Planes,
+    x: &mut [Raw],
+    y: &mut [Raw],
+    z: &mut [Raw],
+)
+    requires a { ArePlanes (length x.old) a.now }
+    requires b { ArePlanes (length x.old) b.now }
+    requires c { ArePlanes (length x.old) c.now }
+    requires same { (length y.old ≡ length x.old) × (length z.old ≡ length x.old) }
+    ensures long { (length x.new ≡ length x.old) × ((length y.new ≡ length y.old) × (length z.new ≡ length z.old)) }
+    ensures each { (i : ℕ) → i < length x.old → triple_in x.new y.new z.new i ≡ t.faceforward (triple_at a.now i) (triple_at b.now i) (triple_at c.now i) }
+{
+    for i in 0..x.len() {
+        let t = faceforward(a.at(i), b.at(i), c.at(i));
+        x[i] = Raw::of(t.x);
+        y[i] = Raw::of(t.y);
+        z[i] = Raw::of(t.z);
+    }
+}

@@ -1,0 +1,145 @@
+// Values of registers by shape, read and stored.
+ghost use Rattle.std.specs.Prelude.{◌≡◌, ℕ, ◌+◌, ◌*◌, ◌&&◌, ◌==◌, ◌<◌, ◌≤◌, cond, false, pos, length, get_or, IfOk};
+ghost use Rattle.builtins.specs.declared.shape.Shape.{Shape as AnyShape};
+ghost use Rattle.builtins.specs.declared.shape.Shape.TheVariants as shapes;
+ghost use Rattle.grid_code.specs.Masked.{same_shape};
+ghost use Rattle.place_rows.specs.Banks.{size, held, of_shape, shape_of_cell, zero_cell, IsStored, IsRowStored};
+
+use crate::bank::Bank;
+use builtins::Shape;
+use bumpalo::Bump;
+use fixed_math::{NoMemory, Vec3};
+use number_rows::Raw;
+use place_values::Cell;
+
+// Writes a row into the row of a register, at the places that are live.
+fn store_row<T: Copy>(rows: &mut [T], register: usize, live: &[bool], row: &[T])
+    requires live { length row.now ≤ length live.now }
+    requires fits { register * length row.now + length row.now ≤ length rows.old }
+    ensures long { length rows.new ≡ length rows.old }
+    ensures each { IsRowStored T register live.now row.now rows.old rows.new }
+{
+    for i in 0..row.len() {
+        if live[i] {
+            rows[register * row.len() + i] = row[i];
+        }
+    }
+}
+
+// Makes the first elements that one.
+fn make_first<T: Copy>(row: &mut [T], count: usize, value: T)
+    requires { count ≤ length row.old }
+    ensures long { length row.new ≡ length row.old }
+    ensures each { (d : T) (i : ℕ) → i < count → get_or row.new i d ≡ value }
+{
+    for n in 0..count {
+        row[n] = value;
+    }
+}
+
+// So many zeros.
+fn zero_row<'a>(arena: &'a Bump, count: usize) -> Result<Vec<Raw, &'a Bump>, NoMemory>
+    ensures long { IfOk result (λ v. length v.items ≡ count) }
+    ensures zero { IfOk result (λ v. (k : ℕ) → get_or v.items k (pos 0) ≡ pos 0) }
+{
+    Ok(vec![in arena; Raw::zero(); count]?)
+}
+
+// So many empty texts.
+fn zero_words<'a>(arena: &'a Bump, count: usize) -> Result<Vec<usize, &'a Bump>, NoMemory>
+    ensures long { IfOk result (λ v. length v.items ≡ count) }
+    ensures zero { IfOk result (λ v. (k : ℕ) → get_or v.items k 0 ≡ 0) }
+{
+    Ok(vec![in arena; 0; count]?)
+}
+
+impl<'a> Bank<'a> {
+    /// A bank of that many values of each shape, or want of memory.
+    pub fn zeros(
+        arena: &'a Bump,
+        numbers: usize,
+        triples: usize,
+        words: usize,
+    ) -> Result<Bank<'a>, NoMemory>
+        ensures numbers { IfOk result (λ b. size b shapes.Number ≡ numbers) }
+        ensures triples { IfOk result (λ b. size b shapes.Triple ≡ triples) }
+        ensures words { IfOk result (λ b. size b shapes.Word ≡ words) }
+        ensures zero { IfOk result (λ b. (shape : AnyShape) (k : ℕ) → held b shape k ≡ zero_cell shape) }
+    {
+        Ok(Bank {
+            numbers: zero_row(arena, numbers)?,
+            xs: zero_row(arena, triples)?,
+            ys: zero_row(arena, triples)?,
+            zs: zero_row(arena, triples)?,
+            words: zero_words(arena, words)?,
+        })
+    }
+}
+
+impl Bank<'_> {
+    /// The value at a place.
+    pub fn get(&self, shape: Shape, at: usize) -> Cell
+        requires { at < size self.now shape }
+        ensures { result ≡ held self.now shape at }
+    {
+        match shape {
+            Shape::Number => Cell::Number(self.numbers[at].number()),
+            Shape::Triple => Cell::Triple(Vec3 {
+                x: self.xs[at].number(),
+                y: self.ys[at].number(),
+                z: self.zs[at].number(),
+            }),
+            Shape::Word => Cell::Word(self.words[at]),
+        }
+    }
+
+    /// Sets the value at a place to one of its shape.
+    pub fn set(&mut self, at: usize, cell: &Cell)
+        requires at { at < size self.old (shape_of_cell cell.now) }
+        ensures size { (t : AnyShape) → size self.new t ≡ size self.old t }
+        ensures value { (t : AnyShape) (k : ℕ) → held self.new t k ≡ cond (same_shape t (shape_of_cell cell.now) && k == at) cell.now (held self.old t k) }
+    {
+        match cell {
+            Cell::Number(x) => self.numbers[at] = Raw::of(*x),
+            Cell::Triple(t) => {
+                self.xs[at] = Raw::of(t.x);
+                self.ys[at] = Raw::of(t.y);
+                self.zs[at] = Raw::of(t.z);
+            }
+            Cell::Word(w) => self.words[at] = *w,
+        }
+    }
+
+    /// Writes the row of that shape into the row of a register, at the places that are live.
+    pub fn store(&mut self, shape: Shape, register: usize, live: &[bool], row: &Bank)
+        requires live { size row.now shape ≤ length live.now }
+        requires fits { register * size row.now shape + size row.now shape ≤ size self.old shape }
+        ensures size { (t : AnyShape) → size self.new t ≡ size self.old t }
+        ensures value { IsStored (size row.now shape) shape register live.now row.now self.old self.new }
+    {
+        match shape {
+            Shape::Number => store_row(&mut self.numbers, register, live, &row.numbers),
+            Shape::Triple => {
+                store_row(&mut self.xs, register, live, &row.xs);
+                store_row(&mut self.ys, register, live, &row.ys);
+                store_row(&mut self.zs, register, live, &row.zs);
+            }
+            Shape::Word => store_row(&mut self.words, register, live, &row.words),
+        }
+    }
+
+    /// Makes that many first values of each shape 0.
+    pub fn clear(&mut self, numbers: usize, triples: usize, words: usize)
+        requires numbers { numbers ≤ size self.old shapes.Number }
+        requires triples { triples ≤ size self.old shapes.Triple }
+        requires words { words ≤ size self.old shapes.Word }
+        ensures size { (s : AnyShape) → size self.new s ≡ size self.old s }
+        ensures zero { (s : AnyShape) (k : ℕ) → k < of_shape numbers triples words s → held self.new s k ≡ zero_cell s }
+    {
+        make_first(&mut self.numbers, numbers, Raw::zero());
+        make_first(&mut self.xs, triples, Raw::zero());
+        make_first(&mut self.ys, triples, Raw::zero());
+        make_first(&mut self.zs, triples, Raw::zero());
+        make_first(&mut self.words, words, 0);
+    }
+}
