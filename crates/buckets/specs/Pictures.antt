@@ -39,20 +39,31 @@ leaf_cells a f prim part (Dice p q) = diced_cells a f prim part p q
 unfoldable pub leaf_micropolygons : AcceptedValue → FrameValue → PrimValue → Part → List Micropolygon
 leaf_micropolygons a f prim part = map (still prim.one_sided prim.flip) (leaf_cells a f prim part (decide f.camera prim part))
 
--- the leaves of primitive n of a frame, and of all its primitives, each with its number among them
-abbrev pub prim_leaves : FrameValue → ℕ → PrimValue → List Part
-prim_leaves f n prim = leaves (decide f.camera prim) (whole_of n)
+-- a leaf of a frame: a primitive, and a part of it that is diced
+pub record FrameLeaf : Type 0 where
+  pub prim : PrimValue
+  pub part : Part
 
-abbrev pub frame_leaves : FrameValue → List Part
-frame_leaves f = flat_map (λ np. prim_leaves f np.0 np.1) (enumerate_from 0 f.prims)
+abbrev pub leaf_in : PrimValue → Part → FrameLeaf
+leaf_in prim part = record { prim = prim; part = part }
 
--- the micropolygons of primitive n: of its leaves, one after another
-unfoldable pub prim_micropolygons : AcceptedValue → FrameValue → ℕ → PrimValue → List Micropolygon
-prim_micropolygons a f n prim = flat_map (leaf_micropolygons a f prim) (prim_leaves f n prim)
+-- the leaves of primitive n of a frame
+abbrev pub prim_leaves : FrameValue → ℕ → PrimValue → List FrameLeaf
+prim_leaves f n prim = map (leaf_in prim) (leaves (decide f.camera prim) (whole_of n))
 
--- those of a frame
+-- those of its primitives from number n on, one primitive after another, and those of all of them
+abbrev pub leaves_from : FrameValue → ℕ → List PrimValue → List FrameLeaf
+leaves_from f n prims = flat_map (λ np. prim_leaves f np.0 np.1) (enumerate_from n prims)
+
+abbrev pub frame_leaves : FrameValue → List FrameLeaf
+frame_leaves f = leaves_from f 0 f.prims
+
+-- the micropolygons of some leaves of a frame, one leaf after another, and those of all of them
+abbrev pub micropolygons_of : AcceptedValue → FrameValue → List FrameLeaf → List Micropolygon
+micropolygons_of a f xs = flat_map (λ x. leaf_micropolygons a f x.prim x.part) xs
+
 unfoldable pub micropolygons : AcceptedValue → FrameValue → List Micropolygon
-micropolygons a f = flat_map (λ np. prim_micropolygons a f np.0 np.1) (enumerate_from 0 f.prims)
+micropolygons a f = micropolygons_of a f (frame_leaves f)
 
 -- each sample has the composite of all micropolygons that cover it
 abbrev pub film_of : AcceptedValue → FrameValue → FilmValues

@@ -1,8 +1,13 @@
-//! The picture of a frame: its primitives split, diced, shaded and hidden, its pixels filtered.
+//! The picture of a frame, drawn bucket by bucket: its primitives split, diced, shaded and hidden, its pixels filtered.
 #![tactic(auto)]
 
-mod drawing;
-mod frame_in;
+mod frame;
+mod leaf_use;
+mod leaf_walk;
+mod limits;
+mod row_band;
+mod shown;
+mod tile_drawing;
 
-pub use drawing::{PictureBytes, draw};
-pub use frame_in::FrameIn;
+pub use frame::render_frame;
+pub use limits::{DrawFault, Limits, Report};

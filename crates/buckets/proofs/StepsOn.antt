@@ -1,0 +1,114 @@
+-- How a drawing goes from tile to tile.
+use Rattle.std.proofs.Common.{◌≡◌, ℕ, zero, suc, ◌+◌, ◌-◌, ◌*◌, ◌<◌, ◌≤◌, max, arith, refl, sym, ◌∙◌, ap, subst, List, [], ◌∷◌, length, take, ◌++◌, Option, Some, None, true, false}
+use Rattle.std.specs.Prelude.{is_some}
+use Rattle.std.proofs.lemmas.List.{take_all}
+use Rattle.fixed_math.specs.Spots.{PixelRect}
+use Rattle.patches.specs.Parts.{Part}
+use Rattle.dice.specs.declared.diced.GridRef.{GridRef}
+use Rattle.bound_split.specs.declared.walk.Leaf.{Leaf}
+use Rattle.bound_split.specs.Lengths.{most_below}
+use Rattle.scene.specs.Scene.{FrameValue}
+use Rattle.hider.specs.declared.sample_grid.SampleGrid.{SampleGrid}
+use Rattle.hider.specs.Tiles.{TileValue, Shows, sample_count}
+use Rattle.filter_ppm.specs.Bands.{rect_with}
+use Rattle.buckets.specs.declared.frame.Progress.{Progress}
+use Rattle.buckets.specs.Pictures.{FrameLeaf, frame_leaves}
+use Rattle.buckets.specs.TileWalk.{Drawing, Counts, nothing, in_new_epoch, format_in, bucket_of, tile_count, tile_rect, tile_grid, meets_in, meets_tile, samples_at, past_tiles, tile_walk}
+use Rattle.buckets.specs.Standing.{Begun, InEpoch, IsDrawable, Before, Goes, Going, GivesNext, to_come}
+use Rattle.buckets.specs.Rows.{film, IsRowTo, TellsSamples}
+use Rattle.buckets.specs.Progress.{Stands, IsIn, next_of, report_before}
+use Rattle.filter_ppm.specs.Bands.{ArePixels}
+use Rattle.buckets.proofs.BucketRows.{GoesOnRow}
+use Rattle.buckets.proofs.Going.{goes_begun, goes_next, goes_epochs}
+use Rattle.buckets.proofs.Laws.{lawful}
+use Rattle.buckets.proofs.Passing.{gives_as}
+
+-- the first leaf of a frame in a tile, as the code has it
+pub gives_all : (next : Option Leaf) (d : Drawing) (n : ℕ) (f : FrameValue) (r : PixelRect) (first : List FrameLeaf) (behind : FrameValue → List FrameLeaf) → f ≡ d.frame → r ≡ tile_rect d n → first ≡ frame_leaves f
+    → GivesNext f (meets_in f r) next first (behind f) → GivesNext d.frame (meets_tile d n) next (frame_leaves d.frame) (behind d.frame)
+gives_all next d n f r first behind frame rect all gives =
+    subst (λ (g : FrameValue). GivesNext d.frame (meets_tile d n) next (frame_leaves g) (behind g)) frame
+    (gives_as next d n f r (frame_leaves f) (behind f) frame rect (subst (λ xs. GivesNext f (meets_in f r) next xs (behind f)) all gives))
+
+-- in a tile that has just begun
+pub stands_in : (e : InEpoch) (p : Progress) (kept : List (Part × GridRef)) (count : ℕ) → IsDrawable e.begun.drawing → Before e p.drawing.at kept count → p.drawing.at < tile_count e.begun.drawing
+    → p.filter ≡ format_in e.begun.drawing.frame → rect_with p.drawing.rect ≡ tile_rect e.begun.drawing p.drawing.at → p.drawing.tile.grid ≡ tile_grid e.begun.drawing p.drawing.at → Shows p.drawing.tile (λ s. [])
+    → GivesNext e.begun.drawing.frame (meets_tile e.begun.drawing p.drawing.at) p.drawing.next (frame_leaves e.begun.drawing.frame) (to_come e.begun.drawing.frame p.drawing.leaves.number p.drawing.leaves.pieces)
+    → IsRowTo e.begun.drawing p.drawing.at (bucket_of e.begun.drawing p.drawing.at).left p.row.items → Stands e p kept count
+stands_in e p kept count h before low format rect grid empty gives row =
+    let d = e.begun.drawing in
+    record {
+      within = omega (arith, low);
+      format = format;
+      going = λ l. record {
+        rect = rect;
+        row = row;
+        going = goes_next p.drawing.next e p.drawing.at p.drawing.tile (frame_leaves d.frame) (to_come d.frame p.drawing.leaves.number p.drawing.leaves.pieces) kept count (lawful d p.drawing.at h) gives
+            (goes_begun e p.drawing.at p.drawing.tile kept count before low grid empty);
+      };
+      ended = λ is. absurd (omega (arith, is, low));
+    }
+
+-- behind the last tile
+pub stands_behind : (e : InEpoch) (p : Progress) (kept : List (Part × GridRef)) (count : ℕ) → Before e p.drawing.at kept count → p.drawing.at ≡ tile_count e.begun.drawing → p.filter ≡ format_in e.begun.drawing.frame → Stands e p kept count
+stands_behind e p kept count before is format = record { within = omega (arith, is); format = format; going = λ l. absurd (omega (arith, is, l)); ended = λ _. before }
+
+-- before the first one
+pub before_first : (b : Begun) → Before (next_of b (report_before b)) 0 [] b.count
+unfolding tile_walk
+before_first b =
+    let none : tile_count b.drawing - 0 ≡ tile_count b.drawing = omega arith in
+    record {
+      counts = in_new_epoch nothing;
+      grids = tt;
+      keeps = record { pieces = refl; points = refl };
+      counted = record { shadings = omega arith; epochs = omega arith; most = omega arith };
+      walk = ap (λ k. past_tiles b.drawing k 0 (in_new_epoch nothing)) none;
+    }
+
+-- ---- reports
+pub tells_more : (b : Begun) (n n' most s m : ℕ) (g : SampleGrid) → TellsSamples b n most → s ≡ sample_count g → g ≡ tile_grid b.drawing n → n' ≡ n + 1 → m ≡ max most s → TellsSamples b n' m
+unfolding most_below
+tells_more b n n' most s m g tells is grid next more =
+    let here : s ≡ samples_at b.drawing n = is ∙ ap (λ (q : SampleGrid). sample_count q) grid in
+    let one : n' ≡ suc n = omega (arith, next) in
+    let step : most_below n' (samples_at b.drawing) ≡ max (most_below n (samples_at b.drawing)) (samples_at b.drawing n) = ap (λ k. most_below k (samples_at b.drawing)) one in
+    omega (arith, tells, here, step, more)
+
+pub tells_none : (b : Begun) (n most : ℕ) → n ≡ 0 → most ≡ b.most_samples → TellsSamples b n most
+unfolding most_below
+tells_none b n most none is =
+    let zero' : most_below n (samples_at b.drawing) ≡ 0 = ap (λ k. most_below k (samples_at b.drawing)) none in
+    omega (arith, is, zero')
+
+-- what a slice is put back as
+pub take_front : {A : Type 0} (n : ℕ) (xs ys : List A) → length xs ≡ n → take n (xs ++ ys) ≡ xs
+take_front zero [] ys h = refl
+take_front zero (x ∷ xs) ys h = absurd (omega (arith, h))
+take_front (suc n) [] ys h = absurd (omega (arith, h))
+take_front (suc n) (x ∷ xs) ys h = ap (λ l. x ∷ l) (take_front n xs ys (omega (arith, h)))
+
+-- ---- rows
+pub row_goes_on : (d : Drawing) (n : ℕ) (row : List (List ℕ)) → GoesOnRow d n → IsRowTo d n (bucket_of d n).right row → IsRowTo d (n + 1) (bucket_of d (n + 1)).left row
+row_goes_on d n row on is = record {
+  size = is.size ∙ ap (λ b. d.frame.camera.width * (b - (bucket_of d n).top)) (sym on.bottom) ∙ ap (λ t. d.frame.camera.width * ((bucket_of d (n + 1)).bottom - t)) (sym on.top);
+  pixels = subst (λ t. ArePixels (film d) t (bucket_of d (n + 1)).bottom (bucket_of d (n + 1)).left row) (sym on.top)
+      (subst (λ b. ArePixels (film d) (bucket_of d n).top b (bucket_of d (n + 1)).left row) (sym on.bottom)
+      (subst (λ l. ArePixels (film d) (bucket_of d n).top (bucket_of d n).bottom l row) (sym on.left) is.pixels));
+}
+
+-- ---- epochs
+pub is_none : (o : Option Leaf) → is_some o ≡ false → o ≡ None
+is_none None h = refl
+is_none (Some leaf) h = absurd (cc)
+
+pub is_not_none : (o : Option Leaf) → is_some o ≡ true → o ≡ None → ⊥
+is_not_none o h e = cc (ap (λ (q : Option Leaf). is_some q) e)
+
+-- an epoch of the walk is one of at most so many
+pub stands_epochs : (e : InEpoch) (p : Progress) (kept : List (Part × GridRef)) (count : ℕ) → p.drawing.at < tile_count e.begun.drawing → Stands e p kept count
+    → (e.begun.epochs ≤ e.epochs) × (e.epochs ≤ e.begun.epochs + (tile_walk e.begun.drawing).epochs)
+stands_epochs e p kept count low s =
+    let going = (s.going low).going in
+    let is = going.goes.counted.epochs in
+    (omega (arith, is), goes_epochs e p.drawing.at p.drawing.tile going.rest kept count going.goes)

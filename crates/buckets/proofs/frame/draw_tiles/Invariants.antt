@@ -1,0 +1,26 @@
+use Rattle.std.proofs.Common.{◌≡◌, ◌≤◌, ◌<◌, ◌+◌, ◌-◌, [], true}
+use Rattle.buckets.specs.TileWalk.{tile_count, tile_walk}
+use Rattle.buckets.specs.Progress.{Stands, Done, next_of, report_before}
+use Rattle.buckets.specs.Rows.{PutsTo, TellsSamples}
+use Rattle.buckets.proofs.frame.draw_tiles.Given as goal
+
+abbrev pub invariant-loop-progress : goal.invariant-loop-progress
+invariant-loop-progress g l = record {
+  within : l.progress.drawing.at ≤ tile_count g.begun.drawing;
+  full : l.progress.drawing.at < tile_count g.begun.drawing → Stands (next_of g.begun l.report) l.progress [] l.shop.count;
+  ended : l.progress.drawing.at ≡ tile_count g.begun.drawing → Done g.begun.drawing g.begun.count l.shop.count (report_before g.begun) l.report;
+  samples : TellsSamples g.begun l.progress.drawing.at l.report.most_samples;
+  set : l.shop.set ≡ l.initial.shop.set;
+  open' : g.O.FrameSink.is_open l.sink ≡ true;
+  put : PutsTo g.begun l.progress.drawing.at (g.O.FrameSink.written l.sink);
+  later : g.O.FrameSink.faults l.initial.sink ≤ g.O.FrameSink.faults l.sink;
+}
+
+abbrev pub decreases-loop-progress : goal.decreases-loop-progress
+decreases-loop-progress g l = g.begun.epochs + (tile_walk g.begun.drawing).epochs - l.report.epochs
+
+abbrev pub ghost-started : goal.ghost-started
+ghost-started g a = g.begun
+
+abbrev pub ghost-run_epoch : goal.ghost-run_epoch
+ghost-run_epoch g a = g.begun

@@ -1,0 +1,38 @@
+use Rattle.std.proofs.Common.{◌≡◌, ◌∙◌, sym, ap, subst, arith, ℕ, refl, [], List}
+use Rattle.scene.specs.Scene.{FrameValue}
+use Rattle.scene.specs.Settings.{OptionValues}
+use Rattle.transforms.specs.declared.view.View.{View}
+use Rattle.filter_ppm.specs.Sampled.{FilmFormat}
+use Rattle.bound_split.specs.Extents.{pixels_of}
+use Rattle.buckets.specs.declared.frame.Progress.{Progress}
+use Rattle.buckets.specs.TileWalk.{bucket_of, format_in}
+use Rattle.buckets.specs.Standing.{InEpoch, to_come}
+use Rattle.buckets.specs.Rows.{IsRowTo}
+use Rattle.buckets.specs.Progress.{Stands, next_of, report_before}
+use Rattle.buckets.proofs.BucketRows.{some_tiles, first_left}
+use Rattle.buckets.proofs.BucketPixels.{grid_from}
+use Rattle.buckets.proofs.StepsOn.{gives_all, stands_in, before_first}
+use Rattle.buckets.proofs.frame.started.Goals as goal
+
+pub new_row-requires : goal.new_row-requires
+new_row-requires g c = (c.requires.0, some_tiles g.begun.drawing c.requires.0.drawable)
+
+pub returns-clause-stands : goal.returns-clause-stands
+returns-clause-stands g c = λ e is.
+    let b = g.begun in
+    let d = b.drawing in
+    let q = c.requires.0 in
+    let f = c.args.shown.now.frame.now in
+    let frame : f ≡ d.frame = q.frame in
+    let options : c.frame.inside.options ≡ d.frame.options = ap (λ (v : FrameValue). v.options) (c.frame.view_is ∙ frame) in
+    let chosen : OptionValues = c.frame.inside.options in
+    let camera : c.view-view.result.now ≡ d.frame.camera = c.view-view.ensures.value ∙ ap (λ (v : FrameValue). v.camera) (c.frame.view_is ∙ frame) in
+    let p : Progress = record { drawing = record { at = 0; rect = c.tile_at-rect.result; tile = c.in_ok-tile.tile; leaves = c.next-next.new.self; next = c.next-next.result }; filter = c.in_ok-new.field-0; row = c.in_ok-new_row.field-0 } in
+    let xs = ap (λ (o : OptionValues). o.xs) (c.options.view_is ∙ options) in
+    let ys = ap (λ (o : OptionValues). o.ys) (c.options.view_is ∙ options) in
+    let format : p.filter ≡ format_in d.frame = c.in_ok-new.ensures ∙ ap (λ (v : View). record { width = v.width; height = v.height; options = chosen }) camera ∙ ap (λ (o : OptionValues). record { width = d.frame.camera.width; height = d.frame.camera.height; options = o }) options in
+    subst (λ (k : InEpoch). Stands k p [] b.count) (sym is)
+    (stands_in (next_of b (report_before b)) p [] b.count q.drawable (before_first b) (some_tiles d q.drawable) format c.tile_at-rect.ensures
+    (c.in_ok-tile.ensures.grid ∙ grid_from d 0 c.tile_at-rect.result c.options.inside.xs c.options.inside.ys c.tile_at-rect.ensures xs ys) c.in_ok-tile.ensures.empty
+    (gives_all c.next-next.result d 0 f (pixels_of c.tile_at-rect.result) (to_come f c.new-leaves.result.number c.new-leaves.result.pieces) (λ v. to_come v c.next-next.new.self.number c.next-next.new.self.pieces) frame c.tile_at-rect.ensures (c.new-leaves.ensures f) c.next-next.ensures)
+    (subst (λ (l : ℕ). IsRowTo d 0 l p.row.items) (sym (first_left d q.drawable)) c.in_ok-new_row.ensures))

@@ -1,0 +1,23 @@
+use Rattle.std.proofs.Common.{◌≡◌, ◌+◌, length, ℕ, Option, Some, None}
+use Rattle.bound_split.specs.declared.walk.Leaf.{Leaf}
+use Rattle.filter_ppm.specs.Bands.{rect_with}
+use Rattle.displace_shade.specs.Shop.{set_value}
+use Rattle.buckets.specs.TileWalk.{tile_rect}
+use Rattle.buckets.specs.Standing.{Going, to_come}
+use Rattle.buckets.proofs.Passing.{some_leaf}
+use Rattle.buckets.proofs.tile_drawing.TileDrawing.fill.Given as goal
+
+abbrev pub invariant-loop-self : goal.invariant-loop-self
+invariant-loop-self g l = record {
+  at_same : l.self.at ≡ l.initial.self.at;
+  rect : l.self.rect ≡ l.initial.self.rect;
+  limit : l.epoch.limit ≡ l.initial.epoch.limit;
+  set : l.shop.set ≡ l.initial.shop.set;
+  going : Going g.at_epoch l.self.at l.self.tile l.self.next (to_come l.shown.frame.now l.self.leaves.number l.self.leaves.pieces) l.epoch.kept l.shop.count;
+}
+
+abbrev pub decreases-loop-self : goal.decreases-loop-self
+decreases-loop-self g l = some_leaf l.self.next + length (to_come l.shown.frame.now l.self.leaves.number l.self.leaves.pieces)
+
+abbrev pub ghost-pass_leaf : goal.ghost-pass_leaf
+ghost-pass_leaf g a = g.at_epoch

@@ -1,0 +1,186 @@
+-- Where the drawing of a frame stands: what its tile shows, and what is left of the walk through its tiles.
+use Rattle.std.specs.Prelude.{◌≡◌, ℕ, ◌+◌, ◌-◌, ◌*◌, ◌/◌, ◌%◌, ◌^◌, ◌<◌, ◌≤◌, max, Bool, true, false, nat_le, filter, List, [], ◌∷◌, ◌++◌, length, map, drop, take, All, Option, Some, None, slice_get}
+use Rattle.patches.specs.Parts.{Part}
+use Rattle.bound_split.specs.declared.walk.Leaf.{Leaf}
+use Rattle.bound_split.specs.declared.splits.Decision.TheVariants.{Dice}
+use Rattle.bound_split.specs.Leaves.{pending}
+use Rattle.bound_split.specs.Lengths.{most_below}
+use Rattle.dice.specs.declared.diced.GridRef.{GridRef}
+use Rattle.scene.specs.Settings.{AreOptions}
+use Rattle.scene.specs.Scene.{PrimValue, FrameValue}
+use Rattle.shader_binding.specs.Sets.{SetValue, AcceptedValue, Fits}
+use Rattle.shader_binding.specs.Bindings.{FitsPrim}
+use Rattle.displace_shade.specs.Diced.{grid_value}
+use Rattle.displace_shade.specs.Shaded.{shaded}
+use Rattle.displace_shade.specs.Shop.{leaf_of}
+use Rattle.hider.specs.Tiles.{TileValue, Shows}
+use Rattle.filter_ppm.specs.Sampled.{IsFormat}
+use Rattle.grid_epoch.specs.Kept.{has, pieces_in, points_in}
+use Rattle.outside.specs.Sink.{Written}
+use Rattle.buckets.specs.declared.shown.Shown.{Shown}
+use Rattle.buckets.specs.Culled.{IsShadedPrim}
+use Rattle.buckets.specs.Pictures.{decide, FrameLeaf, leaf_in, leaves_from, frame_leaves, leaf_micropolygons}
+use Rattle.buckets.specs.Sampled.{ShowsMore}
+use Rattle.buckets.specs.TileWalk.{Drawing, Counts, walked, format_in, tile_count, tile_grid, meets_tile, fragments_of, leaf_points, with_needed, past_leaves, past_tiles, tile_walk}
+
+-- a drawing, and what stood before it: the shop's count, the report's numbers, and what the sink told behind the header
+pub record Begun : Type 0 where
+  pub drawing : Drawing
+  pub count : ℕ
+  pub epochs : ℕ
+  pub most_points : ℕ
+  pub most_samples : ℕ
+  pub written : Option (List Written)
+
+-- a drawing that can be done: the set fits, and the limits lie in their ranges
+pub record IsDrawable (d : Drawing) : Type 0 where
+  pub fits : Fits d.accepted.set d.accepted.scene.uses
+  pub variables : All (FitsPrim d.accepted.set d.accepted.scene.uses) d.frame.prims
+  pub prims : All (IsShadedPrim d.accepted d.frame) d.frame.prims
+  pub format : IsFormat (format_in d.frame)
+  pub options : AreOptions d.frame.options
+  pub few_prims : length d.frame.prims ≤ 65536
+  pub side_low : 4 ≤ d.side
+  pub side_high : d.side ≤ 64
+  pub limit_low : 289 ≤ d.limit
+
+-- the code draws this frame within these limits, and the counts before it leave room
+pub record IsDrawn (b : Begun) (s : Shown) : Type 0 where
+  pub drawable : IsDrawable b.drawing
+  pub scene : s.scene.now ≡ b.drawing.accepted.scene
+  pub frame : s.frame.now ≡ b.drawing.frame
+  pub side : s.limits.bucket ≡ b.drawing.side
+  pub limit : s.limits.grid_points ≡ b.drawing.limit
+  pub tiles : s.tiles ≡ tile_count b.drawing
+  pub count : b.count ≤ 2 ^ 62
+  pub epochs : b.epochs ≤ 2 ^ 62
+
+-- ---- leaves to come
+-- those below the pieces of a stack of primitive n, and those of the primitives behind it
+abbrev pub coming_from : FrameValue → ℕ → List PrimValue → List Part → List FrameLeaf
+coming_from f n [] stack = []
+coming_from f n (p ∷ ps) stack = map (leaf_in p) (pending (decide f.camera p) stack) ++ leaves_from f (n + 1) ps
+
+unfoldable pub to_come : FrameValue → ℕ → List Part → List FrameLeaf
+to_come f n stack = coming_from f n (drop n f.prims) stack
+
+-- the leaf of a walk is one of a frame
+pub record IsLeafOf (f : FrameValue) (leaf : Leaf) (x : FrameLeaf) : Type 0 where
+  pub part : x.part ≡ leaf.piece
+  pub sizes : decide f.camera x.prim leaf.piece ≡ Dice leaf.p leaf.q
+  pub p : leaf.p ≤ 4
+  pub q : leaf.q ≤ 4
+
+-- a leaf that is next in tile n, where there is one, and those behind it
+abbrev pub Comes : Drawing → ℕ → Option Leaf → List FrameLeaf → List FrameLeaf → Type 0
+Comes d n None behind rest = rest ≡ []
+Comes d n (Some leaf) behind rest = (x : FrameLeaf) × IsLeafOf d.frame leaf x × (meets_tile d n x ≡ true) × (rest ≡ x ∷ behind)
+
+-- ---- kept grids
+-- the grid is that of its piece
+abbrev pub IsGridOf : Drawing → Part → GridRef → Type 0
+IsGridOf d part grid = (prim : PrimValue) (p q : ℕ) → slice_get d.frame.prims part.prim ≡ Some prim → decide d.frame.camera prim part ≡ Dice p q
+    → grid_value grid ≡ shaded (leaf_of d.frame prim part p q) d.accepted.set d.accepted.scene.uses
+
+abbrev pub AreGrids : Drawing → List (Part × GridRef) → Type 0
+AreGrids d [] = Unit {0}
+AreGrids d (k ∷ ks) = IsGridOf d k.0 k.1 × AreGrids d ks
+
+-- the counts have what the table has
+pub record Keeps (kept : List (Part × GridRef)) (c : Counts) : Type 0 where
+  pub pieces : c.kept ≡ pieces_in kept
+  pub points : c.points ≡ points_in kept
+
+-- ---- an epoch
+-- a drawing in one of its epochs: what the report tells by now
+pub record InEpoch : Type 0 where
+  pub begun : Begun
+  pub epochs : ℕ
+  pub most_points : ℕ
+
+-- in the epoch behind one that keeps so many points
+abbrev pub next_epoch : ℕ → InEpoch → InEpoch
+next_epoch points e = record { begun = e.begun; epochs = e.epochs + 1; most_points = max e.most_points points }
+
+-- the counts are those since the drawing began
+pub record Counted (e : InEpoch) (count : ℕ) (c : Counts) : Type 0 where
+  pub shadings : count ≡ e.begun.count + c.shadings
+  pub epochs : e.epochs ≡ e.begun.epochs + c.epochs
+  pub most : e.most_points ≡ max e.begun.most_points c.most
+
+-- in tile n, which shows the leaves that were gone past: what the rest of the walk comes to is what the whole comes to
+pub record Goes (e : InEpoch) (n : ℕ) (tile : TileValue) (rest : List FrameLeaf) (kept : List (Part × GridRef)) (count : ℕ) : Type 0 where
+  pub shown : List FrameLeaf
+  pub past : List FrameLeaf
+  pub counts : Counts
+  pub grid : tile.grid ≡ tile_grid e.begun.drawing n
+  pub split : past ++ rest ≡ frame_leaves e.begun.drawing.frame
+  pub shows : Shows tile (fragments_of e.begun.drawing shown)
+  pub shows_past : Shows tile (fragments_of e.begun.drawing past)
+  pub grids : AreGrids e.begun.drawing kept
+  pub keeps : Keeps kept counts
+  pub counted : Counted e count counts
+  pub walk : past_tiles e.begun.drawing (tile_count e.begun.drawing - (n + 1)) (n + 1) (past_leaves e.begun.drawing n (walked shown counts) rest).counts
+      ≡ tile_walk e.begun.drawing
+
+-- with the leaf that is next
+pub record Going (e : InEpoch) (n : ℕ) (tile : TileValue) (next : Option Leaf) (behind : List FrameLeaf) (kept : List (Part × GridRef)) (count : ℕ) : Type 0 where
+  pub rest : List FrameLeaf
+  pub comes : Comes e.begun.drawing n next behind rest
+  pub goes : Goes e n tile rest kept count
+
+-- before tile n, or behind the last one
+pub record Before (e : InEpoch) (n : ℕ) (kept : List (Part × GridRef)) (count : ℕ) : Type 0 where
+  pub counts : Counts
+  pub grids : AreGrids e.begun.drawing kept
+  pub keeps : Keeps kept counts
+  pub counted : Counted e count counts
+  pub walk : past_tiles e.begun.drawing (tile_count e.begun.drawing - n) n counts ≡ tile_walk e.begun.drawing
+
+-- ---- steps
+-- some leaves but for those at their front, of which none passes a test
+pub record Skips (test : FrameLeaf → Bool) (old new : List FrameLeaf) : Type 0 where
+  pub skipped : List FrameLeaf
+  pub split : old ≡ skipped ++ new
+  pub fail : filter test skipped ≡ []
+
+-- the first leaf that passes a test, where there is one, and those behind it, none where there is none
+abbrev pub GivesNext : FrameValue → (FrameLeaf → Bool) → Option Leaf → List FrameLeaf → List FrameLeaf → Type 0
+GivesNext f test None old new = Skips test old [] × (new ≡ [])
+GivesNext f test (Some leaf) old new = (x : FrameLeaf) × IsLeafOf f leaf x × (test x ≡ true) × Skips test old (x ∷ new)
+
+-- with so many shadings more, the counts are these, which have what the table has
+pub record CountsGo (old new : Counts) (kept : List (Part × GridRef)) (count count' : ℕ) : Type 0 where
+  pub keeps : Keeps kept new
+  pub shadings : count' + old.shadings ≡ count + new.shadings
+  pub epochs : new.epochs ≡ old.epochs
+  pub most : new.most ≡ old.most
+
+-- a leaf has been hidden, and its grid is kept; or there is no room for its grid, and nothing has changed
+abbrev pub Uses : Bool → Drawing → FrameLeaf → List (Part × GridRef) → ℕ → TileValue → List (Part × GridRef) → ℕ → TileValue → Type 0
+Uses true d x kept count old kept' count' new =
+    AreGrids d kept' × ShowsMore d.frame.camera (leaf_micropolygons d.accepted d.frame x.prim x.part) old new
+    × ((c : Counts) → Keeps kept c → CountsGo c (with_needed d.limit x.part (leaf_points d x) c) kept' count count')
+Uses false d x kept count old kept' count' new =
+    (kept' ≡ kept) × (count' ≡ count) × (new ≡ old) × (has x.part (pieces_in kept) ≡ false) × (nat_le (points_in kept + leaf_points d x) d.limit ≡ false)
+
+-- where memory was wanting the count has risen by no more than that of a leaf that is used
+abbrev pub UsesInPart : Drawing → FrameLeaf → List (Part × GridRef) → ℕ → ℕ → Type 0
+UsesInPart d x kept count count' =
+    (count ≤ count') × (count' ≤ count + 1) × ((c : Counts) → Keeps kept c → count' + c.shadings ≤ count + (with_needed d.limit x.part (leaf_points d x) c).shadings)
+
+-- the drawing has gone past a leaf of a tile; or there is no room for its grid, and in the next epoch it goes on from there
+abbrev pub PassesLeaf : Bool → InEpoch → FrameLeaf → TileValue → List (Part × GridRef) → ℕ → TileValue → List (Part × GridRef) → ℕ → Type 0
+PassesLeaf true e x tile kept count tile' kept' count' =
+    (n : ℕ) (rest : List FrameLeaf) → meets_tile e.begun.drawing n x ≡ true → Goes e n tile (x ∷ rest) kept count → Goes e n tile' rest kept' count'
+PassesLeaf false e x tile kept count tile' kept' count' =
+    (n : ℕ) (rest : List FrameLeaf) → meets_tile e.begun.drawing n x ≡ true → Goes e n tile (x ∷ rest) kept count
+    → Goes (next_epoch (points_in kept') e) n tile' (x ∷ rest) [] count'
+
+-- no more was shaded than the walk shades
+abbrev pub ShadesInPart : Begun → ℕ → Type 0
+ShadesInPart b count = (b.count ≤ count) × (count ≤ b.count + (tile_walk b.drawing).shadings)
+
+abbrev pub PassesInPart : InEpoch → FrameLeaf → TileValue → List (Part × GridRef) → ℕ → ℕ → Type 0
+PassesInPart e x tile kept count count' =
+    (n : ℕ) (rest : List FrameLeaf) → meets_tile e.begun.drawing n x ≡ true → Goes e n tile (x ∷ rest) kept count → ShadesInPart e.begun count'

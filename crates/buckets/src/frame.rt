@@ -1,0 +1,383 @@
+// A frame, tile by tile and epoch by epoch, to a sink.
+ghost use Rattle.std.specs.Prelude.{◌≡◌, ◌≢◌, ◌≤◌, ◌<◌, ◌+◌, ◌^◌, ◌∷◌, [], None, Some, ℕ, List, pos, ◌≤ℤ◌, true, false, max, All, length, IfOk, OnOk, OnErr, IsErrOf, slice_get};
+ghost use Rattle.outside.specs.Causes.{Rose};
+ghost use Rattle.outside.specs.Frames.{Adds, AddsPart, PutsAll, PutsFront, whole};
+ghost use Rattle.patches.specs.Parts.{Part};
+ghost use Rattle.dice.specs.declared.diced.GridRef.{GridRef};
+ghost use Rattle.shader_binding.specs.Sets.{Fits};
+ghost use Rattle.shader_binding.specs.Bindings.{FitsPrim};
+ghost use Rattle.scene.specs.Scene.{FrameValue, HasUses};
+ghost use Rattle.scene.specs.Settings.{AreOptions};
+ghost use Rattle.fixed_math.specs.Buckets.{bucket_count};
+ghost use Rattle.transforms.specs.Field.{IsView};
+ghost use Rattle.filter_ppm.specs.Sampled.{IsFormat};
+ghost use Rattle.displace_shade.specs.Shop.{set_value};
+ghost use Rattle.hider.specs.Tiles.{Shows, IsSampleGrid};
+ghost use Rattle.filter_ppm.specs.Levels.{header};
+ghost use Rattle.filter_ppm.specs.Bands.{rect_with};
+ghost use Rattle.grid_epoch.specs.Kept.{points_in};
+ghost use Rattle.buckets.specs.Pictures.{picture_bytes, frame_leaves};
+ghost use Rattle.buckets.specs.Shopped.{shaded_by};
+ghost use Rattle.buckets.specs.TileWalk.{bucket_of, frame_rect, tile_grid, tile_count, format_in, fragments_of};
+ghost use Rattle.buckets.specs.Standing.{Begun, InEpoch, IsDrawn, IsDrawable, Before, Goes, ShadesInPart, next_epoch};
+ghost use Rattle.buckets.specs.Rows.{IsRowTo, PutsTo, PutsInPart, TellsSamples, bytes_above};
+ghost use Rattle.buckets.specs.Progress.{Stands, Done, DoneInPart, next_of, drawing_of, report_before};
+ghost use Rattle.buckets.specs.declared.limits.DrawFault.TheVariants.{WriteFault};
+
+use crate::leaf_walk::{LeafWalk, prims_of};
+use crate::limits::{DrawFault, Limits, Report};
+use crate::row_band::{columns_of, new_row, put_bucket, put_row, rows_of, tile_at, turn_row};
+use crate::shown::Shown;
+use crate::tile_drawing::TileDrawing;
+use bumpalo::Bump;
+use displace_shade::Shop;
+use filter_ppm::{Film, PixelFilter, header};
+use fixed_math::NoMemory;
+use grid_epoch::Epoch;
+use hider::Tile;
+use outside::{FrameSink, put_all};
+use scene::{Frame, Prim, Scene};
+use std::alloc::Global;
+
+/// Where the drawing of a frame stands: in a tile, with the pixels of its row of buckets so far.
+#[derive(Drop)]
+pub(crate) struct Progress {
+    pub(crate) drawing: TileDrawing,
+    pub(crate) filter: PixelFilter,
+    pub(crate) row: Vec<[u32; 3]>,
+}
+
+// Goes to the next tile, where there is one.
+fn next_tile(alloc: Global, shown: &Shown<'_>, progress: &mut Progress) -> Result<(), NoMemory>
+    ghost at_epoch: { InEpoch }
+    requires drawn { IsDrawn at_epoch.begun shown.now }
+    requires at { progress.old.drawing.at < tile_count at_epoch.begun.drawing }
+    requires format { progress.old.filter ≡ format_in at_epoch.begun.drawing.frame }
+    requires grid { progress.old.drawing.tile.grid ≡ tile_grid at_epoch.begun.drawing progress.old.drawing.at }
+    requires row { IsRowTo at_epoch.begun.drawing progress.old.drawing.at (bucket_of at_epoch.begun.drawing progress.old.drawing.at).right progress.old.row.items }
+    ensures at { OnOk result (progress.new.drawing.at ≡ progress.old.drawing.at + 1) }
+    ensures stands { OnOk result ((kept : List (Part × GridRef)) (count : ℕ) → Before at_epoch (progress.old.drawing.at + 1) kept count → Stands at_epoch progress.new kept count) }
+{
+    let at = progress.drawing.at;
+    progress.drawing.at = at + 1;
+    if at + 1 == shown.tiles {
+        return Ok(());
+    }
+    turn_row(alloc, shown, at, &mut progress.row)?;
+    progress.drawing.begin(shown)?;
+    Ok(())
+}
+
+// Finishes a tile, which shows all of the frame: its bucket's pixels go into their row, and a row that is done to the sink.
+fn finish_tile<O: FrameSink>(
+    alloc: Global,
+    shown: &Shown<'_>,
+    progress: &mut Progress,
+    report: &mut Report,
+    sink: &mut O,
+) -> Result<(), DrawFault>
+    ghost at_epoch: { InEpoch }
+    requires drawn { IsDrawn at_epoch.begun shown.now }
+    requires at { progress.old.drawing.at < tile_count at_epoch.begun.drawing }
+    requires format { progress.old.filter ≡ format_in at_epoch.begun.drawing.frame }
+    requires grid { progress.old.drawing.tile.grid ≡ tile_grid at_epoch.begun.drawing progress.old.drawing.at }
+    requires shows { Shows progress.old.drawing.tile (fragments_of at_epoch.begun.drawing (frame_leaves at_epoch.begun.drawing.frame)) }
+    requires row { IsRowTo at_epoch.begun.drawing progress.old.drawing.at (bucket_of at_epoch.begun.drawing progress.old.drawing.at).left progress.old.row.items }
+    requires open { O.is_open sink.old ≡ true }
+    requires put { PutsTo at_epoch.begun progress.old.drawing.at (O.written sink.old) }
+    requires samples { TellsSamples at_epoch.begun progress.old.drawing.at report.old.most_samples }
+    ensures at { OnOk result (progress.new.drawing.at ≡ progress.old.drawing.at + 1) }
+    ensures stands { OnOk result ((kept : List (Part × GridRef)) (count : ℕ) → Before at_epoch (progress.old.drawing.at + 1) kept count → Stands at_epoch progress.new kept count) }
+    ensures epochs { report.new.epochs ≡ report.old.epochs }
+    ensures points { report.new.most_points ≡ report.old.most_points }
+    ensures samples { OnOk result (TellsSamples at_epoch.begun progress.new.drawing.at report.new.most_samples) }
+    ensures open { O.is_open sink.new ≡ true }
+    ensures put { OnOk result (PutsTo at_epoch.begun progress.new.drawing.at (O.written sink.new)) }
+    ensures part { OnErr result (PutsInPart at_epoch.begun (O.written sink.new)) }
+    ensures later { O.faults sink.old ≤ O.faults sink.new }
+    ensures failed { IsErrOf result WriteFault → Rose (O.faults sink.old) (O.faults sink.new) }
+{
+    let at = progress.drawing.at;
+    report.most_samples = report.most_samples.max(progress.drawing.tile.samples() as u64);
+    put_bucket(shown, at, &progress.drawing.tile, &mut progress.filter, &mut progress.row)?;
+    put_row(alloc, shown, at, &progress.row, sink)?;
+    next_tile(alloc, shown, progress)?;
+    Ok(())
+}
+
+// Goes on with a drawing in an epoch, to its end or to a leaf for whose grid there is no room.
+fn go_on<'a, O: FrameSink>(
+    alloc: Global,
+    shown: &Shown<'_>,
+    progress: &mut Progress,
+    arena: &'a Bump,
+    epoch: &mut Epoch<'a>,
+    shop: &mut Shop,
+    report: &mut Report,
+    sink: &mut O,
+) -> Result<(), DrawFault>
+    ghost at_epoch: { InEpoch }
+    requires drawn { IsDrawn at_epoch.begun shown.now }
+    requires set { set_value shop.old.set ≡ at_epoch.begun.drawing.accepted.set }
+    requires limit { epoch.old.limit ≡ at_epoch.begun.drawing.limit }
+    requires stands { Stands at_epoch progress.old epoch.old.kept shop.old.count }
+    requires open { O.is_open sink.old ≡ true }
+    requires put { PutsTo at_epoch.begun progress.old.drawing.at (O.written sink.old) }
+    requires samples { TellsSamples at_epoch.begun progress.old.drawing.at report.old.most_samples }
+    ensures within { OnOk result (progress.new.drawing.at ≤ tile_count at_epoch.begun.drawing) }
+    ensures full { OnOk result (progress.new.drawing.at < tile_count at_epoch.begun.drawing → Stands (next_epoch (points_in epoch.new.kept) at_epoch) progress.new [] shop.new.count) }
+    ensures ended { OnOk result (progress.new.drawing.at ≡ tile_count at_epoch.begun.drawing → Before at_epoch progress.new.drawing.at epoch.new.kept shop.new.count) }
+    ensures shaded { OnErr result (ShadesInPart at_epoch.begun shop.new.count) }
+    ensures set { shop.new.set ≡ shop.old.set }
+    ensures epochs { report.new.epochs ≡ report.old.epochs }
+    ensures points { report.new.most_points ≡ report.old.most_points }
+    ensures samples { OnOk result (TellsSamples at_epoch.begun progress.new.drawing.at report.new.most_samples) }
+    ensures open { O.is_open sink.new ≡ true }
+    ensures put { OnOk result (PutsTo at_epoch.begun progress.new.drawing.at (O.written sink.new)) }
+    ensures part { OnErr result (PutsInPart at_epoch.begun (O.written sink.new)) }
+    ensures later { O.faults sink.old ≤ O.faults sink.new }
+    ensures failed { IsErrOf result WriteFault → Rose (O.faults sink.old) (O.faults sink.new) }
+{
+    while progress.drawing.at < shown.tiles {
+        progress.drawing.fill(shown, arena, epoch, shop)?;
+        if progress.drawing.next.is_some() {
+            return Ok(());
+        }
+        finish_tile(alloc, shown, progress, report, sink)?;
+    }
+    Ok(())
+}
+
+// One epoch of a drawing: an arena, and the grids that are kept in it until it is given up.
+fn run_epoch<O: FrameSink>(
+    alloc: Global,
+    shown: &Shown<'_>,
+    progress: &mut Progress,
+    shop: &mut Shop,
+    report: &mut Report,
+    sink: &mut O,
+) -> Result<(), DrawFault>
+    ghost begun: { Begun }
+    requires drawn { IsDrawn begun shown.now }
+    requires set { set_value shop.old.set ≡ begun.drawing.accepted.set }
+    requires epochs { report.old.epochs + 1 < 2 ^ 64 }
+    requires stands { Stands (next_of begun report.old) progress.old [] shop.old.count }
+    requires open { O.is_open sink.old ≡ true }
+    requires put { PutsTo begun progress.old.drawing.at (O.written sink.old) }
+    requires samples { TellsSamples begun progress.old.drawing.at report.old.most_samples }
+    ensures within { OnOk result (progress.new.drawing.at ≤ tile_count begun.drawing) }
+    ensures epochs { report.new.epochs ≡ report.old.epochs + 1 }
+    ensures full { OnOk result (progress.new.drawing.at < tile_count begun.drawing → Stands (next_of begun report.new) progress.new [] shop.new.count) }
+    ensures ended { OnOk result (progress.new.drawing.at ≡ tile_count begun.drawing → Done begun.drawing begun.count shop.new.count (report_before begun) report.new) }
+    ensures shaded { OnErr result (ShadesInPart begun shop.new.count) }
+    ensures set { shop.new.set ≡ shop.old.set }
+    ensures samples { OnOk result (TellsSamples begun progress.new.drawing.at report.new.most_samples) }
+    ensures open { O.is_open sink.new ≡ true }
+    ensures put { OnOk result (PutsTo begun progress.new.drawing.at (O.written sink.new)) }
+    ensures part { OnErr result (PutsInPart begun (O.written sink.new)) }
+    ensures later { O.faults sink.old ≤ O.faults sink.new }
+    ensures failed { IsErrOf result WriteFault → Rose (O.faults sink.old) (O.faults sink.new) }
+{
+    report.epochs += 1;
+    let arena = Bump::new(alloc);
+    let mut epoch = Epoch::new(alloc, shown.limits.grid_points);
+    go_on(alloc, shown, progress, &arena, &mut epoch, shop, report, sink)?;
+    report.most_points = report.most_points.max(epoch.live() as u64);
+    Ok(())
+}
+
+// A drawing that is to begin with the first tile.
+fn started(alloc: Global, shown: &Shown<'_>) -> Result<Progress, NoMemory>
+    ghost begun: { Begun }
+    requires drawn { IsDrawn begun shown.now }
+    requires epochs { begun.epochs < 2 ^ 63 }
+    ensures at { IfOk result (λ p. p.drawing.at ≡ 0) }
+    ensures stands { IfOk result (λ p. (e : InEpoch) → e ≡ next_of begun (report_before begun) → Stands e p [] begun.count) }
+{
+    let frame = shown.frame;
+    let view = frame.camera.view();
+    let options = frame.options;
+    // here is told that all options are in order
+    options.ranges_known();
+    let film = Film {
+        width: view.width,
+        height: view.height,
+        options,
+    };
+    let rect = tile_at(shown, 0);
+    let tile = Tile::new(alloc, rect, options.xs as u32, options.ys as u32)?;
+    let mut leaves = LeafWalk::new();
+    let next = leaves.next(shown.frame, rect);
+    Ok(Progress {
+        drawing: TileDrawing {
+            at: 0,
+            rect,
+            tile,
+            leaves,
+            next,
+        },
+        filter: PixelFilter::new(alloc, &film)?,
+        row: new_row(alloc, shown, 0)?,
+    })
+}
+
+// The bytes of a frame's pixels, row of buckets after row.
+fn draw_tiles<O: FrameSink>(
+    alloc: Global,
+    shown: &Shown<'_>,
+    shop: &mut Shop,
+    report: &mut Report,
+    sink: &mut O,
+) -> Result<(), DrawFault>
+    ghost begun: { Begun }
+    requires drawn { IsDrawn begun shown.now }
+    requires set { set_value shop.old.set ≡ begun.drawing.accepted.set }
+    requires count { shop.old.count ≡ begun.count }
+    requires report { report.old ≡ report_before begun }
+    requires written { O.written sink.old ≡ begun.written }
+    requires open { O.is_open sink.old ≡ true }
+    ensures drawn { OnOk result (Done begun.drawing begun.count shop.new.count (report_before begun) report.new) }
+    ensures drawn_part { OnErr result (DoneInPart begun.drawing begun.count shop.new.count (report_before begun) report.new) }
+    ensures few_shadings { OnOk result (shop.new.count ≤ shop.old.count + 2 ^ 52) }
+    ensures few_epochs { OnOk result (report.new.epochs ≤ report.old.epochs + 2 ^ 52 + 1) }
+    ensures set { shop.new.set ≡ shop.old.set }
+    ensures open { O.is_open sink.new ≡ true }
+    ensures put { OnOk result (PutsAll (bytes_above begun.drawing begun.drawing.frame.camera.height) begun.written (O.written sink.new)) }
+    ensures part { OnErr result (PutsInPart begun (O.written sink.new)) }
+    ensures later { O.faults sink.old ≤ O.faults sink.new }
+    ensures failed { IsErrOf result WriteFault → Rose (O.faults sink.old) (O.faults sink.new) }
+{
+    let mut progress = started(alloc, shown)?;
+    while progress.drawing.at < shown.tiles {
+        run_epoch(alloc, shown, &mut progress, shop, report, sink)?;
+    }
+    Ok(())
+}
+
+// Puts the header of a frame's picture.
+fn put_header<O: FrameSink>(alloc: Global, frame: &Frame, sink: &mut O) -> Result<(), DrawFault>
+    requires { O.is_open sink.old ≡ true }
+    ensures open { O.is_open sink.new ≡ true }
+    ensures ok { OnOk result (PutsAll (header frame.now.camera.width frame.now.camera.height frame.now.options) (O.written sink.old) (O.written sink.new)) }
+    ensures err { OnErr result (PutsFront (header frame.now.camera.width frame.now.camera.height frame.now.options) (O.written sink.old) (O.written sink.new)) }
+    ensures later { O.faults sink.old ≤ O.faults sink.new }
+    ensures failed { IsErrOf result WriteFault → Rose (O.faults sink.old) (O.faults sink.new) }
+{
+    let view = frame.camera.view();
+    let bytes = header(alloc, view.width, view.height, &frame.options)?;
+    put_all(sink, &bytes)?;
+    Ok(())
+}
+
+// The frame of a scene at a place.
+fn frame_at(scene: &Scene, index: usize) -> &Frame
+    requires { index < length scene.now.frames }
+    ensures there { slice_get scene.now.frames index ≡ Some result.now }
+    ensures uses { All (HasUses scene.now.uses) result.now.prims }
+{
+    let frames = scene.frames.as_slice();
+    &frames[index]
+}
+
+// Does nothing: a call tells a proof that no bound is below 0.
+fn bounds_known(prims: &[Prim])
+    ensures { All (λ p. pos 0 ≤ℤ p.bound) prims.now }
+{
+    for prim in prims {
+        let _bound = prim.bound;
+    }
+}
+
+// Does nothing: a call tells a proof what holds of every frame.
+fn recall(frame: &Frame)
+    ensures view { IsView frame.now.camera }
+    ensures format { IsFormat (format_in frame.now) }
+    ensures options { AreOptions frame.now.options }
+    ensures few { length frame.now.prims ≤ 65536 }
+    ensures bounds { All (λ p. pos 0 ≤ℤ p.bound) frame.now.prims }
+{
+    let _view = frame.camera.view();
+    frame.options.ranges_known();
+    bounds_known(prims_of(frame));
+}
+
+// The frame of a scene at a place, to be drawn within limits.
+fn shown_in<'a>(scene: &'a Scene, index: usize, limits: Limits) -> Shown<'a>
+    requires frame { index < length scene.now.frames }
+    requires low { 4 ≤ limits.bucket }
+    requires high { limits.bucket ≤ 64 }
+    ensures scene { result.scene.now ≡ scene.now }
+    ensures index { result.index ≡ index }
+    ensures limits { result.limits ≡ limits }
+    ensures tiles { result.tiles ≡ bucket_count limits.bucket (frame_rect result.frame.now) }
+    ensures view { IsView result.frame.now.camera }
+    ensures format { IsFormat (format_in result.frame.now) }
+    ensures options { AreOptions result.frame.now.options }
+    ensures few { length result.frame.now.prims ≤ 65536 }
+    ensures bounds { All (λ p. pos 0 ≤ℤ p.bound) result.frame.now.prims }
+    ensures uses { All (HasUses scene.now.uses) result.frame.now.prims }
+{
+    let frame = frame_at(scene, index);
+    recall(frame);
+    let tiles = columns_of(frame, limits.bucket) as usize * rows_of(frame, limits.bucket) as usize;
+    Shown {
+        scene,
+        index,
+        frame,
+        limits,
+        tiles,
+    }
+}
+
+// The name of a frame's picture.
+fn name_of(frame: &Frame) -> &str
+    ensures { result.now ≡ frame.now.name }
+{
+    frame.name.as_str()
+}
+
+/// Draws a frame of a scene bucket by bucket, shaded by the shop's set, and puts its picture to the sink: it begins the frame, puts
+/// the header and then the pixels of one row of buckets after another, and ends the frame. Shaded grids are kept from tile to tile
+/// while they have at most `grid_points` points; an epoch ends where there is no room for one more. So memory doesn't grow with
+/// the frame.
+///
+/// The count of the shop rises by the shadings of the tile walk, and the report tells of its epochs and its greatest numbers. The
+/// frame is there, the set fits the scene, no frame of the sink is open, the limits lie in their ranges, and the shop's count and the
+/// report's epochs are at most 2^62. A fault leaves nothing in the sink, or an entry that isn't ended with a front of the picture.
+pub fn render_frame<O: FrameSink>(
+    alloc: Global,
+    scene: &Scene,
+    frame: usize,
+    limits: Limits,
+    shop: &mut Shop,
+    report: &mut Report,
+    sink: &mut O,
+) -> Result<(), DrawFault>
+    requires frame { frame < length scene.now.frames }
+    requires fits { Fits (set_value shop.old.set) scene.now.uses }
+    requires variables { (f : FrameValue) → slice_get scene.now.frames frame ≡ Some f → All (FitsPrim (set_value shop.old.set) scene.now.uses) f.prims }
+    requires closed { O.is_open sink.old ≡ false }
+    requires bucket_low { 4 ≤ limits.bucket }
+    requires bucket_high { limits.bucket ≤ 64 }
+    requires points_low { 289 ≤ limits.grid_points }
+    requires points_high { limits.grid_points ≤ 1000000 }
+    requires count { shop.old.count ≤ 2 ^ 62 }
+    requires epochs { report.old.epochs ≤ 2 ^ 62 }
+    ensures closed { OnOk result (O.is_open sink.new ≡ false) }
+    ensures ok { OnOk result ((f : FrameValue) → slice_get scene.now.frames frame ≡ Some f → Adds (whole (record { name = f.name; bytes = picture_bytes (shaded_by scene.now shop.old) f }) ∷ []) (O.written sink.old) (O.written sink.new)) }
+    ensures err { OnErr result ((f : FrameValue) → slice_get scene.now.frames frame ≡ Some f → AddsPart (record { name = f.name; bytes = picture_bytes (shaded_by scene.now shop.old) f }) (O.written sink.old) (O.written sink.new)) }
+    ensures drawn { OnOk result ((f : FrameValue) → slice_get scene.now.frames frame ≡ Some f → Done (drawing_of scene.now (set_value shop.old.set) f limits) shop.old.count shop.new.count report.old report.new) }
+    ensures drawn_part { OnErr result ((f : FrameValue) → slice_get scene.now.frames frame ≡ Some f → DoneInPart (drawing_of scene.now (set_value shop.old.set) f limits) shop.old.count shop.new.count report.old report.new) }
+    ensures few_shadings { OnOk result (shop.new.count ≤ shop.old.count + 2 ^ 52) }
+    ensures few_epochs { OnOk result (report.new.epochs ≤ report.old.epochs + 2 ^ 52 + 1) }
+    ensures set { shop.new.set ≡ shop.old.set }
+    ensures later { O.faults sink.old ≤ O.faults sink.new }
+    ensures failed { IsErrOf result WriteFault → Rose (O.faults sink.old) (O.faults sink.new) }
+{
+    let shown = shown_in(scene, frame, limits);
+    sink.begin(name_of(shown.frame))?;
+    put_header(alloc, shown.frame, sink)?;
+    draw_tiles(alloc, &shown, shop, report, sink)?;
+    sink.end()?;
+    Ok(())
+}

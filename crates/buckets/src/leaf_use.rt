@@ -1,0 +1,185 @@
+// A leaf in a tile: passed over behind what shows there, or hidden by a grid that is kept or shaded.
+ghost use Rattle.std.specs.Prelude.{◌≡◌, ◌≤◌, ◌<◌, ◌+◌, ◌*◌, ◌↔◌, ◌∷◌, [], ◌++◌, ℕ, List, Some, All, false, true, nat_le, IsTrue, length, map, IfOk, OnOk, OnErr, slice_get};
+ghost use Rattle.patches.specs.Parts.{Part};
+ghost use Rattle.bound_split.specs.declared.splits.Decision.TheVariants.{Dice};
+ghost use Rattle.dice.specs.Grids.{line_count};
+ghost use Rattle.shader_binding.specs.Sets.{Fits};
+ghost use Rattle.shader_binding.specs.Bindings.{FitsPrim};
+ghost use Rattle.displace_shade.specs.Shop.{set_value};
+ghost use Rattle.displace_shade.specs.Diced.{grid_value};
+ghost use Rattle.hider.specs.declared.fragment.Fragment.{Fragment};
+ghost use Rattle.hider.specs.declared.sample.Sample.{Sample};
+ghost use Rattle.hider.specs.Cells.{still};
+ghost use Rattle.hider.specs.Tiles.{Shows, BlocksAll};
+ghost use Rattle.grid_epoch.specs.Kept.{has, pieces_in, points_in};
+ghost use Rattle.buckets.specs.Pictures.{decide, grid_cells, leaf_in, leaf_micropolygons};
+ghost use Rattle.buckets.specs.Sampled.{ShowsMore};
+ghost use Rattle.buckets.specs.TileWalk.{Drawing, nearest};
+ghost use Rattle.buckets.specs.Standing.{Begun, InEpoch, IsDrawn, IsGridOf, AreGrids, Uses, UsesInPart, PassesLeaf, PassesInPart};
+
+use crate::shown::Shown;
+use bound_split::{Leaf, extent_of};
+use bumpalo::Bump;
+use dice::GridRef;
+use displace_shade::Shop;
+use fixed_math::NoMemory;
+use grid_epoch::Epoch;
+use hider::{GridCells, Tile};
+use scene::{Frame, Prim};
+
+// Hides the micropolygons of a shaded grid of a primitive.
+fn hide_grid(
+    tile: &mut Tile,
+    grid: &GridRef<'_>,
+    frame: &Frame,
+    prim: &Prim,
+) -> Result<(), NoMemory>
+    ensures grid { tile.new.grid ≡ tile.old.grid }
+    ensures shows { OnOk result (ShowsMore frame.now.camera (map (still prim.now.one_sided prim.now.flip) (grid_cells (grid_value grid.now))) tile.old tile.new) }
+{
+    let cells = GridCells { grid: *grid };
+    tile.hide(&cells, &frame.camera, prim.one_sided, prim.flip)?;
+    Ok(())
+}
+
+// Hides a leaf by its grid.
+fn hide_leaf(
+    shown: &Shown<'_>,
+    prim: &Prim,
+    leaf: &Leaf,
+    grid: &GridRef<'_>,
+    tile: &mut Tile,
+) -> Result<(), NoMemory>
+    ghost drawing: { Drawing }
+    requires frame { shown.now.frame.now ≡ drawing.frame }
+    requires there { slice_get drawing.frame.prims leaf.now.piece.prim ≡ Some prim.now }
+    requires sizes { decide drawing.frame.camera prim.now leaf.now.piece ≡ Dice leaf.now.p leaf.now.q }
+    requires grid { IsGridOf drawing leaf.now.piece grid.now }
+    ensures grid { tile.new.grid ≡ tile.old.grid }
+    ensures shows { OnOk result (ShowsMore drawing.frame.camera (leaf_micropolygons drawing.accepted drawing.frame prim.now leaf.now.piece) tile.old tile.new) }
+{
+    hide_grid(tile, grid, shown.frame, prim)?;
+    Ok(())
+}
+
+// The points of a leaf's grid.
+fn points_of(leaf: &Leaf) -> usize
+    requires p { leaf.now.p ≤ 4 }
+    requires q { leaf.now.q ≤ 4 }
+    ensures { result ≡ line_count leaf.now.p * line_count leaf.now.q }
+{
+    ((1 << leaf.p) + 1) * ((1 << leaf.q) + 1)
+}
+
+// Shades a leaf and keeps its grid, for which there is room.
+fn shade_leaf<'a>(
+    shown: &Shown<'_>,
+    prim: &Prim,
+    leaf: &Leaf,
+    arena: &'a Bump,
+    epoch: &mut Epoch<'a>,
+    shop: &mut Shop,
+) -> Result<GridRef<'a>, NoMemory>
+    ghost begun: { Begun }
+    requires drawn { IsDrawn begun shown.now }
+    requires set { set_value shop.old.set ≡ begun.drawing.accepted.set }
+    requires there { slice_get begun.drawing.frame.prims leaf.now.piece.prim ≡ Some prim.now }
+    requires sizes { decide begun.drawing.frame.camera prim.now leaf.now.piece ≡ Dice leaf.now.p leaf.now.q }
+    requires p { leaf.now.p ≤ 4 }
+    requires q { leaf.now.q ≤ 4 }
+    requires count { shop.old.count < 18446744073709551615 }
+    requires room { points_in epoch.old.kept + line_count leaf.now.p * line_count leaf.now.q ≤ epoch.old.limit }
+    requires fresh { has leaf.now.piece (pieces_in epoch.old.kept) ≡ false }
+    ensures limit { epoch.new.limit ≡ epoch.old.limit }
+    ensures grid { IfOk result (IsGridOf begun.drawing leaf.now.piece) }
+    ensures points { IfOk result (λ g. g.columns * g.rows ≡ line_count leaf.now.p * line_count leaf.now.q) }
+    ensures kept { IfOk result (λ g. epoch.new.kept ≡ epoch.old.kept ++ (leaf.now.piece, g) ∷ []) }
+    ensures set { shop.new.set ≡ shop.old.set }
+    ensures least { shop.old.count ≤ shop.new.count }
+    ensures most { shop.new.count ≤ shop.old.count + 1 }
+    ensures count { OnOk result (shop.new.count ≡ shop.old.count + 1) }
+{
+    let grid = shop.shade(arena, shown.scene, shown.index, &leaf.piece, leaf.p, leaf.q)?;
+    epoch.add(leaf.piece, grid)?;
+    Ok(grid)
+}
+
+// Hides a leaf, by the grid that is kept of it or by a new one, which is kept from now on. Where there is no room for it, the
+// answer is `false`, and nothing has changed.
+fn use_leaf<'a>(
+    shown: &Shown<'_>,
+    prim: &Prim,
+    leaf: &Leaf,
+    tile: &mut Tile,
+    arena: &'a Bump,
+    epoch: &mut Epoch<'a>,
+    shop: &mut Shop,
+) -> Result<bool, NoMemory>
+    ghost begun: { Begun }
+    requires drawn { IsDrawn begun shown.now }
+    requires set { set_value shop.old.set ≡ begun.drawing.accepted.set }
+    requires there { slice_get begun.drawing.frame.prims leaf.now.piece.prim ≡ Some prim.now }
+    requires sizes { decide begun.drawing.frame.camera prim.now leaf.now.piece ≡ Dice leaf.now.p leaf.now.q }
+    requires p { leaf.now.p ≤ 4 }
+    requires q { leaf.now.q ≤ 4 }
+    requires count { shop.old.count < 18446744073709551615 }
+    requires limit { epoch.old.limit ≡ begun.drawing.limit }
+    requires grids { AreGrids begun.drawing epoch.old.kept }
+    ensures limit { epoch.new.limit ≡ epoch.old.limit }
+    ensures grid { tile.new.grid ≡ tile.old.grid }
+    ensures set { shop.new.set ≡ shop.old.set }
+    ensures used { IfOk result (λ b. Uses b begun.drawing (leaf_in prim.now leaf.now.piece) epoch.old.kept shop.old.count tile.old epoch.new.kept shop.new.count tile.new) }
+    ensures part { OnErr result (UsesInPart begun.drawing (leaf_in prim.now leaf.now.piece) epoch.old.kept shop.old.count shop.new.count) }
+{
+    if let Some(at) = epoch.find(&leaf.piece) {
+        hide_leaf(shown, prim, leaf, &epoch.grid(at), tile)?;
+        return Ok(true);
+    }
+    if !epoch.room(points_of(leaf)) {
+        return Ok(false);
+    }
+    let grid = shade_leaf(shown, prim, leaf, arena, epoch, shop)?;
+    hide_leaf(shown, prim, leaf, &grid, tile)?;
+    Ok(true)
+}
+
+// Whether a leaf lies behind what shows at each sample of a tile.
+fn is_behind(frame: &Frame, prim: &Prim, leaf: &Leaf, tile: &Tile) -> bool
+    ensures { (d : Drawing) (f : Sample → List Fragment) → d.frame ≡ frame.now → Shows tile.now f → IsTrue result ↔ BlocksAll (nearest d (leaf_in prim.now leaf.now.piece)) tile.now.grid f }
+{
+    let extent = extent_of(&prim.patch, &leaf.piece, &frame.camera, prim.bound);
+    tile.all_behind(extent.nearest)
+}
+
+/// Goes past a leaf that meets a tile: it is passed over where it lies behind what shows there, else it is hidden. Where there is
+/// no room for its grid, the answer is `false`, and nothing has changed.
+pub(crate) fn pass_leaf<'a>(
+    shown: &Shown<'_>,
+    prim: &Prim,
+    leaf: &Leaf,
+    tile: &mut Tile,
+    arena: &'a Bump,
+    epoch: &mut Epoch<'a>,
+    shop: &mut Shop,
+) -> Result<bool, NoMemory>
+    ghost at_epoch: { InEpoch }
+    requires drawn { IsDrawn at_epoch.begun shown.now }
+    requires set { set_value shop.old.set ≡ at_epoch.begun.drawing.accepted.set }
+    requires there { slice_get at_epoch.begun.drawing.frame.prims leaf.now.piece.prim ≡ Some prim.now }
+    requires sizes { decide at_epoch.begun.drawing.frame.camera prim.now leaf.now.piece ≡ Dice leaf.now.p leaf.now.q }
+    requires p { leaf.now.p ≤ 4 }
+    requires q { leaf.now.q ≤ 4 }
+    requires count { shop.old.count < 18446744073709551615 }
+    requires limit { epoch.old.limit ≡ at_epoch.begun.drawing.limit }
+    requires grids { AreGrids at_epoch.begun.drawing epoch.old.kept }
+    ensures limit { epoch.new.limit ≡ epoch.old.limit }
+    ensures set { shop.new.set ≡ shop.old.set }
+    ensures passed { IfOk result (λ b. PassesLeaf b at_epoch (leaf_in prim.now leaf.now.piece) tile.old epoch.old.kept shop.old.count tile.new epoch.new.kept shop.new.count) }
+    ensures part { OnErr result (PassesInPart at_epoch (leaf_in prim.now leaf.now.piece) tile.old epoch.old.kept shop.old.count shop.new.count) }
+{
+    if is_behind(shown.frame, prim, leaf, tile) {
+        return Ok(true);
+    }
+    let used = use_leaf(shown, prim, leaf, tile, arena, epoch, shop)?;
+    Ok(used)
+}

@@ -1,0 +1,162 @@
+// The pixels of a row of buckets.
+ghost use Rattle.std.specs.Prelude.{◌≡◌, ◌≤◌, ◌<◌, ◌+◌, ◌-◌, ◌*◌, ◌/◌, ◌%◌, [], true, All, length, IfOk, OnOk, OnErr, IsErrOf};
+ghost use Rattle.fixed_math.specs.Buckets.{bucket_columns, bucket_rows};
+ghost use Rattle.hider.specs.Tiles.{Shows};
+ghost use Rattle.outside.specs.Causes.{Rose};
+ghost use Rattle.filter_ppm.specs.Bands.{rect_with};
+ghost use Rattle.scene.specs.Scene.{FrameValue};
+ghost use Rattle.buckets.specs.Pictures.{frame_leaves};
+ghost use Rattle.buckets.specs.TileWalk.{bucket_of, tile_grid, tile_rect, tile_count, format_in, frame_rect, fragments_of};
+ghost use Rattle.buckets.specs.Standing.{Begun, IsDrawn};
+ghost use Rattle.buckets.specs.Rows.{IsRowTo, PutsTo, PutsInPart};
+ghost use Rattle.buckets.specs.declared.limits.DrawFault.TheVariants.{WriteFault};
+
+use crate::limits::DrawFault;
+use crate::shown::Shown;
+use filter_ppm::{PixelFilter, band_bytes, reach};
+use fixed_math::NoMemory;
+use hider::Tile;
+use outside::{FrameSink, put_all};
+use scene::Frame;
+use std::alloc::Global;
+
+/// The number of columns of buckets.
+pub(crate) fn columns_of(frame: &Frame, side: u32) -> u32
+    requires low { 4 ≤ side }
+    requires high { side ≤ 64 }
+    ensures value { result ≡ bucket_columns side (frame_rect frame.now) }
+    ensures some { 1 ≤ result }
+    ensures most { result ≤ 1024 }
+{
+    (frame.camera.view().width + (side - 1)) / side
+}
+
+/// The number of rows of buckets.
+pub(crate) fn rows_of(frame: &Frame, side: u32) -> u32
+    requires low { 4 ≤ side }
+    requires high { side ≤ 64 }
+    ensures value { result ≡ bucket_rows side (frame_rect frame.now) }
+    ensures some { 1 ≤ result }
+    ensures most { result ≤ 1024 }
+{
+    (frame.camera.view().height + (side - 1)) / side
+}
+
+/// The bucket of a number: its left, top, right and bottom.
+pub(crate) fn bucket_at(shown: &Shown<'_>, at: usize) -> [u32; 4]
+    ghost begun: { Begun }
+    requires drawn { IsDrawn begun shown.now }
+    requires at { at < tile_count begun.drawing }
+    ensures { rect_with result ≡ bucket_of begun.drawing at }
+{
+    let frame = shown.frame;
+    let side = shown.limits.bucket;
+    let columns = columns_of(frame, side) as usize;
+    let left = side * (at % columns) as u32;
+    let top = side * (at / columns) as u32;
+    let view = frame.camera.view();
+    [left, top, (left + side).min(view.width), (top + side).min(view.height)]
+}
+
+/// The tile of a number: its left, top, right and bottom.
+pub(crate) fn tile_at(shown: &Shown<'_>, at: usize) -> [u32; 4]
+    ghost begun: { Begun }
+    requires drawn { IsDrawn begun shown.now }
+    requires at { at < tile_count begun.drawing }
+    ensures { rect_with result ≡ tile_rect begun.drawing at }
+{
+    let [left, top, right, bottom] = bucket_at(shown, at);
+    let frame = shown.frame;
+    let view = frame.camera.view();
+    let options = &frame.options;
+    let across = reach(options.wx);
+    let down = reach(options.wy);
+    [left.saturating_sub(across), top.saturating_sub(down), (right + across).min(view.width), (bottom + down).min(view.height)]
+}
+
+/// A row of pixels as high as a bucket.
+pub(crate) fn new_row(alloc: Global, shown: &Shown<'_>, at: usize) -> Result<Vec<[u32; 3]>, NoMemory>
+    ghost begun: { Begun }
+    requires drawn { IsDrawn begun shown.now }
+    requires at { at < tile_count begun.drawing }
+    ensures { IfOk result (λ row. IsRowTo begun.drawing at 0 row.items) }
+{
+    let [_, top, _, bottom] = bucket_at(shown, at);
+    let frame = shown.frame;
+    let width = frame.camera.view().width;
+    Ok(vec![in alloc; [0; 3]; width as usize * (bottom - top) as usize]?)
+}
+
+/// Goes from the row of bucket `at` to that of the next one, where these are two.
+pub(crate) fn turn_row(
+    alloc: Global,
+    shown: &Shown<'_>,
+    at: usize,
+    row: &mut Vec<[u32; 3]>,
+) -> Result<(), NoMemory>
+    ghost begun: { Begun }
+    requires drawn { IsDrawn begun shown.now }
+    requires at { at + 1 < tile_count begun.drawing }
+    requires row { IsRowTo begun.drawing at (bucket_of begun.drawing at).right row.old.items }
+    ensures { OnOk result (IsRowTo begun.drawing (at + 1) (bucket_of begun.drawing (at + 1)).left row.new.items) }
+{
+    let frame = shown.frame;
+    let columns = columns_of(frame, shown.limits.bucket) as usize;
+    if (at + 1) % columns != 0 {
+        return Ok(());
+    }
+    *row = new_row(alloc, shown, at + 1)?;
+    Ok(())
+}
+
+/// Puts the pixels of a bucket, whose tile shows the whole frame, into its row.
+pub(crate) fn put_bucket(
+    shown: &Shown<'_>,
+    at: usize,
+    tile: &Tile,
+    filter: &mut PixelFilter,
+    row: &mut Vec<[u32; 3]>,
+) -> Result<(), NoMemory>
+    ghost begun: { Begun }
+    requires drawn { IsDrawn begun shown.now }
+    requires at { at < tile_count begun.drawing }
+    requires format { filter.old ≡ format_in begun.drawing.frame }
+    requires grid { tile.now.grid ≡ tile_grid begun.drawing at }
+    requires shows { Shows tile.now (fragments_of begun.drawing (frame_leaves begun.drawing.frame)) }
+    requires row { IsRowTo begun.drawing at (bucket_of begun.drawing at).left row.old.items }
+    ensures format { filter.new ≡ filter.old }
+    ensures row { OnOk result (IsRowTo begun.drawing at (bucket_of begun.drawing at).right row.new.items) }
+{
+    filter.put(tile, bucket_at(shown, at), row.as_mut_slice())?;
+    Ok(())
+}
+
+/// Puts the pixels of a row to the sink, where bucket `at` is its last one.
+pub(crate) fn put_row<O: FrameSink>(
+    alloc: Global,
+    shown: &Shown<'_>,
+    at: usize,
+    row: &[[u32; 3]],
+    sink: &mut O,
+) -> Result<(), DrawFault>
+    ghost begun: { Begun }
+    requires drawn { IsDrawn begun shown.now }
+    requires at { at < tile_count begun.drawing }
+    requires row { IsRowTo begun.drawing at (bucket_of begun.drawing at).right row.now }
+    requires open { O.is_open sink.old ≡ true }
+    requires put { PutsTo begun at (O.written sink.old) }
+    ensures open { O.is_open sink.new ≡ true }
+    ensures put { OnOk result (PutsTo begun (at + 1) (O.written sink.new)) }
+    ensures part { OnErr result (PutsInPart begun (O.written sink.new)) }
+    ensures later { O.faults sink.old ≤ O.faults sink.new }
+    ensures failed { IsErrOf result WriteFault → Rose (O.faults sink.old) (O.faults sink.new) }
+{
+    let frame = shown.frame;
+    let columns = columns_of(frame, shown.limits.bucket) as usize;
+    if (at + 1) % columns != 0 {
+        return Ok(());
+    }
+    let bytes = band_bytes(alloc, &frame.options, row)?;
+    put_all(sink, &bytes)?;
+    Ok(())
+}
