@@ -333,7 +333,7 @@ fn shown_in<'a>(scene: &'a Scene, index: usize, limits: Limits) -> Shown<'a>
 fn name_of(frame: &Frame) -> &str
     ensures { result.now ≡ frame.now.name }
 {
-    frame.name.as_str()
+    frame.name.get().as_str()
 }
 
 /// Draws a frame of a scene bucket by bucket, shaded by the shop's set, and puts its picture to the sink: it begins the frame, puts
