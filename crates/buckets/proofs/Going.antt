@@ -91,8 +91,8 @@ unfolding is_behind
 behind_blocked d n shown x t same h =
     subst (λ g. BlocksAll (nearest d x) g (fragments_of d shown)) (sym same)
     (λ i l. let p : ℕ → Bool = λ i. blocks (nearest d x) (fragments_of d shown (sample_of (tile_grid d n) i)) in
-        let e : 0 + i ≡ i = omega arith in
-        subst (λ k. p k ≡ true) e (each_from p 0 (sample_count (tile_grid d n)) h i l))
+    let e : 0 + i ≡ i = omega arith in
+    subst (λ k. p k ≡ true) e (each_from p 0 (sample_count (tile_grid d n)) h i l))
 
 -- ---- a leaf that doesn't meet the tile
 pub goes_outside : (e : InEpoch) (n : ℕ) (tile : TileValue) (x : FrameLeaf) (rest : List FrameLeaf) (kept : List (Part × GridRef)) (count : ℕ)

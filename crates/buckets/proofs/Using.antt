@@ -46,36 +46,39 @@ grid_at d (k ∷ ks) (suc n) part grid h there is = grid_at d ks n part grid h.1
 
 pub uses_kept : (d : Drawing) (x : FrameLeaf) (kept : List (Part × GridRef)) (count : ℕ) (old new : TileValue) → AreGrids d kept → has x.part (pieces_in kept) ≡ true
     → ShowsMore d.frame.camera (leaf_micropolygons d.accepted d.frame x.prim x.part) old new → Uses true d x kept count old kept count new
-uses_kept d x kept count old new grids there more =
-    (grids, more, λ c k.
-    let has' : has x.part c.kept ≡ true = ap (has x.part) k.pieces ∙ there in
-    subst (λ c'. CountsGo c c' kept count count) (sym (needed_kept d.limit x.part (leaf_points d x) c has'))
-    (record { keeps = k; shadings = refl; epochs = refl; most = refl }))
+uses_kept d x kept count old new grids there more = (
+  grids,
+  more,
+  λ c k.
+      let has' : has x.part c.kept ≡ true = ap (has x.part) k.pieces ∙ there in
+      subst (λ c'. CountsGo c c' kept count count) (sym (needed_kept d.limit x.part (leaf_points d x) c has'))
+      (record { keeps = k; shadings = refl; epochs = refl; most = refl }),
+)
 
 pub uses_new : (d : Drawing) (x : FrameLeaf) (kept kept' : List (Part × GridRef)) (count count' : ℕ) (old new : TileValue) (grid : GridRef) → AreGrids d kept
     → has x.part (pieces_in kept) ≡ false → nat_le (points_in kept + leaf_points d x) d.limit ≡ true
     → IsGridOf d x.part grid → grid.columns * grid.rows ≡ leaf_points d x → kept' ≡ kept ++ (x.part, grid) ∷ [] → count' ≡ count + 1
     → ShowsMore d.frame.camera (leaf_micropolygons d.accepted d.frame x.prim x.part) old new → Uses true d x kept count old kept' count' new
 uses_new d x kept kept' count count' old new grid grids fresh room is points more counted shows = (
-    subst (AreGrids d) (sym more) (grids-more d kept (x.part, grid) grids is),
-    shows,
-    λ c k.
-    let n = leaf_points d x in
-    let lacks : has x.part c.kept ≡ false = ap (has x.part) k.pieces ∙ fresh in
-    let some : has_room d.limit n c ≡ true = ap (λ m. nat_le (m + n) d.limit) k.points ∙ room in
-    let sum = points-more kept (x.part, grid) in
-    let p = k.points in
-    subst (λ c'. CountsGo c c' kept' count count') (sym (needed_new d.limit x.part n c lacks some))
-    (record {
-      keeps = record {
-        pieces = ap (λ ps. ps ++ x.part ∷ []) k.pieces ∙ sym (pieces-more kept (x.part, grid)) ∙ ap pieces_in (sym more);
-        points = (let e : c.points + n ≡ points_in (kept ++ (x.part, grid) ∷ []) = omega (arith, p, sum, points) in e) ∙ ap points_in (sym more);
-      };
-      shadings = omega (arith, counted);
-      epochs = refl;
-      most = refl;
-    }),
-  )
+  subst (AreGrids d) (sym more) (grids-more d kept (x.part, grid) grids is),
+  shows,
+  λ c k.
+      let n = leaf_points d x in
+      let lacks : has x.part c.kept ≡ false = ap (has x.part) k.pieces ∙ fresh in
+      let some : has_room d.limit n c ≡ true = ap (λ m. nat_le (m + n) d.limit) k.points ∙ room in
+      let sum = points-more kept (x.part, grid) in
+      let p = k.points in
+      subst (λ c'. CountsGo c c' kept' count count') (sym (needed_new d.limit x.part n c lacks some))
+      (record {
+        keeps = record {
+          pieces = ap (λ ps. ps ++ x.part ∷ []) k.pieces ∙ sym (pieces-more kept (x.part, grid)) ∙ ap pieces_in (sym more);
+          points = (let e : c.points + n ≡ points_in (kept ++ (x.part, grid) ∷ []) = omega (arith, p, sum, points) in e) ∙ ap points_in (sym more);
+        };
+        shadings = omega (arith, counted);
+        epochs = refl;
+        most = refl;
+      }),
+)
 
 -- where memory is wanting
 pub part_kept : (d : Drawing) (x : FrameLeaf) (count : ℕ) (c : Counts) → count + c.shadings ≤ count + (with_needed d.limit x.part (leaf_points d x) c).shadings

@@ -40,7 +40,7 @@ pixels_in_part d x y y' z begins head front =
 all_put : (d : Drawing) (x y y' z : Option (List Written)) → Adds (begun d.frame.name ∷ []) x y → PutsAll (header_in d) y y' → PutsAll (pixels_in d) y' z → Adds (opened d.frame.name (picture_bytes d.accepted d.frame) ∷ []) x z
 all_put d x y y' z begins head pixels =
     subst (λ b. Adds (opened d.frame.name b ∷ []) x z) (sym (picture_is d))
-        (adds-puts d.frame.name (header_in d ++ pixels_in d) x y z begins (puts-more (header_in d) (pixels_in d) y y' z head pixels))
+    (adds-puts d.frame.name (header_in d ++ pixels_in d) x y z begins (puts-more (header_in d) (pixels_in d) y y' z head pixels))
 
 -- and the end, which may fail
 pub all_ended : (d : Drawing) (x y y' z w : Option (List Written)) → Adds (begun d.frame.name ∷ []) x y → PutsAll (header_in d) y y' → PutsAll (pixels_in d) y' z → w ≡ option_map with_end z → Adds (whole (entry d) ∷ []) x w

@@ -98,8 +98,16 @@ fn finish_tile<O: FrameSink>(
     ensures failed { IsErrOf result WriteFault → Rose (O.faults sink.old) (O.faults sink.new) }
 {
     let at = progress.drawing.at;
-    report.most_samples = report.most_samples.max(progress.drawing.tile.samples() as u64);
-    put_bucket(shown, at, &progress.drawing.tile, &mut progress.filter, &mut progress.row)?;
+    report.most_samples = report
+        .most_samples
+        .max(progress.drawing.tile.samples() as u64);
+    put_bucket(
+        shown,
+        at,
+        &progress.drawing.tile,
+        &mut progress.filter,
+        &mut progress.row,
+    )?;
     put_row(alloc, shown, at, &progress.row, sink)?;
     next_tile(alloc, shown, progress)?;
     Ok(())
@@ -181,7 +189,9 @@ fn run_epoch<O: FrameSink>(
     report.epochs += 1;
     let arena = Bump::new(alloc);
     let mut epoch = Epoch::new(alloc, shown.limits.grid_points);
-    go_on(alloc, shown, progress, &arena, &mut epoch, shop, report, sink)?;
+    go_on(
+        alloc, shown, progress, &arena, &mut epoch, shop, report, sink,
+    )?;
     report.most_points = report.most_points.max(epoch.live() as u64);
     Ok(())
 }

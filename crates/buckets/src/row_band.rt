@@ -55,7 +55,12 @@ pub(crate) fn bucket_at(shown: &Shown<'_>, at: usize) -> [u32; 4]
     let left = side * (at % columns) as u32;
     let top = side * (at / columns) as u32;
     let view = frame.camera.view();
-    [left, top, (left + side).min(view.width), (top + side).min(view.height)]
+    [
+        left,
+        top,
+        (left + side).min(view.width),
+        (top + side).min(view.height),
+    ]
 }
 
 /// The tile of a number: its left, top, right and bottom.
@@ -71,11 +76,20 @@ pub(crate) fn tile_at(shown: &Shown<'_>, at: usize) -> [u32; 4]
     let options = &frame.options;
     let across = reach(options.wx);
     let down = reach(options.wy);
-    [left.saturating_sub(across), top.saturating_sub(down), (right + across).min(view.width), (bottom + down).min(view.height)]
+    [
+        left.saturating_sub(across),
+        top.saturating_sub(down),
+        (right + across).min(view.width),
+        (bottom + down).min(view.height),
+    ]
 }
 
 /// A row of pixels as high as a bucket.
-pub(crate) fn new_row(alloc: Global, shown: &Shown<'_>, at: usize) -> Result<Vec<[u32; 3]>, NoMemory>
+pub(crate) fn new_row(
+    alloc: Global,
+    shown: &Shown<'_>,
+    at: usize,
+) -> Result<Vec<[u32; 3]>, NoMemory>
     ghost begun: { Begun }
     requires drawn { IsDrawn begun shown.now }
     requires at { at < tile_count begun.drawing }

@@ -50,11 +50,34 @@ finish_tile-requires g c = λ κs h.
     let at' : new.at ≡ old.drawing.at = c.fill.ensures.at in
     let low : old.drawing.at < tile_count d = (let t = c.loop-progress-test.true in let n = q.tiles in omega (arith, t, n)) in
     let inside : IsIn e old c.loop-progress.epoch.kept c.loop-progress.shop.count = stands.going low in
-    let goes = c.in_ok-fill.ensures.ended (is_none new.next (sym c.is_some.ensures ∙ c.if-is_some.false)) in
-    (h, (q, (omega (arith, low, at'), (stands.format, (goes.grid, (goes_whole e new.at new.tile c.fill.new.epoch.kept c.fill.new.shop.count goes,
-    (subst (λ (k : ℕ). IsRowTo d k (bucket_of d k).left old.row.items) (sym at') inside.row, (c.loop-progress.invariant.open',
-    (subst (λ (k : ℕ). PutsTo e.begun k (g.O.FrameSink.written c.loop-progress.sink)) (sym at') c.loop-progress.invariant.put,
-    subst (λ (k : ℕ). TellsSamples e.begun k c.loop-progress.report.most_samples) (sym at') c.loop-progress.invariant.samples)))))))))
+    let goes = c.in_ok-fill.ensures.ended (is_none new.next (sym c.is_some.ensures ∙ c.if-is_some.false)) in (
+      h,
+      (
+        q,
+        (
+          omega (arith, low, at'),
+          (
+            stands.format,
+            (
+              goes.grid,
+              (
+                goes_whole e new.at new.tile c.fill.new.epoch.kept c.fill.new.shop.count goes,
+                (
+                  subst (λ (k : ℕ). IsRowTo d k (bucket_of d k).left old.row.items) (sym at') inside.row,
+                  (
+                    c.loop-progress.invariant.open',
+                    (
+                      subst (λ (k : ℕ). PutsTo e.begun k (g.O.FrameSink.written c.loop-progress.sink)) (sym at') c.loop-progress.invariant.put,
+                      subst (λ (k : ℕ). TellsSamples e.begun k c.loop-progress.report.most_samples) (sym at') c.loop-progress.invariant.samples,
+                    ),
+                  ),
+                ),
+              ),
+            ),
+          ),
+        ),
+      ),
+    )
 
 pub loop-progress-preserved : goal.loop-progress-preserved
 loop-progress-preserved g c =

@@ -17,10 +17,10 @@ returns-in_err-put_header-clause-err g c =
     let y = g.O.FrameSink.written c.begin.new.self in
     let begins : Adds (begun s.frame.now.name ∷ []) x y = subst (λ n. Adds (begun n ∷ []) x y) c.name_of.ensures c.in_ok-begin.ensures.written in
     let to : (f : FrameValue) → slice_get c.args.scene.now.frames c.args.frame ≡ Some f → entry d ≡ entry (drawing_of c.args.scene.now (set_value c.args.shop.now.set) f s.limits) = λ f at.
-        let there = s.there in
-        let scenes = c.shown_in-shown.ensures.scene in
-        let places = c.shown_in-shown.ensures.index in
-        same_entry s.scene.now c.args.scene.now (set_value c.args.shop.now.set) s.limits s.frame.now f scenes cc in
+    let there = s.there in
+    let scenes = c.shown_in-shown.ensures.scene in
+    let places = c.shown_in-shown.ensures.index in
+    same_entry s.scene.now c.args.scene.now (set_value c.args.shop.now.set) s.limits s.frame.now f scenes cc in
     let z = g.O.FrameSink.written c.put_header.new.sink in
     on_err c.from_residual-in_err-put_header.result _ (λ f at. subst (λ e. AddsPart e x z) (to f at) (header_in_part d x y z begins c.in_err-put_header.ensures.err))
 
@@ -32,10 +32,10 @@ returns-in_err-draw_tiles-clause-err g c =
     let y = g.O.FrameSink.written c.begin.new.self in
     let begins : Adds (begun s.frame.now.name ∷ []) x y = subst (λ n. Adds (begun n ∷ []) x y) c.name_of.ensures c.in_ok-begin.ensures.written in
     let to : (f : FrameValue) → slice_get c.args.scene.now.frames c.args.frame ≡ Some f → entry d ≡ entry (drawing_of c.args.scene.now (set_value c.args.shop.now.set) f s.limits) = λ f at.
-        let there = s.there in
-        let scenes = c.shown_in-shown.ensures.scene in
-        let places = c.shown_in-shown.ensures.index in
-        same_entry s.scene.now c.args.scene.now (set_value c.args.shop.now.set) s.limits s.frame.now f scenes cc in
+    let there = s.there in
+    let scenes = c.shown_in-shown.ensures.scene in
+    let places = c.shown_in-shown.ensures.index in
+    same_entry s.scene.now c.args.scene.now (set_value c.args.shop.now.set) s.limits s.frame.now f scenes cc in
     let y' = g.O.FrameSink.written c.put_header.new.sink in
     let z = g.O.FrameSink.written c.draw_tiles.new.sink in
     on_err c.from_residual-in_err-draw_tiles.result _ (λ f at. subst (λ e. AddsPart e x z) (to f at) (pixels_in_part d x y y' z begins c.in_ok-put_header.ensures.ok c.in_err-draw_tiles.ensures.part))
@@ -48,15 +48,15 @@ returns-in_err-end-clause-err g c =
     let y = g.O.FrameSink.written c.begin.new.self in
     let begins : Adds (begun s.frame.now.name ∷ []) x y = subst (λ n. Adds (begun n ∷ []) x y) c.name_of.ensures c.in_ok-begin.ensures.written in
     let to : (f : FrameValue) → slice_get c.args.scene.now.frames c.args.frame ≡ Some f → entry d ≡ entry (drawing_of c.args.scene.now (set_value c.args.shop.now.set) f s.limits) = λ f at.
-        let there = s.there in
-        let scenes = c.shown_in-shown.ensures.scene in
-        let places = c.shown_in-shown.ensures.index in
-        same_entry s.scene.now c.args.scene.now (set_value c.args.shop.now.set) s.limits s.frame.now f scenes cc in
+    let there = s.there in
+    let scenes = c.shown_in-shown.ensures.scene in
+    let places = c.shown_in-shown.ensures.index in
+    same_entry s.scene.now c.args.scene.now (set_value c.args.shop.now.set) s.limits s.frame.now f scenes cc in
     let y' = g.O.FrameSink.written c.put_header.new.sink in
     let z = g.O.FrameSink.written c.draw_tiles.new.sink in
     let w = g.O.FrameSink.written c.end.new.self in
     on_err c.from_residual-in_err-end.result _
-        (λ f at. subst (λ e. AddsPart e x w) (to f at) (not_ended d x y y' z w begins c.in_ok-put_header.ensures.ok c.in_ok-draw_tiles.ensures.put c.in_err-end.ensures.written))
+    (λ f at. subst (λ e. AddsPart e x w) (to f at) (not_ended d x y y' z w begins c.in_ok-put_header.ensures.ok c.in_ok-draw_tiles.ensures.put c.in_err-end.ensures.written))
 
 pub returns-clause-ok : goal.returns-clause-ok
 returns-clause-ok g c =
@@ -66,10 +66,10 @@ returns-clause-ok g c =
     let y = g.O.FrameSink.written c.begin.new.self in
     let begins : Adds (begun s.frame.now.name ∷ []) x y = subst (λ n. Adds (begun n ∷ []) x y) c.name_of.ensures c.in_ok-begin.ensures.written in
     let to : (f : FrameValue) → slice_get c.args.scene.now.frames c.args.frame ≡ Some f → entry d ≡ entry (drawing_of c.args.scene.now (set_value c.args.shop.now.set) f s.limits) = λ f at.
-        let there = s.there in
-        let scenes = c.shown_in-shown.ensures.scene in
-        let places = c.shown_in-shown.ensures.index in
-        same_entry s.scene.now c.args.scene.now (set_value c.args.shop.now.set) s.limits s.frame.now f scenes cc in
+    let there = s.there in
+    let scenes = c.shown_in-shown.ensures.scene in
+    let places = c.shown_in-shown.ensures.index in
+    same_entry s.scene.now c.args.scene.now (set_value c.args.shop.now.set) s.limits s.frame.now f scenes cc in
     let y' = g.O.FrameSink.written c.put_header.new.sink in
     let z = g.O.FrameSink.written c.draw_tiles.new.sink in
     let w = g.O.FrameSink.written c.end.new.self in

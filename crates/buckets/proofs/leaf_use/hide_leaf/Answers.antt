@@ -1,4 +1,4 @@
-use Rattle.std.proofs.Common.{◌≡◌, ◌∙◌, List, sym, ap, subst, map}
+use Rattle.std.proofs.Common.{◌∙◌, List, sym, ap, subst, map}
 use Rattle.scene.specs.Scene.{FrameValue}
 use Rattle.hider.specs.declared.cell.Cell.{Cell}
 use Rattle.hider.specs.Cells.{Micropolygon, still}

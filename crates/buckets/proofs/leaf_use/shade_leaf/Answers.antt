@@ -1,4 +1,4 @@
-use Rattle.std.proofs.Common.{◌≡◌, ◌∙◌, ◌*◌, sym, ap, arith}
+use Rattle.std.proofs.Common.{◌≡◌, ◌∙◌, ◌*◌, ap, arith}
 use Rattle.std.specs.Prelude.{slice_get, Some}
 use Rattle.scene.specs.Scene.{FrameValue}
 use Rattle.dice.specs.Grids.{line_count}

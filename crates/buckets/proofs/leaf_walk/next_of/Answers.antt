@@ -1,18 +1,17 @@
-use Rattle.std.proofs.Common.{◌≡◌, ◌∙◌, ap, subst, sym, Bool, false, rules, List, ◌∷◌, []}
+use Rattle.std.proofs.Common.{◌∙◌, ap, subst, Bool, rules, ◌∷◌, []}
 use Rattle.std.specs.Prelude.{ℤ, MatchOption}
-use Rattle.patches.specs.Parts.{Part, IsPart, rect_of as part_rect}
+use Rattle.patches.specs.Parts.{Part, rect_of as part_rect}
 use Rattle.patches.specs.Patches.{patch_box, patch_net, patch_width, patch_parts}
 use Rattle.patches.specs.declared.patch.Patch.{Patch}
 use Rattle.transforms.specs.declared.view.View.{View}
 use Rattle.scene.specs.Scene.{PrimValue, FrameValue}
 use Rattle.bound_split.specs.declared.splits.Decision.{Decision}
-use Rattle.bound_split.specs.Culling.{IsTest, Skips}
+use Rattle.bound_split.specs.Culling.{Skips}
 use Rattle.bound_split.specs.Decisions.{decision_of}
 use Rattle.bound_split.specs.Leaves.{pending}
 use Rattle.bound_split.specs.Extents.{part_meets, pixels_of}
 use Rattle.bound_split.proofs.Fitting.{decision-fits}
 use Rattle.bound_split.proofs.Meetings.{inherits}
-use Rattle.buckets.specs.Pictures.{decide}
 use Rattle.buckets.proofs.leaf_walk.next_of.Goals as goal
 
 pub returns-clause-skipped : goal.returns-clause-skipped

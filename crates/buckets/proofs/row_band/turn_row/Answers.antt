@@ -1,6 +1,4 @@
-use Rattle.std.proofs.Common.{◌≡◌, ◌∙◌, ◌+◌, ◌%◌, ◌-◌, sym, ap, subst, arith, ℕ}
-use Rattle.fixed_math.specs.Spots.{PixelRect}
-use Rattle.buckets.specs.TileWalk.{bucket_of}
+use Rattle.std.proofs.Common.{◌≡◌, ◌∙◌, ◌+◌, ◌%◌, sym, ap, subst, arith, ℕ}
 use Rattle.buckets.specs.Rows.{IsRowTo}
 use Rattle.buckets.proofs.BucketRows.{columns, columns_as, in_same_row, at_row_end}
 use Rattle.buckets.proofs.StepsOn.{row_goes_on}

@@ -1,8 +1,7 @@
-use Rattle.std.proofs.Common.{◌≡◌, ◌∙◌, sym, ap, subst, arith, ◌<◌, refl, ◌∷◌, [], length, get_or, List}
+use Rattle.std.proofs.Common.{◌≡◌, ◌∙◌, ap, arith, ◌<◌, refl, ◌∷◌, [], length, get_or, List}
 use Rattle.patches.specs.Parts.{Part}
 use Rattle.bound_split.specs.Extents.{pixels_of}
 use Rattle.scene.specs.Scene.{PrimValue}
-use Rattle.buckets.specs.Pictures.{leaf_in}
 use Rattle.buckets.proofs.Coming.{gives_leaf, skips_prim, gives_none, skips_none}
 use Rattle.buckets.proofs.leaf_walk.LeafWalk.next.Goals as goal
 

@@ -1,4 +1,4 @@
-use Rattle.std.proofs.Common.{◌≡◌, ◌≤◌, ◌-◌, length}
+use Rattle.std.proofs.Common.{◌-◌, length}
 use Rattle.bound_split.specs.Extents.{pixels_of}
 use Rattle.buckets.specs.TileWalk.{meets_in}
 use Rattle.buckets.specs.Standing.{Skips, to_come}

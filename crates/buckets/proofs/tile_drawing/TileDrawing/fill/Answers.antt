@@ -38,10 +38,31 @@ pass_leaf-requires g c =
     let going : Going e now.at now.tile (Some leaf) behind kept count = subst (λ (o : Option Leaf). Going e now.at now.tile o behind kept count) c.in-Some.is c.loop-self.invariant.going in
     let there : slice_get e.begun.drawing.frame.prims leaf.piece.prim ≡ Some c.prim_at-prim.result.now = ap (λ (f : FrameValue). slice_get f.prims leaf.piece.prim) (sym c.requires.0.frame)
     ∙ ap (slice_get c.args.shown.now.frame.now.prims) (sym (ap (λ (l : Leaf). l.piece.prim) c.leaf.view_is)) ∙ c.prim_at-prim.ensures in
-    let n = next_leaf_of e now.at now.tile leaf c.prim_at-prim.result.now behind kept count h going there in
-    (c.requires.0, (ap (λ (s : ShaderSet). set_value s) c.loop-self.invariant.set ∙ c.requires.1.0, (there, (n.sizes, (n.p, (n.q, (
-    can_shade e now.at now.tile (leaf_in c.prim_at-prim.result.now leaf.piece ∷ behind) kept count h c.requires.0.count n.goes, (
-    c.loop-self.invariant.limit ∙ c.requires.1.1.0, n.goes.grids))))))))
+    let n = next_leaf_of e now.at now.tile leaf c.prim_at-prim.result.now behind kept count h going there in (
+      c.requires.0,
+      (
+        ap (λ (s : ShaderSet). set_value s) c.loop-self.invariant.set ∙ c.requires.1.0,
+        (
+          there,
+          (
+            n.sizes,
+            (
+              n.p,
+              (
+                n.q,
+                (
+                  can_shade e now.at now.tile (leaf_in c.prim_at-prim.result.now leaf.piece ∷ behind) kept count h c.requires.0.count n.goes,
+                  (
+                    c.loop-self.invariant.limit ∙ c.requires.1.1.0,
+                    n.goes.grids,
+                  ),
+                ),
+              ),
+            ),
+          ),
+        ),
+      ),
+    )
 
 pub returns-in_err-pass_leaf-clause-part : goal.returns-in_err-pass_leaf-clause-part
 returns-in_err-pass_leaf-clause-part g c =
