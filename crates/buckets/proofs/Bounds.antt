@@ -1,17 +1,15 @@
 -- How much a frame takes at most, and what its drawing comes to.
-use Rattle.std.proofs.Common.{◌≡◌, ℕ, zero, suc, ◌+◌, ◌-◌, ◌*◌, ◌^◌, ◌<◌, ◌≤◌, max, arith, refl, sym, ◌∙◌, ap, subst, List, [], ◌∷◌, ◌++◌, length, map, length-append}
+use Rattle.std.proofs.Common.{◌≡◌, ℕ, ◌+◌, ◌-◌, ◌*◌, ◌≤◌, max, arith, sym, ◌∙◌, ap, List, [], ◌∷◌, length, length-append}
 use Rattle.std.proofs.Math.Nat.{mul-le-mul}
 use Rattle.std.proofs.lemmas.List.{length-map}
-use Rattle.std.specs.List.{flat_map, enumerate_from}
 use Rattle.patches.specs.Parts.{Part, whole_of}
 use Rattle.dice.specs.declared.diced.GridRef.{GridRef}
 use Rattle.bound_split.specs.Leaves.{leaves}
 use Rattle.scene.specs.Scene.{PrimValue, FrameValue}
-use Rattle.hider.specs.Tiles.{TileValue}
 use Rattle.grid_epoch.specs.Kept.{points_in}
-use Rattle.buckets.specs.Pictures.{decide, FrameLeaf, leaf_in, prim_leaves, leaves_from, frame_leaves}
+use Rattle.buckets.specs.Pictures.{decide, leaf_in, prim_leaves, leaves_from, frame_leaves}
 use Rattle.buckets.specs.TileWalk.{Drawing, Counts, tile_count, tile_walk, past_tiles, most_points}
-use Rattle.buckets.specs.Standing.{InEpoch, IsDrawable, Before, Goes}
+use Rattle.buckets.specs.Standing.{InEpoch, IsDrawable, Before}
 use Rattle.buckets.proofs.LeafParts.{few_leaves}
 use Rattle.buckets.proofs.Counting.{walk_rises}
 use Rattle.buckets.proofs.BucketRows.{few_tiles}

@@ -1,12 +1,11 @@
 -- The tile of a bucket, and its pixels in their row.
-use Rattle.std.proofs.Common.{◌≡◌, ℕ, ◌+◌, ◌-◌, ◌<◌, ◌≤◌, arith, refl, sym, ◌∙◌, ap, subst, Bool, List, length}
+use Rattle.std.proofs.Common.{◌≡◌, ℕ, ◌<◌, arith, refl, ◌∙◌, ap, subst, List, length}
 use Rattle.fixed_math.specs.Spots.{PixelRect}
 use Rattle.hider.specs.declared.fragment.Fragment.{Fragment}
 use Rattle.hider.specs.declared.sample.Sample.{Sample}
 use Rattle.hider.specs.declared.sample_grid.SampleGrid.{SampleGrid}
 use Rattle.hider.specs.Composite.{composite}
 use Rattle.hider.specs.Tiles.{TileValue, Shows, IsSampleGrid, grid_of, rect_of}
-use Rattle.filter_ppm.specs.Film.{FilmValues}
 use Rattle.filter_ppm.specs.Sampled.{FilmFormat, film_with}
 use Rattle.filter_ppm.specs.Bands.{rect_with, seen_from, grid_over, PutsPixels}
 use Rattle.filter_ppm.proofs.Bands.{columns_more}

@@ -1,5 +1,5 @@
 -- Where the buckets of a drawing lie, one after another.
-use Rattle.std.proofs.Common.{◌≡◌, ℕ, ◌+◌, ◌-◌, ◌*◌, ◌/◌, ◌%◌, ◌<◌, ◌≤◌, ◌⊎◌, inl, inr, min, zero, suc, arith, refl, sym, ◌∙◌, ap, subst}
+use Rattle.std.proofs.Common.{◌≡◌, ℕ, ◌+◌, ◌-◌, ◌*◌, ◌/◌, ◌%◌, ◌<◌, ◌≤◌, ◌⊎◌, inl, inr, arith, sym, ◌∙◌, ap, subst}
 use Rattle.std.proofs.Math.Nat.{div-add-mod, mod-lt, zero-mod, zero-div, mul-div_cancel_left, mul_comm, mul-le-mul, mul-add, mul-le-mul_left}
 use Rattle.fixed_math.specs.Buckets.{bucket_columns, bucket_rows, buckets_along}
 use Rattle.scene.specs.Scene.{FrameValue}

@@ -1,17 +1,15 @@
 -- The leaves of a frame that are still to come.
-use Rattle.std.proofs.Common.{◌≡◌, ℕ, zero, suc, ◌+◌, ◌<◌, ◌≤◌, arith, refl, sym, ◌∙◌, ap, subst, Bool, true, false, cond, List, [], ◌∷◌, ◌++◌, length, map, filter, drop, get_or, append_assoc, Option, Some, None}
+use Rattle.std.proofs.Common.{◌≡◌, ℕ, zero, suc, ◌+◌, ◌<◌, ◌≤◌, arith, refl, sym, ◌∙◌, ap, subst, Bool, true, false, cond, List, [], ◌∷◌, ◌++◌, length, map, filter, drop, get_or, append_assoc, Some, None}
 use Rattle.std.proofs.lemmas.List.Elements.{filter-append}
-use Rattle.std.specs.List.{flat_map, enumerate_from}
-use Rattle.std.specs.Prelude.{slice_get}
 use Rattle.fixed_math.specs.Spots.{PixelRect}
 use Rattle.patches.specs.Parts.{Part, whole_of}
 use Rattle.patches.specs.Patches.{patch_box}
 use Rattle.bound_split.specs.declared.walk.Leaf.{Leaf}
-use Rattle.bound_split.specs.Leaves.{leaves, pending}
+use Rattle.bound_split.specs.Leaves.{pending}
 use Rattle.bound_split.specs.Extents.{part_meets}
 use Rattle.bound_split.specs.Culling as culling
 use Rattle.scene.specs.Scene.{PrimValue, FrameValue}
-use Rattle.buckets.specs.Pictures.{decide, FrameLeaf, leaf_in, prim_leaves, leaves_from, frame_leaves}
+use Rattle.buckets.specs.Pictures.{decide, FrameLeaf, leaf_in, leaves_from, frame_leaves}
 use Rattle.buckets.specs.TileWalk.{meets_in}
 use Rattle.buckets.specs.Standing.{to_come, coming_from, IsLeafOf, Skips, GivesNext}
 use Rattle.buckets.proofs.Counting.{by_bool}

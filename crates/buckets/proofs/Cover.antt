@@ -1,7 +1,7 @@
 -- Buckets along a line of pixels, and their numbers by rows.
-use Rattle.std.proofs.Common.{◌≡◌, ℕ, zero, suc, ◌+◌, ◌-◌, ◌*◌, ◌/◌, ◌%◌, ◌<◌, ◌≤◌, ◌⊎◌, inl, inr, arith, refl, sym, ◌∙◌, ap}
+use Rattle.std.proofs.Common.{◌≡◌, ℕ, zero, suc, ◌+◌, ◌-◌, ◌*◌, ◌/◌, ◌%◌, ◌<◌, ◌≤◌, ◌⊎◌, inl, inr, arith, ◌∙◌, ap}
 use Rattle.std.proofs.Math.Nat.{div-add-mod, mod-lt, mul-le-mul_left, mul-le-mul_right, mul-add, mul_comm, eq-or-lt_of_le}
-use Rattle.filter_ppm.proofs.Grids.{IsAt, row_of}
+use Rattle.filter_ppm.proofs.Grids.{row_of}
 
 -- c buckets of side s just cover w pixels
 pub record Cover (s w c : ℕ) : Type 0 where

@@ -1,15 +1,13 @@
 -- How the drawing of a tile goes on, leaf by leaf.
-use Rattle.std.proofs.Common.{◌≡◌, ℕ, zero, suc, ◌+◌, ◌-◌, ◌*◌, ◌<◌, ◌≤◌, max, arith, refl, sym, ◌∙◌, ap, subst, Bool, true, false, cond, ◌↔◌, List, [], ◌∷◌, ◌++◌, length, filter, append_assoc, Option, Some, None}
-use Rattle.std.specs.Prelude.{ℤ, nat_le, ◌&&◌, not, IsTrue}
-use Rattle.std.specs.List.{flat_map, list_all, range_with_len}
+use Rattle.std.proofs.Common.{◌≡◌, ℕ, zero, suc, ◌+◌, ◌-◌, ◌<◌, ◌≤◌, max, arith, refl, sym, ◌∙◌, ap, subst, Bool, true, false, ◌↔◌, List, [], ◌∷◌, ◌++◌, filter, append_assoc, Option, Some, None}
+use Rattle.std.specs.Prelude.{nat_le, ◌&&◌, not, IsTrue}
+use Rattle.std.specs.List.{list_all, range_with_len}
 use Rattle.std.proofs.lemmas.Bool.{and_parts}
 use Rattle.std.proofs.lemmas.List.{append-nil}
-use Rattle.transforms.specs.declared.view.View.{View}
 use Rattle.patches.specs.Parts.{Part}
 use Rattle.dice.specs.declared.diced.GridRef.{GridRef}
 use Rattle.bound_split.specs.declared.walk.Leaf.{Leaf}
 use Rattle.scene.specs.Scene.{FrameValue}
-use Rattle.hider.specs.Cells.{Micropolygon}
 use Rattle.hider.specs.declared.fragment.Fragment.{Fragment}
 use Rattle.hider.specs.declared.sample.Sample.{Sample}
 use Rattle.hider.specs.Fragments.{fragments}
@@ -21,8 +19,8 @@ use Rattle.shader_binding.specs.Sets.{AcceptedValue}
 use Rattle.buckets.specs.Pictures.{FrameLeaf, leaf_micropolygons, frame_leaves, micropolygons_of}
 use Rattle.buckets.specs.Sampled.{ShowsMore}
 use Rattle.buckets.specs.TileWalk.{Drawing, Counts, in_new_epoch, has_room, with_needed, is_shown, is_behind, meets_tile, nearest, leaf_points, fragments_of, Walked, walked, past_leaf, past_leaves, past_tile, past_tiles, tile_count, tile_grid, tile_walk}
-use Rattle.buckets.specs.Standing.{InEpoch, next_epoch, Keeps, Counted, AreGrids, Goes, Going, Before, Comes, IsLeafOf, Skips, GivesNext, CountsGo, ShadesInPart}
-use Rattle.buckets.proofs.Counting.{by_bool, Rise, needed_next, past_shown, past_unshown, leaves_rise, tiles_rise, rises_then}
+use Rattle.buckets.specs.Standing.{InEpoch, next_epoch, Keeps, AreGrids, Goes, Going, Before, Skips, GivesNext, CountsGo, ShadesInPart}
+use Rattle.buckets.proofs.Counting.{by_bool, needed_next, past_shown, past_unshown, leaves_rise, tiles_rise}
 
 -- ---- the laws of a leaf in a tile: a tile that it doesn't meet shows it by itself, and so does one in which it lies behind what shows
 pub record IsLawful (d : Drawing) (n : ℕ) (x : FrameLeaf) : Type 0 where

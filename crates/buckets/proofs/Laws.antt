@@ -1,23 +1,20 @@
 -- What holds of each leaf of a frame that can be drawn.
-use Rattle.std.proofs.Common.{◌≡◌, ℕ, zero, suc, ◌+◌, ◌-◌, ◌<◌, arith, refl, sym, ◌∙◌, ap, subst, Bool, false, List, [], ◌∷◌, ◌++◌, length, map, get_or, Some}
-use Rattle.std.specs.List.{flat_map, enumerate_from}
+use Rattle.std.proofs.Common.{◌≡◌, ℕ, zero, suc, ◌+◌, ◌<◌, arith, refl, sym, ◌∙◌, ap, subst, List, [], ◌∷◌, ◌++◌, map, Some}
 use Rattle.std.specs.Prelude.{All, slice_get}
-use Rattle.fixed_math.specs.Spots.{PixelRect}
 use Rattle.std.proofs.lemmas.Int.{ints}
 use Rattle.patches.specs.Parts.{Part, IsPart, rect_of as part_rect, whole_of, low_u, high_u, low_v, high_v}
 use Rattle.patches.specs.Patches.{patch_net, patch_width}
 use Rattle.patches.proofs.Spans.{low_u-IsPart, high_u-IsPart, low_v-IsPart, high_v-IsPart}
-use Rattle.transforms.specs.declared.view.View.{View}
 use Rattle.bound_split.specs.declared.splits.Decision.{Decision}
 use Rattle.bound_split.specs.declared.splits.Decision.TheVariants.{SplitU, SplitV, Dice}
 use Rattle.bound_split.specs.Decisions.{FitsPart}
 use Rattle.bound_split.specs.Leaves.{by_decision, leaves_to, leaves}
 use Rattle.bound_split.proofs.Fitting.{decision-fits}
-use Rattle.scene.specs.Scene.{PrimValue, FrameValue}
-use Rattle.hider.specs.Tiles.{TileValue, rect_of}
+use Rattle.scene.specs.Scene.{PrimValue}
+use Rattle.hider.specs.Tiles.{rect_of}
 use Rattle.buckets.specs.Culled.{IsShadedPrim}
 use Rattle.buckets.specs.Pictures.{decide, FrameLeaf, leaf_in, prim_leaves, leaves_from, frame_leaves}
-use Rattle.buckets.specs.TileWalk.{Drawing, meets_in, meets_tile, nearest, tile_grid}
+use Rattle.buckets.specs.TileWalk.{Drawing, meets_in, nearest}
 use Rattle.buckets.specs.Standing.{IsDrawable}
 use Rattle.buckets.proofs.LeafParts.{PartsOf, leaves_are_parts}
 use Rattle.buckets.proofs.LeftOut.{left_out_shows, passed_over_shows}

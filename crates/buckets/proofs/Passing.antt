@@ -1,9 +1,8 @@
 -- A leaf that is next in a tile, and what becomes of it.
-use Rattle.std.proofs.Common.{◌≡◌, ℕ, zero, suc, ◌+◌, ◌*◌, ◌^◌, ◌<◌, ◌≤◌, arith, refl, sym, ◌∙◌, ap, subst, Bool, true, false, ◌↔◌, List, [], ◌∷◌, ◌++◌, Option, Some, None, length, length-append}
-use Rattle.std.specs.Prelude.{nat_le, slice_get, IsTrue}
+use Rattle.std.proofs.Common.{◌≡◌, ℕ, ◌+◌, ◌^◌, ◌<◌, ◌≤◌, arith, refl, sym, ◌∙◌, ap, subst, Bool, true, false, ◌↔◌, List, [], ◌∷◌, ◌++◌, Option, Some, None, length, length-append}
+use Rattle.std.specs.Prelude.{slice_get, IsTrue}
 use Rattle.patches.specs.Parts.{Part}
 use Rattle.dice.specs.declared.diced.GridRef.{GridRef}
-use Rattle.dice.specs.Grids.{line_count}
 use Rattle.bound_split.specs.declared.walk.Leaf.{Leaf}
 use Rattle.bound_split.specs.declared.splits.Decision.TheVariants.{Dice}
 use Rattle.scene.specs.Scene.{PrimValue, FrameValue}
@@ -14,9 +13,9 @@ use Rattle.grid_epoch.specs.Kept.{points_in}
 use Rattle.buckets.specs.Pictures.{decide, FrameLeaf, leaf_in, frame_leaves}
 use Rattle.fixed_math.specs.Spots.{PixelRect}
 use Rattle.buckets.specs.TileWalk.{Drawing, nearest, meets_in, meets_tile, leaf_points, tile_rect}
-use Rattle.buckets.specs.Standing.{InEpoch, IsDrawable, Goes, Going, IsLeafOf, GivesNext, Uses, UsesInPart, PassesLeaf, PassesInPart, ShadesInPart, next_epoch}
+use Rattle.buckets.specs.Standing.{InEpoch, IsDrawable, Goes, Going, IsLeafOf, GivesNext, Uses, UsesInPart, PassesLeaf, PassesInPart, next_epoch}
 use Rattle.buckets.proofs.Going.{goes_behind, goes_used, goes_full, goes_used_part, goes_shaded, not_behind}
-use Rattle.buckets.proofs.Laws.{IsLeafIn, leaf_is_in, leaf_lawful}
+use Rattle.buckets.proofs.Laws.{leaf_is_in, leaf_lawful}
 use Rattle.buckets.proofs.Bounds.{few_shadings}
 use Rattle.buckets.proofs.BucketPixels.{rect_is}
 

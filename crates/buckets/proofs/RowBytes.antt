@@ -1,6 +1,5 @@
 -- The bytes of rows of buckets, one after another.
-use Rattle.std.proofs.Common.{◌≡◌, ℕ, zero, suc, ◌+◌, ◌-◌, ◌*◌, ◌<◌, ◌≤◌, min, arith, refl, sym, ◌∙◌, ap, subst, List, [], ◌∷◌, ◌++◌, length, take, Option}
-use Rattle.std.proofs.lemmas.List.{append-nil}
+use Rattle.std.proofs.Common.{◌≡◌, ℕ, zero, suc, ◌+◌, ◌<◌, ◌≤◌, arith, refl, sym, ◌∙◌, ap, subst, List, [], ◌∷◌, ◌++◌, length, take, Option}
 use Rattle.outside.specs.Sink.{Written}
 use Rattle.outside.specs.Frames.{PutsAll, PutsFront}
 use Rattle.outside.proofs.Puts.{puts-none, puts-more}

@@ -1,7 +1,6 @@
 -- How a drawing goes from tile to tile.
 use Rattle.std.proofs.Common.{◌≡◌, ℕ, zero, suc, ◌+◌, ◌-◌, ◌*◌, ◌<◌, ◌≤◌, max, arith, refl, sym, ◌∙◌, ap, subst, List, [], ◌∷◌, length, take, ◌++◌, Option, Some, None, true, false}
 use Rattle.std.specs.Prelude.{is_some}
-use Rattle.std.proofs.lemmas.List.{take_all}
 use Rattle.fixed_math.specs.Spots.{PixelRect}
 use Rattle.patches.specs.Parts.{Part}
 use Rattle.dice.specs.declared.diced.GridRef.{GridRef}
@@ -9,14 +8,14 @@ use Rattle.bound_split.specs.declared.walk.Leaf.{Leaf}
 use Rattle.bound_split.specs.Lengths.{most_below}
 use Rattle.scene.specs.Scene.{FrameValue}
 use Rattle.hider.specs.declared.sample_grid.SampleGrid.{SampleGrid}
-use Rattle.hider.specs.Tiles.{TileValue, Shows, sample_count}
+use Rattle.hider.specs.Tiles.{Shows, sample_count}
 use Rattle.filter_ppm.specs.Bands.{rect_with}
 use Rattle.buckets.specs.declared.frame.Progress.{Progress}
 use Rattle.buckets.specs.Pictures.{FrameLeaf, frame_leaves}
-use Rattle.buckets.specs.TileWalk.{Drawing, Counts, nothing, in_new_epoch, format_in, bucket_of, tile_count, tile_rect, tile_grid, meets_in, meets_tile, samples_at, past_tiles, tile_walk}
-use Rattle.buckets.specs.Standing.{Begun, InEpoch, IsDrawable, Before, Goes, Going, GivesNext, to_come}
+use Rattle.buckets.specs.TileWalk.{Drawing, nothing, in_new_epoch, format_in, bucket_of, tile_count, tile_rect, tile_grid, meets_in, meets_tile, samples_at, past_tiles, tile_walk}
+use Rattle.buckets.specs.Standing.{Begun, InEpoch, IsDrawable, Before, GivesNext, to_come}
 use Rattle.buckets.specs.Rows.{film, IsRowTo, TellsSamples}
-use Rattle.buckets.specs.Progress.{Stands, IsIn, next_of, report_before}
+use Rattle.buckets.specs.Progress.{Stands, next_of, report_before}
 use Rattle.filter_ppm.specs.Bands.{ArePixels}
 use Rattle.buckets.proofs.BucketRows.{GoesOnRow}
 use Rattle.buckets.proofs.Going.{goes_begun, goes_next, goes_epochs}

@@ -1,10 +1,9 @@
 -- What a leaf changes that is hidden, by a kept grid or by a new one.
-use Rattle.std.proofs.Common.{◌≡◌, ℕ, zero, suc, ◌+◌, ◌*◌, ◌<◌, ◌≤◌, arith, refl, sym, ◌∙◌, ap, subst, Bool, true, false, List, [], ◌∷◌, ◌++◌, length, map, Option, Some, None}
+use Rattle.std.proofs.Common.{◌≡◌, ℕ, zero, suc, ◌+◌, ◌*◌, ◌≤◌, arith, refl, sym, ◌∙◌, ap, subst, Bool, true, false, List, [], ◌∷◌, ◌++◌, Some}
 use Rattle.std.specs.Prelude.{nat_le, slice_get, IfSome}
 use Rattle.patches.specs.Parts.{Part}
 use Rattle.dice.specs.declared.diced.GridRef.{GridRef}
 use Rattle.dice.specs.Grids.{line_count}
-use Rattle.bound_split.specs.declared.splits.Decision.{Decision}
 use Rattle.bound_split.specs.declared.splits.Decision.TheVariants.{Dice}
 use Rattle.hider.specs.Tiles.{TileValue}
 use Rattle.scene.specs.Scene.{PrimValue, FrameValue}
@@ -16,7 +15,7 @@ use Rattle.std.proofs.Math.Nat.{mul-le-mul}
 use Rattle.grid_epoch.specs.Kept.{has, pieces_in, points_in}
 use Rattle.buckets.specs.Pictures.{decide, FrameLeaf, leaf_micropolygons}
 use Rattle.buckets.specs.Sampled.{ShowsMore}
-use Rattle.buckets.specs.TileWalk.{Drawing, Counts, has_room, with_shaded, with_needed, points_by, leaf_points}
+use Rattle.buckets.specs.TileWalk.{Drawing, Counts, has_room, with_needed, points_by, leaf_points}
 use Rattle.buckets.specs.Standing.{IsDrawable, IsGridOf, AreGrids, Keeps, CountsGo, Uses}
 use Rattle.buckets.proofs.Counting.{needed_kept, needed_new, needed_rises}
 

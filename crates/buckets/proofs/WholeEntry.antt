@@ -1,5 +1,5 @@
 -- The entry that the drawing of a frame leaves.
-use Rattle.std.proofs.Common.{◌≡◌, ◌∙◌, ◌++◌, sym, ap, subst, refl, ℕ, [], ◌∷◌, List, Option, option_map, length, arith}
+use Rattle.std.proofs.Common.{◌≡◌, ◌∙◌, ◌++◌, sym, ap, subst, ℕ, [], ◌∷◌, List, Option, option_map, length, arith}
 use Rattle.std.proofs.lemmas.List.{append-nil, take_all}
 use Rattle.outside.specs.Sink.{Written, begun, with_bytes, with_end}
 use Rattle.outside.specs.Frames.{Picture, Adds, AddsPart, PutsAll, PutsFront, whole}

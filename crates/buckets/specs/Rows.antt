@@ -1,6 +1,5 @@
 -- Rows of buckets: the bytes of those that are put, and the pixels of the one that is drawn.
-use Rattle.std.specs.Prelude.{◌≡◌, ℕ, ◌-◌, ◌*◌, ◌+◌, ◌<◌, min, max, List, [], length, Option}
-use Rattle.fixed_math.specs.Spots.{PixelRect}
+use Rattle.std.specs.Prelude.{◌≡◌, ℕ, ◌-◌, ◌*◌, min, max, List, length, Option}
 use Rattle.bound_split.specs.Lengths.{most_below}
 use Rattle.outside.specs.Sink.{Written}
 use Rattle.outside.specs.Frames.{PutsAll, PutsFront}
@@ -8,7 +7,7 @@ use Rattle.filter_ppm.specs.Levels.{band}
 use Rattle.filter_ppm.specs.Film.{FilmValues, pixels}
 use Rattle.filter_ppm.specs.Bands.{rows, ArePixels}
 use Rattle.buckets.specs.Pictures.{film_of}
-use Rattle.buckets.specs.TileWalk.{Drawing, format_in, bucket_of, tile_count, samples_at}
+use Rattle.buckets.specs.TileWalk.{Drawing, format_in, bucket_of, samples_at}
 use Rattle.buckets.specs.Standing.{Begun}
 
 abbrev pub film : Drawing → FilmValues

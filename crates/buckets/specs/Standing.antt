@@ -1,14 +1,13 @@
 -- Where the drawing of a frame stands: what its tile shows, and what is left of the walk through its tiles.
-use Rattle.std.specs.Prelude.{◌≡◌, ℕ, ◌+◌, ◌-◌, ◌*◌, ◌/◌, ◌%◌, ◌^◌, ◌<◌, ◌≤◌, max, Bool, true, false, nat_le, filter, List, [], ◌∷◌, ◌++◌, length, map, drop, take, All, Option, Some, None, slice_get}
+use Rattle.std.specs.Prelude.{◌≡◌, ℕ, ◌+◌, ◌-◌, ◌^◌, ◌≤◌, max, Bool, true, false, nat_le, filter, List, [], ◌∷◌, ◌++◌, length, map, drop, All, Option, Some, None, slice_get}
 use Rattle.patches.specs.Parts.{Part}
 use Rattle.bound_split.specs.declared.walk.Leaf.{Leaf}
 use Rattle.bound_split.specs.declared.splits.Decision.TheVariants.{Dice}
 use Rattle.bound_split.specs.Leaves.{pending}
-use Rattle.bound_split.specs.Lengths.{most_below}
 use Rattle.dice.specs.declared.diced.GridRef.{GridRef}
 use Rattle.scene.specs.Settings.{AreOptions}
 use Rattle.scene.specs.Scene.{PrimValue, FrameValue}
-use Rattle.shader_binding.specs.Sets.{SetValue, AcceptedValue, Fits}
+use Rattle.shader_binding.specs.Sets.{Fits}
 use Rattle.shader_binding.specs.Bindings.{FitsPrim}
 use Rattle.displace_shade.specs.Diced.{grid_value}
 use Rattle.displace_shade.specs.Shaded.{shaded}

@@ -1,5 +1,5 @@
 -- The walk through the tiles of a frame: which leaves are shown in each, how many grids are shaded for them, and in how many epochs.
-use Rattle.std.specs.Prelude.{ℕ, zero, suc, ◌+◌, ◌*◌, max, ℤ, Bool, true, false, ◌&&◌, not, cond, nat_le, List, [], ◌∷◌, ◌++◌}
+use Rattle.std.specs.Prelude.{ℕ, zero, suc, ◌+◌, ◌*◌, max, ℤ, Bool, ◌&&◌, not, cond, nat_le, List, [], ◌∷◌, ◌++◌}
 use Rattle.std.specs.List.{list_all, range_with_len}
 use Rattle.fixed_math.specs.Spots.{PixelRect, whole_frame}
 use Rattle.fixed_math.specs.Buckets.{bucket_count, bucket}

@@ -1,12 +1,10 @@
-use Rattle.std.proofs.Common.{◌≡◌, ◌∙◌, ◌+◌, ◌-◌, ◌<◌, ◌≤◌, max, sym, ap, subst, arith, ℕ, refl, [], List, Option}
+use Rattle.std.proofs.Common.{◌≡◌, ◌∙◌, ◌+◌, ◌-◌, ◌<◌, ◌≤◌, sym, ap, subst, arith, ℕ, refl, []}
 use Rattle.outside.proofs.Puts.{on_err}
-use Rattle.outside.specs.Sink.{Written}
 use Rattle.displace_shade.specs.Shop.{set_value}
 use Rattle.displace_shade.specs.declared.set.ShaderSet.{ShaderSet}
-use Rattle.bound_split.specs.Lengths.{most_below}
 use Rattle.buckets.specs.declared.limits.Report.{Report}
-use Rattle.buckets.specs.TileWalk.{tile_count, tile_walk, samples_at}
-use Rattle.buckets.specs.Rows.{PutsTo, TellsSamples}
+use Rattle.buckets.specs.TileWalk.{tile_count, tile_walk}
+use Rattle.buckets.specs.Rows.{PutsTo}
 use Rattle.buckets.specs.Progress.{Stands, DoneInPart, next_of, report_before}
 use Rattle.buckets.proofs.Bounds.{few_shadings, few_epochs}
 use Rattle.buckets.proofs.BucketRows.{some_tiles}

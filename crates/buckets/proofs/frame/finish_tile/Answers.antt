@@ -1,4 +1,4 @@
-use Rattle.std.proofs.Common.{◌+◌, arith}
+use Rattle.std.proofs.Common.{◌+◌}
 use Rattle.outside.proofs.Puts.{on_err}
 use Rattle.buckets.proofs.RowBytes.{rows_in_part}
 use Rattle.buckets.proofs.StepsOn.{tells_more}

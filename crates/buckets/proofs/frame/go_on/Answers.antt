@@ -1,13 +1,12 @@
-use Rattle.std.proofs.Common.{◌≡◌, ◌∙◌, ◌+◌, ◌<◌, sym, ap, subst, arith, ℕ, refl, [], List, Option, None, true, false}
+use Rattle.std.proofs.Common.{◌≡◌, ◌∙◌, ◌<◌, sym, ap, subst, arith, ℕ, [], List, None}
 use Rattle.outside.proofs.Puts.{on_err}
-use Rattle.bound_split.specs.declared.walk.Leaf.{Leaf}
 use Rattle.scene.specs.Scene.{FrameValue}
 use Rattle.filter_ppm.specs.Bands.{rect_with}
 use Rattle.grid_epoch.specs.Kept.{points_in}
 use Rattle.buckets.specs.TileWalk.{bucket_of, tile_count, tile_rect}
-use Rattle.buckets.specs.Standing.{Goes, Going, next_epoch, to_come}
+use Rattle.buckets.specs.Standing.{Going, next_epoch, to_come}
 use Rattle.buckets.specs.Rows.{IsRowTo, PutsTo, TellsSamples}
-use Rattle.buckets.specs.Progress.{Stands, IsIn}
+use Rattle.buckets.specs.Progress.{IsIn}
 use Rattle.buckets.proofs.Going.{goes_shaded, goes_whole, goes_done}
 use Rattle.buckets.proofs.RowBytes.{rows_in_part}
 use Rattle.buckets.proofs.StepsOn.{is_none, is_not_none}

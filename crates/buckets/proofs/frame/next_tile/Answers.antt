@@ -1,11 +1,10 @@
-use Rattle.std.proofs.Common.{◌≡◌, ◌∙◌, ◌+◌, ◌<◌, sym, ap, subst, arith, ℕ, refl}
-use Rattle.hider.specs.declared.sample_grid.SampleGrid.{SampleGrid}
+use Rattle.std.proofs.Common.{◌≡◌, ◌+◌, ◌<◌, sym, subst, arith, ℕ}
 use Rattle.buckets.specs.declared.frame.Progress.{Progress}
 use Rattle.buckets.specs.TileWalk.{bucket_of, tile_count}
 use Rattle.buckets.specs.Standing.{Before}
 use Rattle.buckets.specs.Rows.{IsRowTo}
 use Rattle.buckets.proofs.BucketPixels.{grid_xs, grid_ys}
-use Rattle.buckets.proofs.StepsOn.{stands_in, stands_behind}
+use Rattle.buckets.proofs.StepsOn.{stands_in}
 use Rattle.buckets.proofs.frame.next_tile.Goals as goal
 
 pub begin-requires : goal.begin-requires

@@ -1,5 +1,5 @@
-use Rattle.std.proofs.Common.{◌≡◌, ◌∙◌, sym, ap, subst, [], ◌∷◌, List, Option, Some}
-use Rattle.outside.specs.Sink.{Written, begun}
+use Rattle.std.proofs.Common.{◌≡◌, subst, [], ◌∷◌, Some}
+use Rattle.outside.specs.Sink.{begun}
 use Rattle.outside.specs.Frames.{Adds, AddsPart, whole}
 use Rattle.outside.proofs.Puts.{on_err}
 use Rattle.displace_shade.specs.Shop.{set_value}

@@ -1,5 +1,4 @@
-use Rattle.std.proofs.Common.{◌≡◌, ◌∙◌, ◌+◌, max, sym, ap, arith, ℕ}
-use Rattle.grid_epoch.specs.Kept.{points_in}
+use Rattle.std.proofs.Common.{◌∙◌, ◌+◌, max, ap, ℕ}
 use Rattle.bound_split.specs.Lengths.{most_below}
 use Rattle.buckets.specs.TileWalk.{samples_at}
 use Rattle.buckets.specs.Standing.{InEpoch}

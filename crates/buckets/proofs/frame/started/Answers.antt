@@ -1,11 +1,10 @@
-use Rattle.std.proofs.Common.{◌≡◌, ◌∙◌, sym, ap, subst, arith, ℕ, refl, [], List}
+use Rattle.std.proofs.Common.{◌≡◌, ◌∙◌, sym, ap, subst, ℕ, []}
 use Rattle.scene.specs.Scene.{FrameValue}
 use Rattle.scene.specs.Settings.{OptionValues}
 use Rattle.transforms.specs.declared.view.View.{View}
-use Rattle.filter_ppm.specs.Sampled.{FilmFormat}
 use Rattle.bound_split.specs.Extents.{pixels_of}
 use Rattle.buckets.specs.declared.frame.Progress.{Progress}
-use Rattle.buckets.specs.TileWalk.{bucket_of, format_in}
+use Rattle.buckets.specs.TileWalk.{format_in}
 use Rattle.buckets.specs.Standing.{InEpoch, to_come}
 use Rattle.buckets.specs.Rows.{IsRowTo}
 use Rattle.buckets.specs.Progress.{Stands, next_of, report_before}

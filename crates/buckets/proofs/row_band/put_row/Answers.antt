@@ -1,8 +1,7 @@
-use Rattle.std.proofs.Common.{◌≡◌, ◌∙◌, ◌+◌, ◌%◌, ◌≤◌, sym, ap, subst, arith, ℕ, List}
+use Rattle.std.proofs.Common.{◌≡◌, ◌∙◌, ◌+◌, ◌%◌, ◌≤◌, sym, ap, subst, ℕ, List}
 use Rattle.std.specs.Prelude.{All}
 use Rattle.outside.proofs.Puts.{on_err}
 use Rattle.outside.specs.Frames.{PutsAll, PutsFront}
-use Rattle.fixed_math.specs.Spots.{PixelRect}
 use Rattle.scene.specs.Scene.{FrameValue}
 use Rattle.scene.specs.Settings.{OptionValues}
 use Rattle.filter_ppm.specs.Levels.{band}

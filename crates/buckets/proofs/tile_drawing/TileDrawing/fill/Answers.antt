@@ -1,4 +1,4 @@
-use Rattle.std.proofs.Common.{◌≡◌, ◌∙◌, ◌<◌, ◌+◌, sym, ap, subst, arith, Bool, false, true, refl, length, ℕ, List, Option, Some, None, ◌∷◌, []}
+use Rattle.std.proofs.Common.{◌≡◌, ◌∙◌, ◌<◌, ◌+◌, sym, ap, subst, Bool, false, true, length, ℕ, List, Option, Some, ◌∷◌, []}
 use Rattle.std.specs.Prelude.{slice_get}
 use Rattle.outside.proofs.Puts.{on_err}
 use Rattle.bound_split.specs.declared.walk.Leaf.{Leaf}
@@ -7,13 +7,13 @@ use Rattle.displace_shade.specs.Shop.{set_value}
 use Rattle.displace_shade.specs.declared.set.ShaderSet.{ShaderSet}
 use Rattle.grid_epoch.specs.Kept.{points_in}
 use Rattle.scene.specs.Scene.{FrameValue, PrimValue}
-use Rattle.buckets.specs.Pictures.{leaf_in, FrameLeaf}
+use Rattle.buckets.specs.Pictures.{leaf_in}
 use Rattle.filter_ppm.specs.Bands.{rect_with}
 use Rattle.buckets.specs.TileWalk.{tile_rect, meets_in}
 use Rattle.buckets.specs.Standing.{Going, PassesLeaf, next_epoch, to_come}
 use Rattle.buckets.proofs.Going.{goes_next}
 use Rattle.buckets.proofs.Laws.{lawful}
-use Rattle.buckets.proofs.Passing.{NextLeaf, next_there, next_leaf_of, gives_as, some_leaf, fewer, going_again, can_shade}
+use Rattle.buckets.proofs.Passing.{next_there, next_leaf_of, gives_as, some_leaf, fewer, going_again, can_shade}
 use Rattle.buckets.proofs.tile_drawing.TileDrawing.fill.Goals as goal
 
 pub prim_at-prim-requires : goal.prim_at-prim-requires

@@ -1,8 +1,4 @@
-use Rattle.std.proofs.Common.{◌≡◌, ◌+◌, length, ℕ, Option, Some, None}
-use Rattle.bound_split.specs.declared.walk.Leaf.{Leaf}
-use Rattle.filter_ppm.specs.Bands.{rect_with}
-use Rattle.displace_shade.specs.Shop.{set_value}
-use Rattle.buckets.specs.TileWalk.{tile_rect}
+use Rattle.std.proofs.Common.{◌≡◌, ◌+◌, length}
 use Rattle.buckets.specs.Standing.{Going, to_come}
 use Rattle.buckets.proofs.Passing.{some_leaf}
 use Rattle.buckets.proofs.tile_drawing.TileDrawing.fill.Given as goal
