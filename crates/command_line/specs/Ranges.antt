@@ -1,5 +1,5 @@
 -- The ranges of the options.
-use Rattle.std.specs.Prelude.{ℕ, ◌≤◌}
+use Rattle.std.specs.Prelude.{◌≤◌}
 use Rattle.command_line.specs.declared.command.RunOptions.{RunOptions}
 
 -- the options lie in their ranges

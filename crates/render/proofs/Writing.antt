@@ -3,7 +3,7 @@ use Rattle.std.proofs.Common.{◌≡◌, refl, ap, ◌∙◌, subst, ℕ, zero, 
 use Rattle.std.specs.Prelude.{OnErr}
 use Rattle.outside.specs.Sink.{Written}
 use Rattle.outside.specs.Frames.{Picture, whole, Adds, AddsPart, IsFront, AddsFront}
-use Rattle.outside.proofs.Entries.{front-none, adds_front-after, adds_front-whole, adds-next}
+use Rattle.outside.proofs.Entries.{adds_front-after, adds_front-whole, adds-next}
 
 -- some first frames, each whole and ended
 front-first : {A : Type 0} (picture_of : A → Picture) (fs : List A) (i : ℕ) → IsFront (map picture_of fs) (map whole (map picture_of (take i fs)))

@@ -1,5 +1,5 @@
 // Frames to a sink.
-ghost use Rattle.std.specs.Prelude.{◌≡◌, ◌≤◌, ◌<◌, ◌+◌, ◌*◌, ◌^◌, ◌∷◌, [], Some, false, All, length, map, option_map, string_bytes, slice_get, IfOk, OnOk, OnErr, IsErrOf};
+ghost use Rattle.std.specs.Prelude.{◌≡◌, ◌≤◌, ◌+◌, ◌^◌, ◌∷◌, [], Some, false, All, length, map, option_map, string_bytes, slice_get, IfOk, OnOk, OnErr, IsErrOf};
 ghost use Rattle.outside.specs.Causes.{Rose};
 ghost use Rattle.outside.specs.Frames.{Adds, AddsPart, AddsFront, whole};
 ghost use Rattle.shader_binding.specs.Sets.{Fits};

@@ -1,4 +1,4 @@
-use Rattle.std.proofs.Common.{◌≡◌, sym, ◌∙◌, subst, All, Some, arith}
+use Rattle.std.proofs.Common.{◌≡◌, sym, ◌∙◌, subst, All, arith}
 use Rattle.scene.specs.Scene.{FrameValue}
 use Rattle.shader_binding.specs.Bindings.{FitsPrim}
 use Rattle.displace_shade.specs.Shop.{set_value}
