@@ -5,6 +5,7 @@ ghost use Rattle.clap.specs.Matches.{found_of, first_value};
 ghost use Rattle.clap.specs.Simple.{app_of};
 ghost use Rattle.clap.specs.Walk.{rule_of};
 ghost use Rattle.command_line.specs.Command.{reyes, action_rule, name_rule, bucket_rule, grid_points_rule, stats_rule, number_in, is_set, is_digit, patches_named, demo_command, file_command, options_for, command_named, command_for, command_of, command_view};
+ghost use Rattle.command_line.specs.Ranges.{LieInRanges};
 ghost use Rattle.command_line.specs.Texts.{texts};
 
 use crate::patch_count::PatchCount;
@@ -130,7 +131,8 @@ fn is_set(text: Option<&str>) -> bool
 
 // The options among the words that clap found.
 fn options_found(matches: &ArgMatches<'_>) -> Option<RunOptions>
-    ensures { result ≡ options_for (first_value (found_of matches.now) (codes "bucket")) (first_value (found_of matches.now) (codes "grid-points")) (first_value (found_of matches.now) (codes "stats")) }
+    ensures options { result ≡ options_for (first_value (found_of matches.now) (codes "bucket")) (first_value (found_of matches.now) (codes "grid-points")) (first_value (found_of matches.now) (codes "stats")) }
+    ensures ranges { IfSome result LieInRanges }
 {
     Some(RunOptions {
         bucket: number_in(4, 64, matches.get_str("bucket")?)?,
@@ -164,7 +166,9 @@ fn patches_named(name: &str) -> Option<PatchCount>
 
 // The command for the demonstration scene, of which a note tells what was done.
 fn demo_command<'a>(name: &str, options: RunOptions) -> Option<SceneCommand<'a>>
-    ensures { option_map command_view result ≡ demo_command (patches_named name.now) options }
+    requires { LieInRanges options }
+    ensures command { option_map command_view result ≡ demo_command (patches_named name.now) options }
+    ensures ranges { IfSome result (λ c. LieInRanges c.options) }
 {
     let patches = patches_named(name)?;
     Some(SceneCommand {
@@ -179,7 +183,9 @@ fn demo_command<'a>(name: &str, options: RunOptions) -> Option<SceneCommand<'a>>
 
 // The command for a scene in a file.
 fn file_command(action: Action, name: &str, options: RunOptions) -> SceneCommand<'_>
-    ensures { command_view result ≡ file_command action name.now options }
+    requires { LieInRanges options }
+    ensures command { command_view result ≡ file_command action name.now options }
+    ensures ranges { LieInRanges result.options }
 {
     SceneCommand {
         action,
@@ -190,7 +196,9 @@ fn file_command(action: Action, name: &str, options: RunOptions) -> SceneCommand
 
 // The command of that action, where there is such an action.
 fn command_named<'a>(action: &str, name: &'a str, options: RunOptions) -> Option<SceneCommand<'a>>
-    ensures { option_map command_view result ≡ command_named action.now name.now options }
+    requires { LieInRanges options }
+    ensures command { option_map command_view result ≡ command_named action.now name.now options }
+    ensures ranges { IfSome result (λ c. LieInRanges c.options) }
 {
     if action == "render" {
         Some(file_command(Action::Render, name, options))
@@ -205,8 +213,9 @@ fn command_named<'a>(action: &str, name: &'a str, options: RunOptions) -> Option
 
 // The command among the words that clap found.
 fn command_found<'a>(matches: &ArgMatches<'a>) -> Option<SceneCommand<'a>>
-    ensures { option_map command_view result ≡ command_for (first_value (found_of matches.now) (codes "action")) (first_value (found_of matches.now) (codes "name"))
+    ensures command { option_map command_view result ≡ command_for (first_value (found_of matches.now) (codes "action")) (first_value (found_of matches.now) (codes "name"))
         (options_for (first_value (found_of matches.now) (codes "bucket")) (first_value (found_of matches.now) (codes "grid-points")) (first_value (found_of matches.now) (codes "stats"))) }
+    ensures ranges { IfSome result (λ c. LieInRanges c.options) }
 {
     let action = matches.get_str("action")?;
     let name = matches.get_str("name")?;
@@ -214,12 +223,13 @@ fn command_found<'a>(matches: &ArgMatches<'a>) -> Option<SceneCommand<'a>>
     command_named(action, name, options)
 }
 
-/// What a command asks for, where its words are in order.
+/// What a command asks for, where its words are in order; its options lie in their ranges.
 pub fn scene_command<'a>(
     alloc: Global,
     words: &'a [&'a str],
 ) -> Result<Option<SceneCommand<'a>>, NoMemory>
-    ensures { IfOk result (λ c. option_map command_view c ≡ command_of (texts words.now)) }
+    ensures command { IfOk result (λ c. option_map command_view c ≡ command_of (texts words.now)) }
+    ensures ranges { IfOk result (λ c. IfSome c (λ c. LieInRanges c.options)) }
 {
     let Ok(command) = command(alloc) else {
         return Err(NoMemory);

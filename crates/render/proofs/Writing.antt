@@ -1,38 +1,45 @@
--- What a header and a band leave in a sink, one after the other.
-use Rattle.std.proofs.Common.{◌≡◌, sym, ◌∙◌, subst, ℕ, ◌+◌, ◌≤◌, List, ◌++◌, length, take, Option, Result, Ok, Err, arith}
-use Rattle.std.specs.Prelude.{OnOk, OnErr}
-use Rattle.std.proofs.lemmas.List.{take-append-le, take_all}
-use Rattle.std.proofs.Math.Seq.{take-append-add}
-use Rattle.std.proofs.lemmas.Bool.{cases_lt}
-use Rattle.std.proofs.Common.{⊎_elim, ◌<◌}
+-- A frame behind those that are whole.
+use Rattle.std.proofs.Common.{◌≡◌, refl, ap, ◌∙◌, subst, ℕ, zero, suc, ◌+◌, ◌<◌, List, [], ◌∷◌, length, map, take, get_or, Option, inl, inr, Result, Ok, Err}
+use Rattle.std.specs.Prelude.{OnErr}
 use Rattle.outside.specs.Sink.{Written}
-use Rattle.outside.specs.Frames.{PutsAll, PutsFront}
-use Rattle.outside.proofs.Puts.{puts-more}
+use Rattle.outside.specs.Frames.{Picture, whole, Adds, AddsPart, IsFront, AddsFront}
+use Rattle.outside.proofs.Entries.{adds_front-after, adds_front-whole, adds-next}
 
-front_of_first : (a b : List ℕ) (n : ℕ) → (m : ℕ) × (take n a ≡ take m (a ++ b))
-front_of_first a b n =
-    ⊎_elim
-    (λ (h : n < length a). let le : n ≤ length a = omega arith in (n, sym (take-append-le n a b le)))
-    (λ (h : length a ≤ n). (length a, take_all n a h ∙ sym (take_all (length a) a (omega arith)) ∙ sym (take-append-le (length a) a b (omega arith))))
-    (cases_lt n (length a))
+-- some first frames, each whole and ended
+front-first : {A : Type 0} (picture_of : A → Picture) (fs : List A) (i : ℕ) → IsFront (map picture_of fs) (map whole (map picture_of (take i fs)))
+front-first picture_of [] zero = refl
+front-first picture_of [] (suc i) = refl
+front-first picture_of (f ∷ fs) zero = inl tt
+front-first picture_of (f ∷ fs) (suc i) = inr (map whole (map picture_of (take i fs)), refl, front-first picture_of fs i)
 
-pub first_stops : (a b : List ℕ) (x y : Option (List Written)) → PutsFront a x y → PutsFront (a ++ b) x y
-first_stops a b x y p =
-    let f = front_of_first a b p.0 in
-    (f.0, subst (λ bs. PutsAll bs x y) f.1 p.1)
+whole_next : {A : Type 0} (picture_of : A → Picture) (fs : List A) (i : ℕ) (f : A) (x y z : Option (List Written)) → i < length fs → f ≡ get_or fs i f
+    → Adds (map whole (map picture_of (take i fs))) x y → Adds (whole (picture_of f) ∷ []) y z → AddsFront (map picture_of fs) x z
+whole_next picture_of fs i f x y z lt is first next = record {
+  added = map whole (map picture_of (take (i + 1) fs));
+  adds = adds-next picture_of fs i f x y z lt is first next;
+  front = front-first picture_of fs (i + 1);
+}
 
-front_of_both : (a b : List ℕ) (n : ℕ) → a ++ take n b ≡ take (length a + n) (a ++ b)
-front_of_both a b n = sym (take-append-add a b n)
+-- behind i whole frames, nothing of the next one, a part of it, or all of it
+front_next : {A : Type 0} (picture_of : A → Picture) (fs : List A) (i : ℕ) (f : A) (x y z : Option (List Written)) → i < length fs → f ≡ get_or fs i f
+    → Adds (map whole (map picture_of (take i fs))) x y → AddsFront (picture_of f ∷ []) y z → AddsFront (map picture_of fs) x z
+front_next {A} picture_of fs i f x y z lt is first more = by more.added more.adds more.front
+  where
+    by : (added : List Written) → Adds added y z → IsFront (picture_of f ∷ []) added → AddsFront (map picture_of fs) x z
+    by added adds (inl part) = adds_front-after picture_of fs i f x y z lt is first (record { added = added; adds = adds; part = part })
+    by added adds (inr all) =
+        whole_next picture_of fs i f x y z lt is first (subst (λ ws. Adds ws y z) (all.1 ∙ ap (λ others. whole (picture_of f) ∷ others) all.2) adds)
 
-pub second_goes : {T E : Type 0} (r : Result T E) (a b : List ℕ) (x y z : Option (List Written)) → PutsAll a x y → OnOk r (PutsAll b y z) → OnOk r (PutsAll (a ++ b) x z)
-second_goes (Ok u) a b x y z p q = puts-more a b x y z p q
-second_goes (Err e) a b x y z p q = tt
+pub front_next-err : {A T E : Type 0} (r : Result T E) (picture_of : A → Picture) (fs : List A) (i : ℕ) (f : A) (x y z : Option (List Written)) → i < length fs → f ≡ get_or fs i f
+    → Adds (map whole (map picture_of (take i fs))) x y → AddsFront (picture_of f ∷ []) y z → OnErr r (AddsFront (map picture_of fs) x z)
+front_next-err (Ok u) picture_of fs i f x y z lt is first more = tt
+front_next-err (Err e) picture_of fs i f x y z lt is first more = front_next picture_of fs i f x y z lt is first more
 
-pub second_stops : {T E : Type 0} (r : Result T E) (a b : List ℕ) (x y z : Option (List Written)) → PutsAll a x y → OnErr r (PutsFront b y z) → OnErr r (PutsFront (a ++ b) x z)
-second_stops (Ok u) a b x y z p q = tt
-second_stops (Err e) a b x y z p q = (length a + q.0, subst (λ bs. PutsAll bs x z) (front_of_both a b q.0) (puts-more a (take q.0 b) x y z p q.1))
+-- one frame: a part of it, or all of it
+pub one_part : {T E : Type 0} (r : Result T E) (p : Picture) (x y : Option (List Written)) → AddsPart p x y → OnErr r (AddsFront (p ∷ []) x y)
+one_part (Ok u) p x y h = tt
+one_part (Err e) p x y h = record { added = h.added; adds = h.adds; front = inl h.part }
 
--- where the first one is stopped, a front of both is put
-pub first_refused : {T E : Type 0} (r : Result T E) (a b : List ℕ) (x y : Option (List Written)) → PutsFront a x y → OnErr r (PutsFront (a ++ b) x y)
-first_refused (Ok u) a b x y p = tt
-first_refused (Err e) a b x y p = first_stops a b x y p
+pub one_whole : {T E : Type 0} (r : Result T E) (p : Picture) (x y : Option (List Written)) → Adds (whole p ∷ []) x y → OnErr r (AddsFront (p ∷ []) x y)
+one_whole (Ok u) p x y h = tt
+one_whole (Err e) p x y h = adds_front-whole (p ∷ []) x y h

@@ -2,6 +2,7 @@
 ghost use Rattle.std.specs.Prelude.{◌≡◌, ◌≢◌, ◌≤◌, ◌⊎◌, true, false, Some, IfOk, option_map, string_bytes};
 ghost use Rattle.outside.specs.Causes.{Rose, Told};
 ghost use Rattle.outside.specs.Asked.{AsksFront};
+ghost use Rattle.command_line.specs.Ranges.{LieInRanges};
 ghost use Rattle.command_line.specs.Texts.{texts};
 ghost use Rattle.render.specs.Run.{IsUsage, draws, draws_action, IsAccepted, HasStatus, AnswersVerdict, IsRefused, AddsFrames, AddsFirstFrames, AsksFirstNames};
 ghost use Rattle.command_line.specs.Command.{source_view, command_view};
@@ -13,8 +14,9 @@ ghost use Rattle.render.specs.declared.program.Answer.TheVariants.{Usage, Refuse
 ghost use Rattle.acceptance.specs.declared.refusal.Refusal.TheVariants.{ReadFault};
 
 use crate::load::load;
-use crate::write::{Unwritten, write_pictures};
+use crate::write::write_pictures;
 use acceptance::{FileId, Refusal};
+use buckets::DrawFault;
 use command_line::{Action, SceneCommand, Source, scene_command};
 use fixed_math::NoMemory;
 use outside::{FrameSink, Library, Notes};
@@ -41,12 +43,14 @@ fn obeyed<L: Library, O: FrameSink, N: Notes>(
     frames: &mut O,
     notes: &mut N,
 ) -> Answer
-    requires { O.is_open frames.old ≡ false }
+    requires closed { O.is_open frames.old ≡ false }
+    requires ranges { LieInRanges command.now.options }
     ensures command { result ≢ Usage }
     ensures verdict { Told (L.held library.old) (λ files. Agrees (scene_name (source_view command.now.source)) result (verdict_of_command (Some (command_view command.now)) files) (O.written frames.old) (O.written frames.new)) }
     ensures before { ComesBefore result → O.written frames.new ≡ O.written frames.old }
-    ensures closed { result ≢ WriteFault → O.is_open frames.new ≡ false }
+    ensures closed { result ≢ WriteFault → result ≢ OutOfMemory → O.is_open frames.new ≡ false }
     ensures unwritten { draws_action command.now.action ≡ false → O.written frames.new ≡ O.written frames.old }
+    ensures unopened { draws_action command.now.action ≡ false → O.is_open frames.new ≡ false }
     ensures drawn { result ≡ WriteFault → draws_action command.now.action ≡ true }
     ensures held { L.held library.new ≡ L.held library.old }
     ensures asked { Told (L.held library.old) (λ files. AsksFront (asked_for_command (Some (command_view command.now)) files) (L.asked library.old) (L.asked library.new)) }
@@ -62,16 +66,10 @@ fn obeyed<L: Library, O: FrameSink, N: Notes>(
     };
     match command.action {
         Action::Check => Answer::Done,
-        Action::Render => match write_pictures(
-            alloc,
-            frames,
-            notes,
-            accepted,
-            command.options.stats,
-        ) {
+        Action::Render => match write_pictures(alloc, frames, notes, accepted, command.options) {
             Ok(()) => Answer::Done,
-            Err(Unwritten::SinkFailed) => Answer::WriteFault,
-            Err(Unwritten::NoMemory) => Answer::NoMemory,
+            Err(DrawFault::WriteFault) => Answer::WriteFault,
+            Err(DrawFault::NoMemory) => Answer::NoMemory,
         },
     }
 }
@@ -99,8 +97,9 @@ fn answered<'a, L: Library, O: FrameSink, N: Notes>(
     ensures usage_known { IsUsage (texts words.now) → (result.0 ≡ Usage) ⊎ (result.0 ≡ OutOfMemory) }
     ensures verdict { Told (L.held library.old) (λ files. Agrees result.1.now result.0 (verdict (texts words.now) files) (O.written frames.old) (O.written frames.new)) }
     ensures before { ComesBefore result.0 → O.written frames.new ≡ O.written frames.old }
-    ensures closed { result.0 ≢ WriteFault → O.is_open frames.new ≡ false }
+    ensures closed { result.0 ≢ WriteFault → result.0 ≢ OutOfMemory → O.is_open frames.new ≡ false }
     ensures unwritten { draws (texts words.now) ≡ false → O.written frames.new ≡ O.written frames.old }
+    ensures unopened { draws (texts words.now) ≡ false → O.is_open frames.new ≡ false }
     ensures drawn { result.0 ≡ WriteFault → draws (texts words.now) ≡ true }
     ensures held { L.held library.new ≡ L.held library.old }
     ensures asked { Told (L.held library.old) (λ files. AsksFirstNames (texts words.now) files (L.asked library.old) (L.asked library.new)) }
@@ -187,11 +186,12 @@ fn status(answer: &Answer, note: &Result<Option<String>, NoMemory>) -> u8
 
 /// Runs a command: its words are `reyes ACTION NAME [--bucket B] [--grid-points G] [--stats]` as `clap` reads them, where the
 /// action is `render` or `check` and NAME names a scene file, or it is `demo` and NAME is a row of digits, the number of patches
-/// of the demonstration scene, 1 to 1,000; B is 4 to 64 and G is 289 to 1,000,000, and these two have no effect yet. The scene's
+/// of the demonstration scene, 1 to 1,000. B, 4 to 64, is the side in pixels of the buckets in which frames are drawn; G, 289 to
+/// 1,000,000, is the most points of shaded grids that are kept at one time; neither changes a byte of a picture. The scene's
 /// file is asked of the library and read to its end, and then each shader x that a primitive of it uses, once, by first use: the
 /// file `x.sl`, or the stock text of x where there is no such file. With `render` and `demo` the frames then go to the sink, each
-/// drawn whole before it is begun; with `check` nothing is written. No frame of the sink may be open. With `--stats`, and always
-/// with `demo`, a line of the notes tells of each frame behind its end how many grids were shaded for it.
+/// a row of buckets at a time; with `check` nothing is written. No frame of the sink may be open. With `--stats`, and always
+/// with `demo`, a line of the notes tells of each frame behind its end how many grids were shaded for it, and in how many epochs.
 ///
 /// The answer is a status: 0 done; 2 the words are no command, or they ask for help; 3 the scene or a shader has a fault of syntax,
 /// or the scene one of nesting; 4 a shader has a fault of types, or a

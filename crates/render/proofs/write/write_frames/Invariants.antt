@@ -1,4 +1,4 @@
-use Rattle.std.proofs.Common.{◌≡◌, ◌≤◌, ◌*◌, ◌^◌, false, map, take}
+use Rattle.std.proofs.Common.{◌≡◌, ◌≤◌, ◌+◌, ◌*◌, ◌^◌, false, map, take}
 use Rattle.outside.specs.Frames.{whole, Adds}
 use Rattle.render.specs.Pictures.{picture_of}
 use Rattle.buckets.specs.Shopped.{shaded_by}
@@ -10,5 +10,6 @@ invariant-loop-index g l = record {
   added : Adds (map whole (map (picture_of (shaded_by l.scene l.initial.shop)) (take l.index l.frames))) (g.O.FrameSink.written l.initial.sink) (g.O.FrameSink.written l.sink);
   later : g.O.FrameSink.faults l.initial.sink ≤ g.O.FrameSink.faults l.sink;
   set : l.shop.set ≡ l.initial.shop.set;
-  count : l.shop.count ≤ 2 ^ 32 * l.index;
+  count : l.shop.count ≤ 2 ^ 52 * l.index;
+  epochs : l.report.epochs ≤ (2 ^ 52 + 1) * l.index;
 }
