@@ -70,7 +70,7 @@ worked_view = record { fov = None; window = neg_ℤ two ∷ two ∷ neg_ℤ two 
 abbrev worked_box : ℤ → ℤ → Box
 worked_box near far = record { low = record { x = pos 0; y = pos 0; z = near }; high = record { x = pos 32768; y = pos 32768; z = far } }
 
--- the box is half a pixel wide and high, right of and above the middle, and so lies in column 2 and row 1
+-- the box is half a pixel wide and high, right of and above the middle, and so lies in the third column and the second row
 abbrev pixel : ℕ → ℕ → PixelRect
 pixel x y = record { left = x; top = y; right = x + 1; bottom = y + 1 }
 
