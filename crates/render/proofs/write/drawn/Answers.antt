@@ -18,3 +18,6 @@ pub overflow_sub-result-2 : goal.overflow_sub-result-2
 overflow_sub-result-2 g c =
     let done = c.in_ok-render_frame.ensures.drawn c.args.shown.now.frame.now c.args.shown.now.there in
     omega (arith, done.epochs)
+
+pub returns-clause-ok : goal.returns-clause-ok
+returns-clause-ok g c = c.in_ok-render_frame.ensures.ok c.args.shown.now.frame.now c.args.shown.now.there
