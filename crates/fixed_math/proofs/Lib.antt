@@ -17,3 +17,6 @@ pub mod Tensors
 pub mod Fits
 pub mod LastPlaces
 pub mod Around
+pub mod Decimals
+pub mod DigitLemmas
+pub mod DecimalTexts

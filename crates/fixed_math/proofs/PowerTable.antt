@@ -1,11 +1,11 @@
--- The power of two by a table of eight bits and eight factors.
+-- The power of two by a table of four bits and twelve factors.
 use Rattle.std.proofs.Common.{◌≡◌, refl, ap, ◌∙◌, ℕ, zero, suc, ◌+◌, ◌*◌, ◌/◌, ◌^◌, ◌≤◌, ◌<◌, arith, true, List, [], ◌∷◌, length, get_or}
 use Rattle.std.specs.Prelude.{◌&&◌, ◌==◌, nat_le}
 use Rattle.std.proofs.lemmas.Bool.{and_parts, eqb-true, leb-true}
 use Rattle.std.proofs.Math.Nat.{div-div-eq-div-mul}
 use Rattle.fixed_math.specs.Root.{isqrt, isqrt_from}
 use Rattle.fixed_math.specs.Power.{exp_bits}
-use Rattle.fixed_math.specs.PowerTable.{factor, high_power, with_low, checked}
+use Rattle.fixed_math.specs.PowerTable.{factor, high_power, with_middle, with_low, checked}
 
 -- ---- the table
 
@@ -101,9 +101,9 @@ root_16 : isqrt (1073764536 * 1073741824) ≡ 1073753179
 unfolding isqrt isqrt_from
 root_16 = refl
 
--- the bits from the eighth on are those of f / 256
-high_bit : (k f m s p q : ℕ) → p ≡ 256 * q → 2 ^ (k + 8) ≡ p → 2 ^ k ≡ q → factor (k + 8) f m s ≡ factor k (f / 256) m s
-high_bit k f m s p q e a b = rw (a, b, e, ← div-div-eq-div-mul f 256 q)
+-- the bits from the twelfth on are those of f / 4096
+high_bit : (k f m s p q : ℕ) → p ≡ 4096 * q → 2 ^ (k + 12) ≡ p → 2 ^ k ≡ q → factor (k + 12) f m s ≡ factor k (f / 4096) m s
+high_bit k f m s p q e a b = rw (a, b, e, ← div-div-eq-div-mul f 4096 q)
 
 low_half : (f m : ℕ) → exp_bits 8 f m 1076653032 ≡ with_low f m
 unfolding exp_bits
@@ -117,17 +117,21 @@ low_half f m =
     ∙ step 1 f _ 1073787250 1073764536 root_15
     ∙ step 0 f _ 1073764536 1073753179 root_16
 
-high_step : (k f m r s p q : ℕ) → p ≡ 256 * q → 2 ^ (k + 8) ≡ p → 2 ^ k ≡ q → isqrt (r * 1073741824) ≡ s → exp_bits (suc (k + 8)) f m r ≡ exp_bits (k + 8) f (factor k (f / 256) m s) s
-high_step k f m r s p q e a b root = step (k + 8) f m r s root ∙ ap (λ x. exp_bits (k + 8) f x s) (high_bit k f m s p q e a b)
-
-pub sixteen : (f : ℕ) → exp_bits 16 f 1073741824 2147483648 ≡ with_low f (high_power (f / 256))
-sixteen f =
-    high_step 7 f 1073741824 2147483648 1518500249 32768 128 refl refl refl root_1
-    ∙ high_step 6 f _ 1518500249 1276901416 16384 64 refl refl refl root_2
-    ∙ high_step 5 f _ 1276901416 1170923761 8192 32 refl refl refl root_3
-    ∙ high_step 4 f _ 1170923761 1121280435 4096 16 refl refl refl root_4
-    ∙ high_step 3 f _ 1121280435 1097253707 2048 8 refl refl refl root_5
-    ∙ high_step 2 f _ 1097253707 1085434105 1024 4 refl refl refl root_6
-    ∙ high_step 1 f _ 1085434105 1079572135 512 2 refl refl refl root_7
-    ∙ high_step 0 f _ 1079572135 1076653032 256 1 refl refl refl root_8
+twelve : (f m : ℕ) → exp_bits 12 f m 1121280435 ≡ with_low f (with_middle f m)
+twelve f m =
+    step 11 f m 1121280435 1097253707 root_5
+    ∙ step 10 f _ 1097253707 1085434105 root_6
+    ∙ step 9 f _ 1085434105 1079572135 root_7
+    ∙ step 8 f _ 1079572135 1076653032 root_8
     ∙ low_half f _
+
+high_step : (k f m r s p q : ℕ) → p ≡ 4096 * q → 2 ^ (k + 12) ≡ p → 2 ^ k ≡ q → isqrt (r * 1073741824) ≡ s → exp_bits (suc (k + 12)) f m r ≡ exp_bits (k + 12) f (factor k (f / 4096) m s) s
+high_step k f m r s p q e a b root = step (k + 12) f m r s root ∙ ap (λ x. exp_bits (k + 12) f x s) (high_bit k f m s p q e a b)
+
+pub sixteen : (f : ℕ) → exp_bits 16 f 1073741824 2147483648 ≡ with_low f (with_middle f (high_power (f / 4096)))
+sixteen f =
+    high_step 3 f 1073741824 2147483648 1518500249 32768 8 refl refl refl root_1
+    ∙ high_step 2 f _ 1518500249 1276901416 16384 4 refl refl refl root_2
+    ∙ high_step 1 f _ 1276901416 1170923761 8192 2 refl refl refl root_3
+    ∙ high_step 0 f _ 1170923761 1121280435 4096 1 refl refl refl root_4
+    ∙ twelve f _

@@ -15,3 +15,7 @@ pub mod formers
 pub mod Spots
 pub mod Buckets
 pub mod Edges
+pub mod Decimal
+pub mod NumberBytes
+pub mod Digits
+pub mod DecimalText

@@ -4,6 +4,10 @@
 //! numbers: one floor, one clamp, no rounding mode and no machine dependence.
 #![tactic(auto)]
 
+mod decimal;
+mod decimal_text;
+mod digit_rows;
+mod digits;
 mod direction;
 mod exact;
 mod hash;
@@ -19,6 +23,7 @@ mod text;
 mod vec3;
 mod wide;
 
+pub use decimal::Decimal;
 pub use direction::unit;
 pub use exact::{floor_by, floor_div, minus, plus, scaled, times};
 pub use hash::{hash32, with_word};

@@ -2,7 +2,7 @@
 ghost use Rattle.std.specs.Prelude.{◌≡◌, ◌+◌, ◌*◌, ◌-◌, ◌/◌, ◌%◌, ◌^◌, ◌<◌, ◌≤◌, ℤ, pos, negsuc, ◌-ℤ◌, ◌≤ℤ◌, unsigned_abs, IsTrue, length, cond, nat_le};
 ghost use Rattle.fixed_math.specs.Fixed.{sat, IsRaw};
 ghost use Rattle.fixed_math.specs.Power.{log_bits, floor_log2, log2_of, log2, exp_bits, with_exponent, exp2, pow};
-ghost use Rattle.fixed_math.specs.PowerTable.{factor, with_low, high_power, checked};
+ghost use Rattle.fixed_math.specs.PowerTable.{factor, with_middle, with_low, high_power, checked};
 
 use crate::num::Num;
 use crate::tables::POWERS;
@@ -33,13 +33,13 @@ fn mantissa(x: u64, k: u32) -> u64
 
 // `m` times `s / 2^30` where the bit `k` of `f` is set.
 fn factor(f: u64, k: u32, m: u64, s: u64) -> u64
-    requires place { k < 16 }
+    requires place { k < 12 }
     requires m_small { m < 2 ^ 33 }
     requires s_low { 2 ^ 30 ≤ s }
-    requires s_high { s ≤ 2 ^ 30 + 2 ^ 22 }
+    requires s_high { s ≤ 2 ^ 30 + 2 ^ 25 }
     ensures value { result ≡ factor k f m s }
     ensures low { m ≤ result }
-    ensures high { 256 * result ≤ 257 * m }
+    ensures high { 32 * result ≤ 33 * m }
 {
     if (f >> k) % 2 == 1 {
         m * s / 1073741824
@@ -48,9 +48,22 @@ fn factor(f: u64, k: u32, m: u64, s: u64) -> u64
     }
 }
 
-// The factors of the eight low bits: the ninth to the sixteenth root of two, each the root of the one before, in 30 fraction bits.
-fn with_low(f: u64, m: u64) -> u64
+// The factors of the four bits below the high ones: the fifth to the eighth root of two, each the root of the one before, in 30 fraction bits.
+fn with_middle(f: u64, m: u64) -> u64
     requires { m ≤ 2 ^ 31 }
+    ensures value { result ≡ with_middle f m }
+    ensures low { m ≤ result }
+    ensures high { result < 2 ^ 32 }
+{
+    let a = factor(f, 11, m, 1097253707);
+    let b = factor(f, 10, a, 1085434105);
+    let c = factor(f, 9, b, 1079572135);
+    factor(f, 8, c, 1076653032)
+}
+
+// The factors of the eight low bits: the ninth to the sixteenth root of two.
+fn with_low(f: u64, m: u64) -> u64
+    requires { m < 2 ^ 32 }
     ensures value { result ≡ with_low f m }
     ensures low { m ≤ result }
     ensures high { result < 2 ^ 33 }
@@ -76,9 +89,9 @@ fn lookup(table: &[u32], j: u64) -> u64
     table[j as usize] as u64
 }
 
-// The product of the roots that the eight high bits name.
+// The product of the roots that the four high bits name.
 fn high_power(j: u64) -> u64
-    requires { j < 256 }
+    requires { j < 16 }
     ensures value { result ≡ high_power j }
     ensures low { 2 ^ 30 ≤ result }
     ensures high { result ≤ 2 ^ 31 }
@@ -93,7 +106,7 @@ fn exp_bits(f: u64) -> u64
     ensures low { 2 ^ 30 ≤ result }
     ensures high { result < 2 ^ 33 }
 {
-    with_low(f, high_power(f / 256))
+    with_low(f, with_middle(f, high_power(f / 4096)))
 }
 
 // Whether a square passes 2, and what is left of it.
