@@ -36,10 +36,11 @@ fn push_row<S: Surface, A: Allocator>(
     ensures value { IfOk result (λ _. points.new.items ≡ points.old.items ++ row_points (S.point_of s.now) v (lines piece.now.a piece.now.i p)) }
     ensures small { IfOk result (λ _. Each (IsWithin (2 ^ 30)) points.new.items) }
 {
+    let curve = s.curve_at(v);
     let cells: u16 = 1 << p;
     for k in 0..cells + 1 {
         let u = line_at(piece.a, piece.i, p, k);
-        points.push(s.point(u, v))?;
+        points.push(curve.point(u))?;
     }
     Ok(())
 }

@@ -2,6 +2,7 @@
 ghost use Rattle.std.specs.Prelude.{◌≡◌, ◌≤◌, ◌<◌, ◌*◌, ◌+◌, ◌^◌, ℕ, pos, true, ◌*ℤ◌, ◌-ℤ◌, List, ◌++◌, length, map, unsigned_abs, slice_index_or, IfOk};
 ghost use Rattle.std.specs.List.{range_with_len};
 ghost use Rattle.fixed_math.specs.Fixed.{IsRaw};
+ghost use Rattle.patches.specs.Curves.{curve_du, curve_dv};
 ghost use Rattle.patches.specs.Slopes.{AreBelow};
 ghost use Rattle.dice.specs.Grids.{line_count, line_at, lines, row_points, diced_points};
 ghost use Rattle.dice.specs.Normals.{item, cross as cross_of, direction, normal, AreShort};
@@ -9,7 +10,7 @@ ghost use Rattle.dice.specs.Normals.{item, cross as cross_of, direction, normal,
 use crate::grid::line_at;
 use fixed_math::{NoMemory, Num, Vec3, minus, times, unit};
 use lanes::wide::unit_wide;
-use patches::{Dyadic, Piece, Surface};
+use patches::{Curve, Dyadic, Piece, Surface};
 use std::alloc::Allocator;
 
 /// One number of a cross product: `a * d - b * c`.
@@ -116,11 +117,16 @@ fn wide_unit(c: [i128; 3]) -> Vec3
     unit(c)
 }
 
-/// The unit normal of the surface at `u` and `v`, by its derivatives.
-fn normal_at<S: Surface>(s: &S, u: Dyadic, v: Dyadic) -> Vec3
-    ensures { result ≡ normal (S.du_of s.now) (S.dv_of s.now) u v }
+/// The unit normal of a surface at `u` of one of its curves, by its derivatives.
+fn normal_at(curve: &Curve, u: Dyadic) -> Vec3
+    requires across { (w : ℕ) → w ≤ 4096 → AreBelow (2 ^ 40) (curve_du curve.now w) }
+    requires up { (w : ℕ) → w ≤ 4096 → AreBelow (2 ^ 40) (curve_dv curve.now w) }
+    ensures value { result ≡ direction (cross_of (curve_du curve.now u) (curve_dv curve.now u)) }
+    ensures within { u ≤ 4096 }
 {
-    cross_direction(s.du_at(u, v), s.dv_at(u, v))
+    let across = curve.du(u);
+    let up = curve.dv(u);
+    cross_direction(across, up)
 }
 
 /// Appends the normals of the row of the grid at `v`.
@@ -134,10 +140,11 @@ fn push_normals<S: Surface, A: Allocator>(
     requires cells { p ≤ 4 }
     ensures { IfOk result (λ _. normals.new.items ≡ normals.old.items ++ row_points (normal (S.du_of s.now) (S.dv_of s.now)) v (lines piece.now.a piece.now.i p)) }
 {
+    let curve = s.curve_at(v);
     let cells: u16 = 1 << p;
     for k in 0..cells + 1 {
         let u = line_at(piece.a, piece.i, p, k);
-        normals.push(normal_at(s, u, v))?;
+        normals.push(normal_at(&curve, u))?;
     }
     Ok(())
 }
