@@ -23,6 +23,16 @@ pub fn line_at(a: u8, i: u16, p: u8, k: u16) -> Dyadic
     Dyadic::new((i * cells + k) * step)
 }
 
+/// The number of lines that bound 2^`p` cells.
+pub(crate) fn lines_along(p: u8) -> usize
+    requires { p ≤ 4 }
+    ensures value { result ≡ line_count p }
+    ensures from { 2 ≤ result }
+    ensures to { result ≤ 17 }
+{
+    (1 << p) + 1
+}
+
 /// Appends the row of the grid at `v`.
 fn push_row<S: Surface, A: Allocator>(
     points: &mut Vec<Vec3, A>,
@@ -59,7 +69,7 @@ pub(crate) fn collect_points<S: Surface, A: Allocator>(
     ensures count { IfOk result (λ points. length points.items ≡ line_count p * line_count q) }
     ensures small { IfOk result (λ points. Each (IsWithin (2 ^ 30)) points.items) }
 {
-    let mut points = Vec::new(alloc);
+    let mut points = Vec::with_capacity(alloc, lines_along(p) * lines_along(q))?;
     let cells: u16 = 1 << q;
     for l in 0..cells + 1 {
         let v = line_at(piece.b, piece.j, q, l);

@@ -7,7 +7,7 @@ ghost use Rattle.patches.specs.Slopes.{AreBelow};
 ghost use Rattle.dice.specs.Grids.{line_count, line_at, lines, row_points, diced_points};
 ghost use Rattle.dice.specs.Normals.{item, cross as cross_of, direction, normal, AreShort};
 
-use crate::grid::line_at;
+use crate::grid::{line_at, lines_along};
 use fixed_math::{NoMemory, Num, Vec3, minus, times, unit};
 use lanes::wide::unit_wide;
 use patches::{Curve, Dyadic, Piece, Surface};
@@ -162,7 +162,7 @@ pub(crate) fn collect_normals<S: Surface, A: Allocator>(
     ensures value { IfOk result (λ normals. normals.items ≡ diced_points (normal (S.du_of s.now) (S.dv_of s.now)) piece.now p q) }
     ensures count { IfOk result (λ normals. length normals.items ≡ line_count p * line_count q) }
 {
-    let mut normals = Vec::new(alloc);
+    let mut normals = Vec::with_capacity(alloc, lines_along(p) * lines_along(q))?;
     let cells: u16 = 1 << q;
     for l in 0..cells + 1 {
         let v = line_at(piece.b, piece.j, q, l);

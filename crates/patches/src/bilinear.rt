@@ -14,7 +14,7 @@ ghost use Rattle.patches.specs.Slopes.{bilinear_du, bilinear_dv, weights_0, step
 use crate::boxes::box_of_points;
 use crate::cubic::Cubic;
 use crate::curve::{Coordinate, Curve};
-use crate::mixing::mix;
+use crate::mixing::mix_short;
 use crate::piece::{Dyadic, Piece, span_at};
 use crate::surface::Surface;
 use arrayvec::ArrayVec;
@@ -47,16 +47,16 @@ impl Bilinear {
 }
 
 /// A coordinate of control point `k`.
-fn control_at(points: &[Vec3; 4], axis: Axis, k: usize) -> i128
+fn control_at(points: &[Vec3; 4], axis: Axis, k: usize) -> i64
     requires { k < 4 }
     ensures value { result ≡ part_of axis (slice_index_or points.now k origin) }
     ensures bound { unsigned_abs result ≤ 2 ^ 31 }
 {
-    points[k].part(axis).raw() as i128
+    points[k].part(axis).raw()
 }
 
 /// The coordinate at `u` and `v`, times 4096 twice.
-fn exact(points: &[Vec3; 4], axis: Axis, u: u16, v: u16) -> i128
+fn exact(points: &[Vec3; 4], axis: Axis, u: u16, v: u16) -> i64
     requires across { u ≤ 4096 }
     requires up { v ≤ 4096 }
     ensures value { result ≡ blossom_net (u ∷ []) (v ∷ []) (control 2 points.now axis) }
@@ -66,9 +66,9 @@ fn exact(points: &[Vec3; 4], axis: Axis, u: u16, v: u16) -> i128
     let b = control_at(points, axis, 1);
     let c = control_at(points, axis, 2);
     let d = control_at(points, axis, 3);
-    let bottom = mix(u, a, b);
-    let top = mix(u, c, d);
-    mix(v, bottom, top)
+    let bottom = mix_short(u, a, b);
+    let top = mix_short(u, c, d);
+    mix_short(v, bottom, top)
 }
 
 /// The coordinate at `u` and `v`, rounded down once.
@@ -78,7 +78,7 @@ fn coordinate_at(points: &[Vec3; 4], axis: Axis, u: u16, v: u16) -> Num
     requires up { v ≤ 4096 }
     ensures { result ≡ floor_of (blossom_net (u ∷ []) (v ∷ []) (control 2 points.now axis)) (denominator ^ 2) }
 {
-    Num::sat(floor_by(exact(points, axis, u, v), 1 << 24))
+    Num::sat(floor_by(exact(points, axis, u, v) as i128, 1 << 24))
 }
 
 /// The point at `u` and `v`.
@@ -107,12 +107,12 @@ fn coordinate_along(points: &[Vec3; 4], axis: Axis, v: u16) -> Coordinate
     let b = control_at(points, axis, 1);
     let c = control_at(points, axis, 2);
     let d = control_at(points, axis, 3);
-    let left = mix(v, a, c);
-    let right = mix(v, b, d);
-    let left_rise = minus(c, a);
-    let right_rise = minus(d, b);
+    let left = mix_short(v, a, c);
+    let right = mix_short(v, b, d);
+    let left_rise = minus(c as i128, a as i128);
+    let right_rise = minus(d as i128, b as i128);
     Coordinate {
-        place: Cubic::of_ends(left, right),
+        place: Cubic::of_ends(left as i128, right as i128),
         rise: Cubic::of_ends(left_rise, right_rise),
     }
 }
