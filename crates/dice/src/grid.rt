@@ -1,12 +1,13 @@
 // The lines of a diced grid and the points on them.
-ghost use Rattle.std.specs.Prelude.{◌≡◌, ◌≤◌, ◌<◌, ◌*◌, ◌+◌, ◌^◌, ℕ, List, ◌++◌, length, map, IfOk};
+ghost use Rattle.std.specs.Prelude.{◌≡◌, ◌≤◌, ◌<◌, ◌*◌, ◌+◌, ◌^◌, ℕ, List, ◌++◌, length, map, IfOk, IfSome};
 ghost use Rattle.std.specs.List.{range_with_len};
 ghost use Rattle.patches.specs.Boxes.{IsWithin};
+ghost use Rattle.patches.specs.Curves.{IsCurve};
 ghost use Rattle.patches.specs.Lists.{Each};
 ghost use Rattle.dice.specs.Grids.{line_count, line_at, lines, row_points, diced_points};
 
 use fixed_math::{NoMemory, Vec3};
-use patches::{Dyadic, Piece, Surface};
+use patches::{Curve, Dyadic, Piece, Surface};
 use std::alloc::{Allocator, Global};
 
 /// The parameter of line `k`, of the lines that cut the part `i` of 2^`a` into 2^`p` cells. It is that of column `k` of a diced
@@ -33,6 +34,18 @@ pub(crate) fn lines_along(p: u8) -> usize
     (1 << p) + 1
 }
 
+/// The point at `u` and `v`, by the curve at `v` where there is one.
+fn point_on<S: Surface>(curve: &Option<Curve>, s: &S, u: Dyadic, v: Dyadic) -> Vec3
+    requires { IfSome curve.now (λ curve. IsCurve curve (λ u. S.point_of s.now u v) (λ u. S.du_of s.now u v) (λ u. S.dv_of s.now u v)) }
+    ensures value { result ≡ S.point_of s.now u v }
+    ensures small { IsWithin (2 ^ 30) result }
+{
+    match curve {
+        Some(curve) => curve.point(u),
+        None => s.point(u, v),
+    }
+}
+
 /// Appends the row of the grid at `v`.
 fn push_row<S: Surface, A: Allocator>(
     points: &mut Vec<Vec3, A>,
@@ -50,7 +63,7 @@ fn push_row<S: Surface, A: Allocator>(
     let cells: u16 = 1 << p;
     for k in 0..cells + 1 {
         let u = line_at(piece.a, piece.i, p, k);
-        points.push(curve.point(u))?;
+        points.push(point_on(&curve, s, u, v))?;
     }
     Ok(())
 }

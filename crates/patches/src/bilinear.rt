@@ -8,7 +8,7 @@ ghost use Rattle.fixed_math.specs.Whole.{floor_by as floor_of};
 ghost use Rattle.patches.specs.Boxes.{IsWithin};
 ghost use Rattle.patches.specs.BoxLaws.{bilinear_box, bilinear_inside, bilinear_parts, bilinear_rows};
 ghost use Rattle.patches.specs.Nets.{control, blossom_point, bilinear_point, bilinear_net};
-ghost use Rattle.patches.specs.Curves.{value_at, slope_at};
+ghost use Rattle.patches.specs.Curves.{value_at, slope_at, IsCurve};
 ghost use Rattle.patches.specs.Slopes.{bilinear_du, bilinear_dv, weights_0, steps_u, steps_v, AreBelow};
 
 use crate::boxes::box_of_points;
@@ -117,6 +117,20 @@ fn coordinate_along(points: &[Vec3; 4], axis: Axis, v: u16) -> Coordinate
     }
 }
 
+impl Bilinear {
+    /// The curve at `v`.
+    fn curve(&self, v: Dyadic) -> Curve
+        ensures { IsCurve result (λ u. bilinear_point self.now u v) (λ u. bilinear_du self.now u v) (λ u. bilinear_dv self.now u v) }
+    {
+        let v = v.numerator();
+        Curve {
+            x: coordinate_along(&self.points, Axis::X, v),
+            y: coordinate_along(&self.points, Axis::Y, v),
+            z: coordinate_along(&self.points, Axis::Z, v),
+        }
+    }
+}
+
 impl Surface for Bilinear {
     ghost point_of = { bilinear_point };
 
@@ -141,20 +155,15 @@ impl Surface for Bilinear {
     }
 
     fn du_at(&self, u: Dyadic, v: Dyadic) -> [i64; 3] {
-        self.curve_at(v).du(u)
+        self.curve(v).du(u)
     }
 
     fn dv_at(&self, u: Dyadic, v: Dyadic) -> [i64; 3] {
-        self.curve_at(v).dv(u)
+        self.curve(v).dv(u)
     }
 
-    fn curve_at(&self, v: Dyadic) -> Curve {
-        let v = v.numerator();
-        Curve {
-            x: coordinate_along(&self.points, Axis::X, v),
-            y: coordinate_along(&self.points, Axis::Y, v),
-            z: coordinate_along(&self.points, Axis::Z, v),
-        }
+    fn curve_at(&self, v: Dyadic) -> Option<Curve> {
+        Some(self.curve(v))
     }
 
     fn net(&self, piece: &Piece) -> ArrayVec<Vec3, 16> {
