@@ -122,6 +122,9 @@ cast_step s a b z r hr ha hb e told =
     let g = same_cast b (omega arith) in
     (e ∙ rw (f, g) refl, told r (rw f ha) (rw g hb))
 
+pub short_fits : (z : ℤ) → unsigned_abs z ≤ 2 ^ 60 → mag (to_z w64 (of_z w64 z)) < 2 ^ 127
+short_fits z h = rw (same_64 z h) (fits_signed_from_abs w128 z (omega arith)).sfits
+
 pub short_below : (z : ℤ) (m r : ℕ) → m ≤ 2 ^ 60 → m ≤ r → unsigned_abs z ≤ m → unsigned_abs (to_z w64 (of_z w64 z)) ≤ r
 short_below z m r h l k = rw (same_64 z (omega arith)) (omega arith)
 
@@ -133,6 +136,14 @@ pub minus_step : (a b z : ℤ) (r : ℕ) → r ≤ 2 ^ 100 → unsigned_abs a �
 minus_step a b z r hr ha hb e =
     let f : z ≡ a -ℤ b = e ∙ rw (same_wide a (omega arith), same_wide b (omega arith)) refl in
     (f, omega (arith, ints, f))
+
+pub cast_minus : (a b z : ℤ) (r : ℕ) → r ≤ 2 ^ 60 → unsigned_abs a ≤ r → unsigned_abs b ≤ r → z ≡ cast a -ℤ cast b → (z ≡ a -ℤ b) × (unsigned_abs z ≤ 2 * r)
+cast_minus a b z r hr ha hb e =
+    let f : z ≡ a -ℤ b = e ∙ rw (same_cast a (omega arith), same_cast b (omega arith)) refl in
+    (f, omega (arith, ints, f))
+
+pub cast_below : (z : ℤ) (m r : ℕ) → m ≤ 2 ^ 60 → m ≤ r → unsigned_abs z ≤ m → unsigned_abs (cast z) ≤ r
+cast_below z m r h l k = rw (same_cast z (omega arith)) (omega arith)
 
 pub scaled_step : (p : ℕ) (a z : ℤ) (r m : ℕ) → r ≤ 2 ^ 100 → unsigned_abs a ≤ r → p * r ≤ m → z ≡ pos p *ℤ to_z w128 (of_z w128 a) → (z ≡ pos p *ℤ a) × (unsigned_abs z ≤ m)
 scaled_step p a z r m hr ha hm e =

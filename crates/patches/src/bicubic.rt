@@ -9,7 +9,7 @@ ghost use Rattle.fixed_math.specs.Whole.{floor_by as floor_of};
 ghost use Rattle.patches.specs.Boxes.{IsWithin};
 ghost use Rattle.patches.specs.BoxLaws.{bicubic_box, bicubic_inside, bicubic_parts, bicubic_rows};
 ghost use Rattle.patches.specs.Nets.{control, blossom_point, bicubic_point, bicubic_net, all_ends};
-ghost use Rattle.patches.specs.Curves.{value_at, slope_at};
+ghost use Rattle.patches.specs.Curves.{value_at, slope_at, IsCurve};
 ghost use Rattle.patches.specs.Slopes.{bicubic_du, bicubic_dv, weights_2, steps_u, steps_v, AreBelow};
 
 use crate::blossoms::{Arguments, Column, blossom_3, column_at, ends_of};
@@ -170,6 +170,20 @@ fn push_row(net: &mut ArrayVec<Vec3, 16>, points: &[Vec3; 16], across: Span, vs:
     });
 }
 
+impl Bicubic {
+    /// The curve at `v`.
+    fn curve(&self, v: Dyadic) -> Curve
+        ensures { IsCurve result (λ u. bicubic_point self.now u v) (λ u. bicubic_du self.now u v) (λ u. bicubic_dv self.now u v) }
+    {
+        let v = v.numerator();
+        Curve {
+            x: coordinate_along(&self.points, Axis::X, v),
+            y: coordinate_along(&self.points, Axis::Y, v),
+            z: coordinate_along(&self.points, Axis::Z, v),
+        }
+    }
+}
+
 impl Surface for Bicubic {
     ghost point_of = { bicubic_point };
 
@@ -190,24 +204,19 @@ impl Surface for Bicubic {
     ghost rows = { bicubic_rows };
 
     fn point(&self, u: Dyadic, v: Dyadic) -> Vec3 {
-        self.curve_at(v).point(u)
+        self.curve(v).point(u)
     }
 
     fn du_at(&self, u: Dyadic, v: Dyadic) -> [i64; 3] {
-        self.curve_at(v).du(u)
+        self.curve(v).du(u)
     }
 
     fn dv_at(&self, u: Dyadic, v: Dyadic) -> [i64; 3] {
-        self.curve_at(v).dv(u)
+        self.curve(v).dv(u)
     }
 
-    fn curve_at(&self, v: Dyadic) -> Curve {
-        let v = v.numerator();
-        Curve {
-            x: coordinate_along(&self.points, Axis::X, v),
-            y: coordinate_along(&self.points, Axis::Y, v),
-            z: coordinate_along(&self.points, Axis::Z, v),
-        }
+    fn curve_at(&self, v: Dyadic) -> Option<Curve> {
+        Some(self.curve(v))
     }
 
     fn net(&self, piece: &Piece) -> ArrayVec<Vec3, 16> {

@@ -56,7 +56,7 @@ impl Surface for Patch {
         }
     }
 
-    fn curve_at(&self, v: Dyadic) -> Curve {
+    fn curve_at(&self, v: Dyadic) -> Option<Curve> {
         match self {
             Patch::Bilinear(patch) => patch.curve_at(v),
             Patch::Bicubic(patch) => patch.curve_at(v),

@@ -1,5 +1,5 @@
 // Parametric surfaces, with their laws.
-ghost use Rattle.std.specs.Prelude.{◌≡◌, ◌≤◌, ◌<◌, ◌%◌, ◌^◌, ℕ, ℤ, List, [], ◌∷◌, length};
+ghost use Rattle.std.specs.Prelude.{◌≡◌, ◌≤◌, ◌<◌, ◌%◌, ◌^◌, ℕ, ℤ, List, [], ◌∷◌, length, IfSome};
 ghost use Rattle.fixed_math.specs.declared.vec3.Vec3.{Vec3};
 ghost use Rattle.fixed_math.specs.Axes.{AreWithin};
 ghost use Rattle.patches.specs.Rects.{Rect};
@@ -44,9 +44,10 @@ pub trait Surface {
         ensures value { result ≡ dv_of self.now u v }
         ensures small { AreBelow (2 ^ 40) result };
 
-    /// The curve at `v`, for many points or derivatives along it.
-    fn curve_at(&self, v: Dyadic) -> Curve
-        ensures { IsCurve result (λ u. point_of self.now u v) (λ u. du_of self.now u v) (λ u. dv_of self.now u v) };
+    /// The curve at `v`, by which many points and derivatives are had at a small part of the cost of single ones; none where
+    /// the surface isn't polynomial along u.
+    fn curve_at(&self, v: Dyadic) -> Option<Curve>
+        ensures { IfSome result (λ curve. IsCurve curve (λ u. point_of self.now u v) (λ u. du_of self.now u v) (λ u. dv_of self.now u v)) };
 
     /// The control points of the surface over a piece, by rows of `net_width` points, u fastest.
     fn net(&self, piece: &Piece) -> ArrayVec<Vec3, 16>

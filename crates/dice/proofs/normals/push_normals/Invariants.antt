@@ -6,4 +6,4 @@ use Rattle.dice.proofs.normals.push_normals.Given as goal
 
 abbrev pub invariant-loop-k : goal.invariant-loop-k
 invariant-loop-k g l =
-    l.normals.items ≡ l.initial.normals.items ++ row_points (normal (g.S.Surface.du_of l.s) (g.S.Surface.dv_of l.s)) l.fn.v (map (line_at l.piece.a l.piece.i l.p) (range_with_len 0 l.k))
+    l.normals.items ≡ l.initial.normals.items ++ row_points (normal (g.S.Surface.du_of l.s) (g.S.Surface.dv_of l.s)) l.v (map (line_at l.piece.a l.piece.i l.p) (range_with_len 0 l.k))

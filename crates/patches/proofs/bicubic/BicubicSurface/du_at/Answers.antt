@@ -5,4 +5,4 @@ use Rattle.patches.proofs.bicubic.BicubicSurface.du_at.Goals as goal
 pub returns-clause-small : goal.returns-clause-small
 returns-clause-small c =
     let h = c.du.ensures.within in
-    subst (AreBelow (2 ^ 40)) (sym (c.du.ensures.value ∙ c.curve_at.ensures.across c.args.u h)) (c.curve_at.ensures.across_small c.args.u h)
+    subst (AreBelow (2 ^ 40)) (sym (c.du.ensures.value ∙ c.curve.ensures.across c.args.u h)) (c.curve.ensures.across_small c.args.u h)

@@ -5,4 +5,4 @@ use Rattle.patches.proofs.bilinear.BilinearSurface.dv_at.Goals as goal
 pub returns-clause-small : goal.returns-clause-small
 returns-clause-small c =
     let h = c.dv.ensures.within in
-    subst (AreBelow (2 ^ 40)) (sym (c.dv.ensures.value ∙ c.curve_at.ensures.up c.args.u h)) (c.curve_at.ensures.up_small c.args.u h)
+    subst (AreBelow (2 ^ 40)) (sym (c.dv.ensures.value ∙ c.curve.ensures.up c.args.u h)) (c.curve.ensures.up_small c.args.u h)

@@ -4,7 +4,7 @@ use Rattle.patches.specs.declared.curve.Curve.{Curve}
 use Rattle.patches.specs.Nets.{bilinear_point}
 use Rattle.patches.specs.Slopes.{bilinear_du, bilinear_dv}
 use Rattle.patches.proofs.Isolines.{by_axis, bilinear_curve}
-use Rattle.patches.proofs.bilinear.BilinearSurface.curve_at.Goals as goal
+use Rattle.patches.proofs.bilinear.Bilinear.curve.Goals as goal
 
 pub returns : goal.returns
 returns c =

@@ -4,7 +4,7 @@ use Rattle.patches.specs.declared.curve.Curve.{Curve}
 use Rattle.patches.specs.Nets.{bicubic_point}
 use Rattle.patches.specs.Slopes.{bicubic_du, bicubic_dv}
 use Rattle.patches.proofs.Isolines.{by_axis, bicubic_curve}
-use Rattle.patches.proofs.bicubic.BicubicSurface.curve_at.Goals as goal
+use Rattle.patches.proofs.bicubic.Bicubic.curve.Goals as goal
 
 pub returns : goal.returns
 returns c =
