@@ -9,7 +9,7 @@ use Rattle.grid_code.specs.View.{block_of}
 use Rattle.grid_code.specs.Masked.{Asked, Ground}
 use Rattle.builtins.specs.Differences.{Lines}
 use Rattle.transforms.specs.declared.spaces.Spaces.{Spaces}
-use Rattle.grid_machine.specs.declared.frame.Frame.{Frame}
+use Rattle.grid_registers.specs.declared.frame.Frame.{Frame}
 use Rattle.grid_machine.specs.Fits.{OfCode}
 use Rattle.place_values.specs.Cells.{is_known}
 use Rattle.grid_machine.specs.State.{Ready}

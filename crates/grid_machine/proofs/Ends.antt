@@ -14,7 +14,7 @@ use Rattle.grid_code.specs.Uses.{has}
 use Rattle.grid_code.specs.Masked.{Asked, State, Ground, read, masked}
 use Rattle.grid_code.proofs.Both.{left, right}
 use Rattle.grid_code.specs.declared.shader_code.Code.{Code}
-use Rattle.grid_machine.specs.declared.frame.Frame.{Frame}
+use Rattle.grid_registers.specs.declared.frame.Frame.{Frame}
 use Rattle.grid_machine.specs.declared.inputs.Inputs.{Inputs}
 use Rattle.grid_machine.specs.declared.machine.Machine.{Machine}
 use Rattle.grid_machine.specs.Ended.{ended_under}

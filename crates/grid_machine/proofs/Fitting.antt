@@ -7,7 +7,7 @@ use Rattle.grid_code.specs.declared.shader_code.Code.{Code}
 use Rattle.grid_code.specs.Names.{first_free}
 use Rattle.grid_code.specs.Uses.{has, kind_registers, registers_from, given_registers, within}
 use Rattle.grid_code.specs.View.{block_of}
-use Rattle.grid_machine.specs.declared.frame.Frame.{Frame}
+use Rattle.grid_registers.specs.declared.frame.Frame.{Frame}
 use Rattle.grid_machine.specs.Asked.{IsLight}
 use Rattle.grid_machine.specs.Fits.{Fits, OfCode}
 use Rattle.grid_machine.specs.State.{Ready}

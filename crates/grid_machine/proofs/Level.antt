@@ -1,15 +1,10 @@
 -- Lists of lights that grow.
-use Rattle.std.proofs.Common.{◌≡◌, ℕ, zero, suc, ◌+◌, ◌<◌, true, List, [], ◌∷◌, ◌++◌, map, length, get_or, set, refl, sym, ap, ◌∙◌, arith}
-use Rattle.std.specs.Prelude.{◌==◌}
-use Rattle.std.specs.List.{list_all}
-use Rattle.std.proofs.lemmas.Bool.{eq-eqb, eqb-true}
+use Rattle.std.proofs.Common.{◌≡◌, ℕ, ◌+◌, List, [], ◌∷◌, ◌++◌, sym, arith}
 use Rattle.std.proofs.lemmas.List.FromFn.{map-range_with_len_more}
-use Rattle.std.proofs.Math.Seq.{map-set_same}
 use Rattle.transforms.specs.declared.spaces.Spaces.{Spaces}
 use Rattle.sl_ast.specs.declared.typed.Value.{Value}
 use Rattle.builtins.specs.Differences.{Lines}
 use Rattle.grid_code.specs.declared.shader_code.Code.{Code}
-use Rattle.grid_code.proofs.Both.{both, left, right}
 use Rattle.grid_machine.specs.Asked.{asked, asked_all}
 
 -- one light more

@@ -1,8 +1,4 @@
-mod Ranks
-mod Filled
-mod Operands
 mod Near
-mod Writes
 mod Shapes
 mod Masks
 mod Nodes
@@ -21,4 +17,3 @@ mod Answering
 mod Fitting
 mod Level
 mod Roomy
-pub mod Parts

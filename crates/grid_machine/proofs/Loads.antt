@@ -1,6 +1,5 @@
 -- Registers that take given values, one behind another.
-use Rattle.std.proofs.Common.{◌≡◌, ℕ, zero, suc, ℤ, ◌+◌, ◌*◌, ◌<◌, Bool, true, List, [], ◌∷◌, length, get_or, drop, map, refl, sym, ap, ◌∙◌, arith, subst, add-one}
-use Rattle.std.specs.List.{list_all}
+use Rattle.std.proofs.Common.{◌≡◌, ℕ, zero, suc, ℤ, ◌+◌, ◌*◌, ◌<◌, List, [], ◌∷◌, length, get_or, drop, map, refl, sym, ap, ◌∙◌, arith, subst, add-one}
 use Rattle.std.proofs.Math.Seq.{drop-cons}
 use Rattle.sl_ast.specs.declared.typed.Value.{Value}
 use Rattle.builtins.specs.declared.shape.Shape.{Shape}
@@ -10,7 +9,6 @@ use Rattle.grid_code.specs.declared.code.Register.{Register}
 use Rattle.grid_code.specs.declared.register_set.RegisterSet.{RegisterSet}
 use Rattle.grid_code.specs.Shapes.{register_shape}
 use Rattle.grid_code.specs.Masked.{State, write}
-use Rattle.grid_code.proofs.Both.{left, right}
 use Rattle.place_rows.specs.Layout.{height}
 use Rattle.grid_machine.specs.Run.{rows_of, value_in, assigned, loaded}
 use Rattle.grid_machine.specs.State.{Near}
@@ -20,12 +18,6 @@ pub value_in_shape : (s : Shape) (rows : List ℤ) (w at : ℕ) → shape (value
 value_in_shape shapes.Number rows w at = refl
 value_in_shape shapes.Triple rows w at = refl
 value_in_shape shapes.Word rows w at = refl
-
--- an item of a list of which all pass
-pub item_passes : {A : Type 0} (p : A → Bool) (xs : List A) (k : ℕ) (d : A) → k < length xs → list_all p xs ≡ true → p (get_or xs k d) ≡ true
-item_passes p [] k d l h = absurd (omega arith)
-item_passes p (x ∷ xs) zero d l h = left (p x) _ h
-item_passes p (x ∷ xs) (suc k) d l h = item_passes p xs k d (omega arith) (right (p x) _ h)
 
 pub same_shapes : (vs : List Value) (rs : List Register) (k : ℕ) (v : Value) (r : Register) → k < length rs → map shape vs ≡ map register_shape rs → shape (get_or vs k v) ≡ register_shape (get_or rs k r)
 same_shapes vs [] k v r l h = absurd (omega arith)

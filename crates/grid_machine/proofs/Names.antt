@@ -13,7 +13,7 @@ use Rattle.grid_code.specs.Uses.{names_at, kind_registers, registers_from, given
 use Rattle.grid_code.proofs.Both.{both, left, right}
 use Rattle.place_rows.specs.Layout.{same_class}
 use Rattle.grid_machine.specs.Run.{is_input, params_of, given_names, written_names, step_names, uniform_inputs, varying_inputs}
-use Rattle.grid_machine.proofs.Loads.{item_passes}
+use Rattle.grid_registers.proofs.Operands.{item_passes}
 
 module _ (p : Register → Bool) where
   joined_passes : (xs ys : List Register) → list_all p xs ≡ true → list_all p ys ≡ true → list_all p (xs ++ ys) ≡ true

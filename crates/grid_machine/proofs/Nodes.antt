@@ -1,5 +1,5 @@
 -- Nodes and blocks over states that are the same on the grid.
-use Rattle.std.proofs.Common.{◌≡◌, ℕ, ◌+◌, ◌*◌, ◌<◌, ◌≤◌, true, List, length, get_or, drop, refl, sym, ap, ◌∙◌, arith, subst}
+use Rattle.std.proofs.Common.{◌≡◌, ℕ, ◌+◌, ◌*◌, ◌<◌, ◌≤◌, Bool, true, false, List, length, get_or, drop, refl, sym, ap, ◌∙◌, arith, subst, ⊎_elim, true≢false}
 use Rattle.std.specs.Borrow.{Bor}
 use Rattle.builtins.specs.Differences.{difference}
 use Rattle.sl_ast.specs.declared.operations.Difference.{Difference}
@@ -12,9 +12,12 @@ use Rattle.grid_code.specs.declared.code.Node.{Node, Put, Differ, Sum, If', Loop
 use Rattle.grid_code.specs.Code.{Block, end, put, differ, ◌then◌}
 use Rattle.grid_code.specs.View.{with_node, block_of}
 use Rattle.grid_code.specs.Uses.{has}
-use Rattle.grid_code.specs.Masked.{State, Ground, read, reads, result_of, write, masked}
+use Rattle.grid_code.specs.Masked.{State, Ground, any, read, reads, result_of, write, masked}
+use Rattle.grid_code.proofs.Asleep.{asleep}
 use Rattle.grid_code.proofs.Then.{then_runs}
 use Rattle.grid_code.proofs.Blocks.{block_size, node_size, next_node, none_left}
+use Rattle.std.proofs.lemmas.Bool.{cases_Bool}
+use Rattle.place_rows.proofs.Sets.{any_true}
 use Rattle.grid_machine.specs.State.{Near, Performs, Ready, SourceReady}
 use Rattle.grid_machine.proofs.Near.{near_on, read_near, result_near, difference_near, write_near}
 
@@ -90,3 +93,19 @@ put_steps w w0 c v z n ts t o s s' e pos x near g ng =
 pub differ_steps : (w : Ground) (c : ℕ) (v z : RegisterSet) (n : ℕ) (t : Register) (d : Difference) (q : Register) (s s' : State) → 0 < c → c ≡ w.lines.columns * w.lines.rows → 2 ≤ w.lines.columns → 2 ≤ w.lines.rows → has v z q ≡ true → Near c v z (write c t (difference d w.lines w.spaces.flip (read s q)) s) s' → Performs w c v z n (differ t d q end) s s'
 differ_steps w c v z n t d q s s' pos shape wide tall x near g ng =
     near_on c v z _ _ _ (write_near c v z t _ _ g s pos ng (λ i l. difference_near w.lines c (read g q) (read s q) shape wide tall (λ j b. read_near c v z g s q j ng x b) i l d w.spaces.flip)) near
+
+-- where no place is live, a block leaves all as it is
+dead_at : (c : ℕ) (p : ℕ → Bool) → any c p ≡ false → (i : ℕ) → i < c → p i ≡ false
+dead_at c p h i l = ⊎_elim (λ e. absurd (true≢false (sym (any_true c i p l e) ∙ h))) (λ e. e) (cases_Bool (p i))
+
+pub asleep_runs : (w : Ground) (c : ℕ) (v z : RegisterSet) (n : ℕ) (x : Block) (m : State) → any c m.live ≡ false → Performs w c v z n x m m
+asleep_runs w c v z n x m h g near =
+    let a = asleep x w c n g (λ i l. near.live i l ∙ dead_at c m.live h i l) in
+    record {
+      rows = λ s k i hk l. a.rows s k i l ∙ near.rows s k i hk l;
+      shared = λ s k hk. a.shared s k ∙ near.shared s k hk;
+      turns = a.turns ∙ near.turns;
+      own = λ i l. a.own i l ∙ near.own i l;
+      live = λ i l. a.live i l ∙ sym (dead_at c m.live h i l);
+      staying = λ i l. a.staying i l ∙ near.staying i l;
+    }

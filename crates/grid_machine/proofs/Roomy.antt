@@ -13,8 +13,8 @@ use Rattle.grid_machine.specs.Lamps.{asked_by}
 use Rattle.grid_machine.specs.declared.lamp.Lamp.{Lamp}
 use Rattle.std.proofs.Math.Nat.{mul-le-mul}
 use Rattle.grid_code.specs.declared.register_set.RegisterSet.{RegisterSet}
-use Rattle.grid_machine.specs.declared.room.Room.{Room}
-use Rattle.grid_machine.specs.Rooms.{HasRoom, IsNoLess}
+use Rattle.grid_registers.specs.declared.room.Room.{Room}
+use Rattle.grid_registers.specs.Rooms.{HasRoom, IsNoLess}
 
 pub roomy_more : (v u : RegisterSet) (p : ℕ) (a b : Room) → IsNoLess a b → HasRoom v u p a → HasRoom v u p b
 roomy_more v u p a b n h = record {

@@ -1,5 +1,5 @@
 -- The shapes of what instructions and differences give.
-use Rattle.std.proofs.Common.{◌≡◌, ℕ, ◌+◌, ◌-◌, ◌*◌, ◌/◌, ◌%◌, ◌≤◌, ℤ, Bool, true, false, List, [], ◌∷◌, map, refl, sym, ap, ◌∙◌, arith, true≢false}
+use Rattle.std.proofs.Common.{◌≡◌, ℕ, ◌+◌, ◌-◌, ◌*◌, ◌/◌, ◌%◌, ◌≤◌, ℤ, Bool, List, [], ◌∷◌, map, refl, ap, ◌∙◌, arith}
 use Rattle.std.specs.Prelude.{nat_lt}
 use Rattle.std.proofs.lemmas.Bool.{cond_both}
 use Rattle.sl_ast.specs.declared.typed.Value.{Value}
@@ -8,7 +8,7 @@ use Rattle.sl_ast.specs.declared.operations.Difference.{Difference}
 use Rattle.sl_ast.specs.declared.operations.Difference.TheVariants.{Du, Dv, CalculateNormal}
 use Rattle.builtins.specs.declared.shape.Shape.{Shape}
 use Rattle.builtins.specs.declared.shape.Shape.TheVariants as shapes
-use Rattle.builtins.specs.Values.{as_shape, triple_of}
+use Rattle.builtins.specs.Values.{as_shape}
 use Rattle.builtins.specs.Shapes.{shape, part_shape, shape_applied}
 use Rattle.builtins.specs.Table.{applied}
 use Rattle.builtins.specs.Differences.{Lines, slope, along_u, along_v, normal_at, difference}
@@ -23,9 +23,9 @@ use Rattle.grid_machine.specs.declared.machine.Machine.{Machine}
 use Rattle.grid_code.specs.Uses.{numbers_of}
 use Rattle.place_rows.specs.Banks.{held}
 use Rattle.grid_machine.specs.State.{rank, state_of, held_by, texts_of}
-use Rattle.grid_machine.specs.Operands.{reach}
-use Rattle.grid_machine.proofs.Filled.{shape_is}
-use Rattle.grid_machine.proofs.Writes.{held_shape}
+use Rattle.grid_registers.specs.Operands.{reach}
+use Rattle.grid_registers.proofs.Filled.{shape_is}
+use Rattle.grid_registers.proofs.Writes.{held_shape}
 
 pub read_shape : (m : Machine) (r : Register) (i : ℕ) → shape (read (state_of m) r i) ≡ register_shape r
 read_shape m (Uniform s k) i =
@@ -46,17 +46,6 @@ result_shape m w (Constant v) i = refl
 result_shape m w (Copy r) i = read_shape m r i
 result_shape m w (Into s r) i = as_shape_has s _
 result_shape m w (Apply op rs) i = applied_has op w.spaces (reads (state_of m) rs i) ∙ ap (shape_applied op) (reads_shapes m rs i)
-
--- a value of the shape of triples is the triple that it stands for
-abbrev is_triple : Shape → Bool
-is_triple shapes.Number = false
-is_triple shapes.Triple = true
-is_triple shapes.Word = false
-
-pub triple_back : (v : Value) → shape v ≡ shapes.Triple → values.Triple (triple_of v) ≡ v
-triple_back (values.Number x) h = absurd (true≢false (sym (ap is_triple h)))
-triple_back (values.Triple t) h = refl
-triple_back (values.Word w) h = absurd (true≢false (sym (ap is_triple h)))
 
 -- budgets and masks aren't read
 pub read_held : (m : Machine) (r : Register) (i : ℕ) → read (held_by m.registers) r i ≡ read (state_of m) r i

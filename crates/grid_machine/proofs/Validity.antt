@@ -27,9 +27,9 @@ use Rattle.grid_code.proofs.Both.{both, left, right}
 use Rattle.grid_code.specs.Texts.{texts_of, texts_of_all, texts_of_source, texts_in, is_in_texts, HasTexts}
 use Rattle.place_values.specs.Cells.{is_known}
 use Rattle.grid_machine.specs.State.{Ready, source_known, lights_registers}
-use Rattle.grid_machine.proofs.Writes.{shape_eq}
+use Rattle.grid_registers.proofs.Writes.{shape_eq}
 use Rattle.place_values.proofs.Texts.{same_bytes}
-use Rattle.grid_machine.proofs.Loads.{item_passes}
+use Rattle.grid_registers.proofs.Operands.{item_passes}
 
 in_now : (ts : List (Bor (List ℕ))) (w : List ℕ) → is_in_texts (map (λ t. t.now) ts) w ≡ list_any (λ t. bytes_eq t.now w) ts
 in_now [] w = refl

@@ -1,5 +1,5 @@
 -- For private contracts alone: what frames have of the code that runs in them, and the machine of a light of its own.
-use Rattle.std.specs.Prelude.{true, List, map, ◌++◌, ◌≡◌}
+use Rattle.std.specs.Prelude.{true, List, ◌≡◌}
 use Rattle.std.specs.List.{list_all}
 use Rattle.sl_ast.specs.declared.typed.Value.{Value}
 use Rattle.grid_code.specs.declared.code.Register.{Register}
@@ -7,16 +7,11 @@ use Rattle.grid_code.specs.declared.shader_code.Code.{Code}
 use Rattle.grid_code.specs.Names.{first_free}
 use Rattle.grid_code.specs.Uses.{has, registers_from, given_registers, within}
 use Rattle.grid_code.specs.View.{block_of}
-use Rattle.grid_machine.specs.declared.frame.Frame.{Frame}
+pub use Rattle.grid_registers.specs.Frames.{OfCode}
+use Rattle.grid_registers.specs.declared.frame.Frame.{Frame}
 use Rattle.grid_machine.specs.Asked.{IsLight}
 use Rattle.place_values.specs.Cells.{is_known}
-use Rattle.grid_code.specs.Texts.{HasTexts, texts_in, texts_of_all}
-
--- a frame's registers are those of code, and its texts those of values and of the code's constants
-pub record OfCode (f : Frame) (code : Code) (vs : List Value) : Type 0 where
-  pub varying : f.varying.now ≡ code.varying
-  pub uniform : f.uniform.now ≡ code.uniform
-  pub texts : map (λ t. t.now) f.setting.texts.now ≡ texts_of_all vs ++ texts_in (block_of code.nodes)
+use Rattle.grid_code.specs.Texts.{HasTexts, texts_in}
 
 -- a frame has the registers that a light's code names, and the texts of its constants and its values
 pub record Fits (f : Frame) (code : Code) (rs : List Register) (vs : List Value) : Type 0 where

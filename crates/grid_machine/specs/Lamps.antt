@@ -5,7 +5,7 @@ use Rattle.grid_machine.specs.Asked.{asked}
 use Rattle.grid_machine.specs.State.{lines_of}
 use Rattle.grid_machine.specs.declared.lamp.Lamp.{Lamp}
 use Rattle.grid_machine.specs.declared.machine.Machine.{Machine}
-use Rattle.grid_machine.specs.declared.room.Room.{Room}
+use Rattle.grid_registers.specs.declared.room.Room.{Room}
 
 -- the code of a light runs at so many places, in a machine with that room
 pub record IsLevel (c : ℕ) (r : Room) (lamp : Lamp) : Type 0 where

@@ -1,10 +1,10 @@
 pub mod State
 pub mod Writes
-pub mod Operands
 pub mod Run
 pub mod Asked
 pub mod Fits
 pub mod Lamps
 pub mod Ended
-pub mod Rooms
 pub mod Prepared
+pub use Rattle.grid_registers.specs.Operands
+pub use Rattle.grid_registers.specs.Rooms

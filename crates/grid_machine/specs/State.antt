@@ -1,5 +1,5 @@
 -- For private contracts alone: the machine's state as that of the code, and when two states are the same on a grid.
-use Rattle.std.specs.Prelude.{◌≡◌, ℕ, ◌+◌, ◌*◌, ◌<◌, ◌≤◌, ◌==◌, suc, Bool, true, false, List, [], ◌∷◌, length, get_or, cond}
+use Rattle.std.specs.Prelude.{◌≡◌, ℕ, ◌<◌, Bool, true, false, List, [], ◌∷◌, length, get_or}
 use Rattle.std.specs.List.{list_all}
 use Rattle.std.specs.Borrow.{Bor}
 use Rattle.sl_ast.specs.declared.kinds.LightStmt.{LightStmt}
@@ -7,44 +7,20 @@ use Rattle.sl_ast.specs.declared.kinds.LightStmt.TheVariants.{Illuminance, Illum
 use Rattle.sl_ast.specs.declared.kinds.Predefined.TheVariants as names
 use Rattle.builtins.specs.declared.shape.Shape.{Shape}
 use Rattle.builtins.specs.declared.shape.Shape.TheVariants as shapes
-use Rattle.builtins.specs.Differences.{Lines}
 use Rattle.grid_code.specs.declared.code.Register.{Register}
 use Rattle.grid_code.specs.declared.code.Register.TheVariants.{Uniform, Varying}
-use Rattle.grid_code.specs.declared.code.Source.{Source}
-use Rattle.grid_code.specs.declared.code.Source.TheVariants.{Constant}
 use Rattle.grid_code.specs.declared.register_set.RegisterSet.{RegisterSet}
 use Rattle.grid_code.specs.Code.{Block, end, put, differ, sum, branch, loops, lights, breaks, continues}
 use Rattle.grid_code.specs.Shapes.{register_shape, difference_shape, source_shape}
-use Rattle.grid_code.specs.Uses.{numbers_of, has, source_within}
-use Rattle.grid_code.specs.Valid.{has_operands}
+use Rattle.grid_code.specs.Uses.{has}
 use Rattle.grid_code.specs.Masked.{Asked, State, Ground, turns_of, masked}
 use Rattle.grid_code.specs.Names.{name_at, lit_at}
-use Rattle.place_values.specs.Cells.{value_of, is_known}
-use Rattle.place_rows.specs.Banks.{size, held}
-use Rattle.grid_machine.specs.Rooms.{counted}
-use Rattle.grid_machine.specs.declared.frame.Frame.{Frame}
+use Rattle.place_rows.specs.Banks.{size}
+pub use Rattle.grid_registers.specs.Held.{rank, texts_of, held_by, Full, Sized}
+pub use Rattle.grid_registers.specs.Frames.{lines_of, ground_of}
+pub use Rattle.grid_registers.specs.Sources.{SourceReady, source_known}
+use Rattle.grid_registers.specs.declared.frame.Frame.{Frame}
 use Rattle.grid_machine.specs.declared.machine.Machine.{Machine}
-use Rattle.grid_machine.specs.declared.machine.Registers.{Registers}
-
--- the place of a number in a list, and the list's length where it isn't there
-abbrev pub rank : List ℕ → ℕ → ℕ
-rank [] k = 0
-rank (x ∷ xs) k = cond (x == k) 0 (suc (rank xs k))
-
-abbrev pub texts_of : Registers → List (Bor (List ℕ))
-texts_of r = r.frame.now.setting.texts.now
-
--- what registers hold, with no budget and no place that is live
-abbrev pub held_by : Registers → State
-held_by r =
-    record {
-      rows = λ s k i. value_of (texts_of r) (held r.rows s (rank (numbers_of r.frame.now.varying.now s) k * r.frame.now.places + i));
-      shared = λ s k. value_of (texts_of r) (held r.shared s (rank (numbers_of r.frame.now.uniform.now s) k));
-      turns = 0;
-      own = λ i. 0;
-      live = λ i. false;
-      staying = λ i. false;
-    }
 
 abbrev pub state_of : Machine → State
 state_of m =
@@ -55,13 +31,7 @@ state_of m =
       staying = λ i. get_or m.staying.places i false;
     }
 
-abbrev pub lines_of : Frame → Lines
-lines_of f = record { columns = f.columns; rows = f.rows; du = f.steps.du; dv = f.steps.dv }
-
-abbrev pub ground_of : Frame → Ground
-ground_of f = record { lines = lines_of f; spaces = f.setting.spaces.now; lights = [] }
-
--- the same with lights
+-- where code stands under lights
 abbrev pub lit_ground : List Asked → Frame → Ground
 lit_ground ls f = record { lines = lines_of f; spaces = f.setting.spaces.now; lights = ls }
 
@@ -74,16 +44,6 @@ pub record Near (c : ℕ) (varying uniform : RegisterSet) (g h : State) : Type 0
   pub live : (i : ℕ) → i < c → g.live i ≡ h.live i
   pub staying : (i : ℕ) → i < c → g.staying i ≡ h.staying i
 
--- there is a value for each register and each place
-pub record Full (r : Registers) : Type 0 where
-  pub rows : (s : Shape) → length (numbers_of r.frame.now.varying.now s) * r.frame.now.places ≤ size r.rows s
-  pub shared : (s : Shape) → length (numbers_of r.frame.now.uniform.now s) ≤ size r.shared s
-
--- and they are as many as the frame tells
-pub record Sized (r : Registers) : Type 0 where
-  pub rows : (s : Shape) → size r.rows s ≡ counted r.frame.now.room.rows s
-  pub shared : (s : Shape) → size r.shared s ≡ counted r.frame.now.room.shared s
-
 pub record Whole (m : Machine) : Type 0 where
   pub full : Full m.registers
   pub sized : Sized m.registers
@@ -95,22 +55,13 @@ pub record Kept (m k : Machine) : Type 0 where
   pub frame : k.registers.frame ≡ m.registers.frame
   pub whole : Whole k
 
-abbrev pub source_known : List (Bor (List ℕ)) → Source → Bool
-source_known ts (Constant v) = is_known ts v
-source_known ts _ = true
-
 -- the registers that a statement over lights reads or writes by itself
 abbrev pub lights_registers : LightStmt → List Register
 lights_registers Illuminance = name_at names.L ∷ name_at names.Cl ∷ []
 lights_registers Illuminate = name_at names.L ∷ lit_at ∷ name_at names.Ps ∷ []
 lights_registers Solar = name_at names.L ∷ lit_at ∷ []
 
--- what a machine needs of an instruction, and of a block: its registers, their shapes, and the texts of its constants
-pub record SourceReady (varying uniform : RegisterSet) (ts : List (Bor (List ℕ))) (o : Source) : Type 0 where
-  pub within : source_within (has varying uniform) o ≡ true
-  pub operands : has_operands o ≡ true
-  pub known : source_known ts o ≡ true
-
+-- what a machine needs of a block: its registers, their shapes, and the texts of its constants
 abbrev pub Ready : RegisterSet → RegisterSet → List (Bor (List ℕ)) → Block → Type 0
 Ready v u ts end = Unit {0}
 Ready v u ts (put r o x) = (has v u r ≡ true) × (SourceReady v u ts o × ((source_shape o ≡ register_shape r) × Ready v u ts x))

@@ -1,26 +1,21 @@
 -- For private contracts alone: what the parts of the machine write, where the machine's state stands for states of the code's meaning that are the
 -- same on the grid.
 use Rattle.std.specs.Prelude.{◌≡◌, ℕ, ◌<◌, ℤ, Bool, false, List, Option, get_or}
-use Rattle.std.specs.Borrow.{Bor}
 use Rattle.fixed_math.specs.Axes.{origin}
 use Rattle.fixed_math.specs.declared.vec3.Vec3.{Vec3}
 use Rattle.sl_ast.specs.declared.kinds.SlKind.{SlKind}
 use Rattle.sl_ast.specs.declared.typed.Value.{Value}
 use Rattle.sl_ast.specs.declared.typed.Value.TheVariants.{Triple}
-use Rattle.builtins.specs.Shapes.{shape}
-use Rattle.builtins.specs.declared.shape.Shape.{Shape}
 use Rattle.grid_code.specs.declared.code.Register.{Register}
 use Rattle.grid_code.specs.declared.shader_code.Code.{Code}
 use Rattle.grid_code.specs.declared.slot.Slot.{Slot}
 use Rattle.grid_code.specs.Code.{Block}
 use Rattle.grid_code.specs.Masked.{Asked, State, write, take_turn, entered, kindled, illuminated, masked}
-use Rattle.place_rows.specs.Banks.{held}
 use Rattle.place_rows.specs.Seen.{AtPlaces, Views, light_of}
 use Rattle.place_rows.specs.declared.answers.Answer.{Answer}
 use Rattle.place_rows.specs.declared.answers.Answer.TheVariants.{Unlit}
-use Rattle.place_rows.specs.declared.bank.Bank.{Bank}
 use Rattle.place_rows.specs.declared.points.View.{View}
-use Rattle.place_values.specs.Cells.{value_of}
+pub use Rattle.grid_registers.specs.Held.{HoldsRow, HoldsEach}
 use Rattle.grid_machine.specs.declared.machine.Machine.{Machine}
 use Rattle.grid_machine.specs.Asked.{asked}
 use Rattle.grid_machine.specs.Run.{begun}
@@ -33,14 +28,6 @@ Writes m to f k = NearIn m (write m.registers.frame.now.places to f (state_of m)
 -- from each state that is the same as the machine's on the grid, what leads to one that is the same again
 abbrev pub Leads : Machine → (State → State) → Machine → Type 0
 Leads m f k = (g : State) → NearIn m g (state_of m) → NearIn m (f g) (state_of k)
-
--- the row of a shape in a bank holds a function's values at the first places
-abbrev pub HoldsRow : List (Bor (List ℕ)) → Bank → Shape → ℕ → (ℕ → Value) → Type 0
-HoldsRow ts row s c f = (j : ℕ) → j < c → value_of ts (held row s j) ≡ f j
-
--- the same, each value in the row of its own shape
-abbrev pub HoldsEach : List (Bor (List ℕ)) → Bank → ℕ → (ℕ → Value) → Type 0
-HoldsEach ts row c f = (j : ℕ) → j < c → value_of ts (held row (shape (f j)) j) ≡ f j
 
 -- a register takes triples
 abbrev pub TakesTriples : Machine → Register → List Vec3 → Machine → Type 0

@@ -16,7 +16,7 @@ use grid_code::{Node, Register};
 use place_rows::{Illumination, Mask, Points};
 use sl_ast::LightStmt;
 
-/// Runs a block: what each node does, one after another. A loop has at most that many turns.
+/// Runs a block: what each node does, one after another. A loop has at most that many turns. Where no place is live, a block does nothing.
 #[cycle(run)]
 pub fn run_block<L: Illumination>(block: &[Node], m: &mut Machine, lights: &mut L, most: u32)
     requires whole { Whole m.old }
@@ -26,8 +26,10 @@ pub fn run_block<L: Illumination>(block: &[Node], m: &mut Machine, lights: &mut 
     ensures same { L.lighting lights.new ≡ L.lighting lights.old }
     ensures masked { Runs (L.lighting lights.old).lights most (block_of block.now) m.old m.new }
 {
-    for node in block {
-        run_node(node, m, lights, most);
+    if m.live.any(m.registers.frame.places) {
+        for node in block {
+            run_node(node, m, lights, most);
+        }
     }
 }
 

@@ -1,12 +1,11 @@
 // A light on a grid, and the one machine that the code of all lights runs in.
 ghost use Rattle.grid_machine.specs.Fits.{Fits};
 
-use crate::frame::Frame;
 use crate::given::parameters;
-use crate::room::Room;
 use bumpalo::Bump;
 use fixed_math::NoMemory;
 use grid_code::{Code, Register};
+use grid_registers::{Frame, Room};
 use sl_ast::Value;
 use transforms::Spaces;
 
@@ -24,7 +23,7 @@ impl<'a> Lamp<'a> {
     ghost use Rattle.std.specs.Prelude.{◌≡◌, IfOk};
     ghost use Rattle.grid_machine.specs.Asked.{IsLight, asked};
     ghost use Rattle.grid_machine.specs.Lamps.{IsLevel, asked_by};
-    ghost use Rattle.grid_machine.specs.Rooms.{HasRoom};
+    ghost use Rattle.grid_registers.specs.Rooms.{HasRoom};
     ghost use Rattle.grid_machine.specs.State.{lines_of};
 
     /// A light on a grid, with its spaces and a value for each parameter, in a machine with some room; or want of memory.

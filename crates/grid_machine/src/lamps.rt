@@ -1,17 +1,16 @@
 // The lights of a surface, whose codes run one at a time in one machine.
 ghost use Rattle.std.specs.Prelude.{◌≡◌, ℕ, ◌<◌, All, length};
-ghost use Rattle.grid_machine.specs.declared.room.Room.{Room as AnyRoom};
+ghost use Rattle.grid_registers.specs.declared.room.Room.{Room as AnyRoom};
 ghost use Rattle.grid_machine.specs.Lamps.{IsLevel, IsOfRoom, asked_by};
 ghost use Rattle.grid_machine.specs.State.{Whole};
 
-use crate::frame::Frame;
 use crate::inputs::Lights;
 use crate::lamp::Lamp;
 use crate::machine::Machine;
-use crate::room::Room;
 use bumpalo::Bump;
 use bumpalo::collections::into_bump_slice;
 use fixed_math::NoMemory;
+use grid_registers::{Frame, Room};
 use place_rows::{Answers, Illumination, Points};
 
 /// Lights on a grid of so many places, and a machine with room for the code of each.
@@ -37,7 +36,7 @@ fn first_frame<'a>(lamps: &[Lamp<'a>]) -> &'a Frame<'a>
 impl<'a> Lamps<'a> {
     ghost use Rattle.std.specs.Prelude.{◌≡◌, ℕ, ◌<◌, ◌≤◌, [], ◌∷◌, ◌++◌, map, length, IfOk, OnOk};
     ghost use Rattle.grid_machine.specs.Asked.{IsLight, asked, asked_all};
-    ghost use Rattle.grid_machine.specs.Rooms.{HasRoom};
+    ghost use Rattle.grid_registers.specs.Rooms.{HasRoom};
     ghost use Rattle.grid_machine.specs.State.{lines_of};
 
     // The room that the codes of all lights take, one at a time.

@@ -9,6 +9,8 @@ ghost use Rattle.builtins.specs.declared.shape.Shape.TheVariants as shapes;
 ghost use Rattle.sl_ast.specs.declared.typed.Value.TheVariants as values;
 ghost use Rattle.grid_code.specs.Shapes.{register_shape};
 ghost use Rattle.place_rows.specs.Banks.{size, held};
+ghost use Rattle.place_values.specs.declared.cell.Cell.TheVariants as cells;
+ghost use Rattle.number_rows.specs.Planes.{triple_in};
 ghost use Rattle.place_values.specs.Cells.{value_of, is_known};
 ghost use Rattle.grid_code.specs.Uses.{has};
 ghost use Rattle.place_rows.specs.Layout.{height};
@@ -17,22 +19,13 @@ ghost use Rattle.grid_machine.specs.State.{texts_of, HasRegister, Whole, Kept};
 ghost use Rattle.grid_machine.specs.Writes.{Writes, Leads};
 
 use crate::machine::Machine;
-use crate::operand::Work;
 use builtins::Shape;
-use fixed_math::{Num, Vec3};
 use grid_code::Register;
+use grid_registers::Work;
+use number_rows::take_raws;
 use place_rows::Bank;
 use place_values::Cell;
 use sl_ast::Value;
-
-// A raw in range as a number.
-#[tactic(auto, using(fixed_math::proofs::Sat::sat_of_raw))]
-fn number(raw: i64) -> Num
-    requires { IsRaw raw }
-    ensures { result ≡ raw }
-{
-    Num::sat(raw as i128)
-}
 
 /// The shape of a register's values.
 pub fn shape_of(register: Register) -> Shape
@@ -54,33 +47,32 @@ pub fn height_of(shape: Shape) -> usize
     }
 }
 
-// The triple at an element of each of three rows.
-fn triple_in(rows: &[i64], width: usize, at: usize) -> Vec3
+// The numbers at the first elements of a row from one on.
+fn fill_numbers(rows: &[i64], start: usize, count: usize, row: &mut Bank)
     requires raws { (k : ℕ) → IsRaw (get_or rows.now k (pos 0)) }
-    requires room { at + 2 * width < length rows.now }
-    ensures { values.Triple result ≡ value_in shapes.Triple rows.now width at }
+    requires room { start + count ≤ length rows.now }
+    requires places { (s : AnyShape) → count ≤ size row.old s }
+    ensures size { (s : AnyShape) → size row.new s ≡ size row.old s }
+    ensures each { (j : ℕ) → j < count → held row.new shapes.Number j ≡ cells.Number (get_or rows.now (start + j) (pos 0)) }
 {
-    Vec3 {
-        x: number(rows[at]),
-        y: number(rows[at + width]),
-        z: number(rows[at + 2 * width]),
-    }
+    take_raws(rows, start, count, &mut row.numbers);
 }
 
-// The value of a shape at an element of rows. None is a text, and so it is the same among all lists of texts.
-fn loaded(shape: Shape, rows: &[i64], width: usize, at: usize) -> Cell
+// The triples at the first elements of three rows from one on.
+fn fill_triples(rows: &[i64], width: usize, start: usize, count: usize, row: &mut Bank)
     requires raws { (k : ℕ) → IsRaw (get_or rows.now k (pos 0)) }
-    requires room { at + (height shape - 1) * width < length rows.now }
-    ensures { (ts : List (Bor (List ℕ))) → value_of ts result ≡ value_in shape rows.now width at }
+    requires room { start + 3 * width ≤ length rows.now }
+    requires count { count ≤ width }
+    requires places { (s : AnyShape) → count ≤ size row.old s }
+    ensures size { (s : AnyShape) → size row.new s ≡ size row.old s }
+    ensures each { (j : ℕ) → j < count → values.Triple (triple_in row.new.xs.items row.new.ys.items row.new.zs.items j) ≡ value_in shapes.Triple rows.now width (start + j) }
 {
-    match shape {
-        Shape::Number => Cell::Number(number(rows[at])),
-        Shape::Triple => Cell::Triple(triple_in(rows, width, at)),
-        Shape::Word => Cell::Word(0),
-    }
+    take_raws(rows, start, count, &mut row.xs);
+    take_raws(rows, start + width, count, &mut row.ys);
+    take_raws(rows, start + 2 * width, count, &mut row.zs);
 }
 
-// The values of a shape at the first elements of rows from one on.
+// The values of a shape at the first elements of rows from one on. None is a text, and so they are the same among all lists of texts.
 fn fill(shape: Shape, rows: &[i64], width: usize, start: usize, count: usize, row: &mut Bank)
     requires raws { (k : ℕ) → IsRaw (get_or rows.now k (pos 0)) }
     requires room { start + height shape * width ≤ length rows.now }
@@ -89,8 +81,10 @@ fn fill(shape: Shape, rows: &[i64], width: usize, start: usize, count: usize, ro
     ensures size { (s : AnyShape) → size row.new s ≡ size row.old s }
     ensures each { (ts : List (Bor (List ℕ))) (j : ℕ) → j < count → value_of ts (held row.new (shape_of_value (value_in shape rows.now width (start + j))) j) ≡ value_in shape rows.now width (start + j) }
 {
-    for place in 0..count {
-        row.set(place, &loaded(shape, rows, width, start + place));
+    match shape {
+        Shape::Number => fill_numbers(rows, start, count, row),
+        Shape::Triple => fill_triples(rows, width, start, count, row),
+        Shape::Word => row.fill(&Cell::Word(0)),
     }
 }
 

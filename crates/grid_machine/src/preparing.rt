@@ -7,15 +7,14 @@ ghost use Rattle.grid_machine.specs.Run.{uniform_inputs, varying_inputs, lines_g
 ghost use Rattle.grid_machine.specs.Prepared.{lines_from};
 ghost use Rattle.grid_machine.specs.State.{lines_of};
 
-use crate::frame::{Frame, Steps};
 use crate::given::{given, inputs as registers_of, steps as step_names};
 use crate::inputs::Inputs;
 use crate::leaving::{number_at, places as places_of};
-use crate::room::Room;
 use bumpalo::Bump;
 use bumpalo::collections::into_bump_slice;
 use fixed_math::NoMemory;
 use grid_code::{Code, Register, gather};
+use grid_registers::{Frame, Room, Steps};
 use place_values::Setting;
 
 /// The frame of a run, and the registers that take its uniform values and its rows.

@@ -3,9 +3,8 @@ ghost use Rattle.std.specs.Prelude.{◌≡◌};
 ghost use Rattle.grid_machine.specs.Run.{fresh};
 ghost use Rattle.grid_machine.specs.State.{state_of, NearIn, Whole, Kept};
 
-use crate::frame::Frame;
 use crate::machine::Machine;
-use crate::room::{counts_of, counts_once};
+use grid_registers::{Frame, counts_of, counts_once};
 use place_rows::Mask;
 
 impl<'a> Machine<'a> {

@@ -10,12 +10,12 @@ ghost use Rattle.place_rows.specs.Banks.{held};
 ghost use Rattle.place_values.specs.Cells.{value_of};
 ghost use Rattle.grid_machine.specs.State.{state_of, ground_of, lines_of, texts_of, HasRegister, Whole, Kept, SourceReady};
 ghost use Rattle.grid_machine.specs.Writes.{Writes, HoldsRow};
-ghost use Rattle.grid_machine.specs.Operands.{reach};
+ghost use Rattle.grid_registers.specs.Operands.{reach};
 
 use crate::machine::Machine;
-use crate::reading::row_of;
 use builtins::Shape;
 use grid_code::{Register, Source};
+use grid_registers::row_of;
 use sl_ast::Difference;
 
 impl Machine<'_> {

@@ -1,6 +1,7 @@
 -- Rows that hold values, and one value more.
-use Rattle.std.proofs.Common.{◌≡◌, ℕ, ◌+◌, ◌-◌, ◌*◌, ◌<◌, ◌≤◌, ℤ, pos, List, [], ◌∷◌, ◌++◌, length, map, get_or, take, replicate, refl, sym, ap, ◌∙◌, subst, arith, append_assoc, length-append}
-use Rattle.std.proofs.lemmas.List.{get_or_append_left, get_or-append-add, length-map, length-replicate, get_or-replicate, get_or-map, replicate_more, map_more, take_more}
+use Rattle.std.proofs.Common.{◌≡◌, ℕ, ◌+◌, ◌-◌, ◌*◌, ◌<◌, ◌≤◌, ℤ, pos, List, [], ◌∷◌, ◌++◌, length, map, get_or, take, replicate, refl, sym, ap, ◌∙◌, subst, arith, append_assoc, length-append, ⊎_elim}
+use Rattle.std.proofs.lemmas.Bool.{cases_lt}
+use Rattle.std.proofs.lemmas.List.{get_or_append_left, get_or-append-add, get_or-take, get_or_past, get_or_default, same_lists, length-take-le, length-map, length-replicate, get_or-replicate, get_or-map}
 use Rattle.std.proofs.lemmas.Nat.{mul-le, div-add-mod'}
 use Rattle.std.proofs.Math.Nat.{mod-lt}
 use Rattle.fixed_math.specs.Axes.{part_of, origin}
@@ -13,20 +14,8 @@ use Rattle.builtins.specs.declared.shape.Shape.{Shape}
 use Rattle.builtins.specs.declared.shape.Shape.TheVariants as shapes
 use Rattle.builtins.specs.Shapes.{shape}
 use Rattle.place_rows.specs.Layout.{row_length, height}
+use Rattle.place_rows.proofs.Sets.{all_default}
 use Rattle.grid_rows.specs.Rows.{value_in, HoldList, heights, AreRows, row_of, triple_rows, value_rows}
-
--- ---- steps of loops
-pub filled_more : (old items new : List ℤ) (n : ℕ) (x y : ℤ) → new ≡ items ++ y ∷ [] → y ≡ x → items ≡ old ++ replicate n x → new ≡ old ++ replicate (n + 1) x
-filled_more old items new n x y e f h =
-    e ∙ ap (λ z. items ++ z ∷ []) f ∙ ap (λ zs. zs ++ x ∷ []) h ∙ append_assoc old (replicate n x) (x ∷ []) ∙ ap (λ zs. old ++ zs) (replicate_more n x)
-
-pub numbers_more : (xs : List ℤ) (i : ℕ) (old items new : List ℤ) (y : ℤ) → i < length xs → new ≡ items ++ y ∷ [] → y ≡ get_or xs i (pos 0) → items ≡ old ++ take i xs → new ≡ old ++ take (i + 1) xs
-numbers_more xs i old items new y l e p h =
-    e ∙ ap (λ z. items ++ z ∷ []) p ∙ ap (λ zs. zs ++ get_or xs i (pos 0) ∷ []) h ∙ append_assoc old (take i xs) (get_or xs i (pos 0) ∷ []) ∙ ap (λ zs. old ++ zs) (sym (take_more xs i (pos 0) l))
-
-pub parts_more : (f : Vec3 → ℤ) (xs : List Vec3) (i : ℕ) (old items new : List ℤ) (y : ℤ) (d : Vec3) → i < length xs → new ≡ items ++ y ∷ [] → y ≡ f (get_or xs i d) → items ≡ old ++ map f (take i xs) → new ≡ old ++ map f (take (i + 1) xs)
-parts_more f xs i old items new y d l e p h =
-    e ∙ ap (λ z. items ++ z ∷ []) p ∙ ap (λ zs. zs ++ f (get_or xs i d) ∷ []) h ∙ append_assoc old (map f (take i xs)) (f (get_or xs i d) ∷ []) ∙ ap (λ zs. old ++ zs) (sym (map_more f xs i d l))
 
 -- ---- one row
 pub row_fits : (n : ℕ) → n ≤ row_length n
@@ -41,6 +30,24 @@ row_long xs =
 
 row_at : (xs : List ℤ) (i : ℕ) → i < length xs → get_or (row_of xs) i (pos 0) ≡ get_or xs i (pos 0)
 row_at xs i l = get_or_append_left xs _ (pos 0) i l
+
+row_value : (xs : List ℤ) (k : ℕ) → get_or (row_of xs) k (pos 0) ≡ get_or xs k (pos 0)
+row_value xs k =
+    ⊎_elim
+    (λ l. row_at xs k l)
+    (λ g.
+    let n = row_length (length xs) - length xs in
+    let at : k ≡ length xs + (k - length xs) = omega arith in
+    ap (λ m. get_or (row_of xs) m (pos 0)) at ∙ get_or-append-add xs (replicate n (pos 0)) (k - length xs) (pos 0) ∙ all_default n (k - length xs) (pos 0) ∙ sym (get_or_past xs k (pos 0) g))
+    (cases_lt k (length xs))
+
+-- the first elements of a row that holds those numbers and then zeros
+pub row_by : (xs row : List ℤ) (n : ℕ) → n ≡ row_length (length xs) → n ≤ length row → ((k : ℕ) → get_or row k (pos 0) ≡ get_or xs k (pos 0)) → take n row ≡ row_of xs
+row_by xs row n e fits h =
+    let long = length-take-le n row fits in
+    let same = row_long xs in
+    same_lists _ _ (long ∙ e ∙ sym same)
+    (λ k d l. get_or_default (take n row) k d (pos 0) l ∙ get_or-take n row k (pos 0) (omega arith) ∙ h k ∙ sym (row_value xs k) ∙ get_or_default (row_of xs) k (pos 0) d (omega arith))
 
 within : (k w i h n : ℕ) → i < w → (k + h) * w ≤ n → 0 < h → k * w + i < n
 within k w i h n l room some = let e = mul-le (k + 1) w (k + h) w (omega arith) (omega arith) in omega (arith, e, room, l)

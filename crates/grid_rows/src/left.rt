@@ -9,6 +9,7 @@ use bumpalo::Bump;
 use bumpalo::collections::into_bump_slice;
 use fixed_math::{NoMemory, Num, Vec3};
 use grid_variables::Leaf;
+use number_rows::Raw;
 
 /// The number at place `k` of rows.
 fn number_at(rows: &[i64], k: usize) -> Num
@@ -16,7 +17,7 @@ fn number_at(rows: &[i64], k: usize) -> Num
     requires small { AreRaws rows.now }
     ensures { result ≡ get_or rows.now k (pos 0) }
 {
-    Num::sat(rows[k] as i128)
+    Raw::of_raw(rows[k]).number()
 }
 
 /// The triple at place `i` in three rows of `width` elements, from row `first` on.

@@ -1,5 +1,5 @@
 // Rows of raws, as code takes them.
-ghost use Rattle.std.specs.Prelude.{◌≡◌, ◌≤◌, ◌-◌, ◌++◌, ◌∷◌, [], pos, length, map, replicate, IfOk};
+ghost use Rattle.std.specs.Prelude.{◌≡◌, ℕ, ◌≤◌, ◌++◌, [], pos, length, get_or, map, replicate, IfOk};
 ghost use Rattle.fixed_math.specs.Axes.{part_of};
 ghost use Rattle.place_rows.specs.Layout.{row_length};
 ghost use Rattle.grid_rows.specs.Rows.{row_of, triple_rows, value_rows, AreRaws};
@@ -36,11 +36,12 @@ impl<'a> Rows<'a> {
         Ok(Rows { raws })
     }
 
-    /// Appends a number.
-    fn push(&mut self, number: Num) -> Result<(), NoMemory>
-        ensures { IfOk result (λ _. self.new ≡ self.old ++ number ∷ []) }
+    /// Appends raws.
+    fn extend(&mut self, raws: &[i64]) -> Result<(), NoMemory>
+        requires { AreRaws raws.now }
+        ensures { IfOk result (λ _. self.new ≡ self.old ++ raws.now) }
     {
-        self.raws.push(number.raw())?;
+        self.raws.extend_from_slice(raws)?;
         Ok(())
     }
 
@@ -64,15 +65,43 @@ pub fn length_of_row(points: usize) -> usize
     points.div_ceil(8) * 8
 }
 
-/// Fills a row of `points` numbers up with zeros.
-fn fill_up(rows: &mut Rows, points: usize) -> Result<(), NoMemory>
-    requires { points ≤ 289 }
-    ensures { IfOk result (λ _. rows.new ≡ rows.old ++ replicate (row_length points - points) (pos 0)) }
+// Writes numbers into the first elements of a row of zeros.
+fn write_numbers(numbers: &[Num], row: &mut [i64])
+    requires room { length numbers.now ≤ length row.old }
+    requires zero { (k : ℕ) → get_or row.old k (pos 0) ≡ pos 0 }
+    ensures long { length row.new ≡ length row.old }
+    ensures same { (k : ℕ) → get_or row.new k (pos 0) ≡ get_or numbers.now k (pos 0) }
+    ensures small { AreRaws row.new }
 {
-    for _rest in 0..length_of_row(points) - points {
-        rows.push(Num::default())?;
+    for k in 0..numbers.len() {
+        row[k] = numbers[k].raw();
     }
-    Ok(())
+}
+
+// The same of one coordinate of triples.
+fn write_parts(triples: &[Vec3], axis: Axis, row: &mut [i64])
+    requires room { length triples.now ≤ length row.old }
+    requires zero { (k : ℕ) → get_or row.old k (pos 0) ≡ pos 0 }
+    ensures long { length row.new ≡ length row.old }
+    ensures same { (k : ℕ) → get_or row.new k (pos 0) ≡ get_or (map (part_of axis) triples.now) k (pos 0) }
+    ensures small { AreRaws row.new }
+{
+    for k in 0..triples.len() {
+        row[k] = triples[k].part(axis).raw();
+    }
+}
+
+// The same of one number so many times.
+fn write_same(number: Num, points: usize, row: &mut [i64])
+    requires room { points ≤ length row.old }
+    requires zero { (k : ℕ) → get_or row.old k (pos 0) ≡ pos 0 }
+    ensures long { length row.new ≡ length row.old }
+    ensures same { (k : ℕ) → get_or row.new k (pos 0) ≡ get_or (replicate points number) k (pos 0) }
+    ensures small { AreRaws row.new }
+{
+    for k in 0..points {
+        row[k] = number.raw();
+    }
 }
 
 /// Appends a row of numbers, one for each point.
@@ -80,10 +109,9 @@ pub(crate) fn push_numbers(rows: &mut Rows, numbers: &[Num]) -> Result<(), NoMem
     requires { length numbers.now ≤ 289 }
     ensures { IfOk result (λ _. rows.new ≡ rows.old ++ row_of numbers.now) }
 {
-    for number in numbers {
-        rows.push(*number)?;
-    }
-    fill_up(rows, numbers.len())
+    let mut row = [0; 296];
+    write_numbers(numbers, &mut row);
+    rows.extend(&row[..length_of_row(numbers.len())])
 }
 
 /// Appends a row of one coordinate of triples.
@@ -91,10 +119,9 @@ pub(crate) fn push_parts(rows: &mut Rows, triples: &[Vec3], axis: Axis) -> Resul
     requires { length triples.now ≤ 289 }
     ensures { IfOk result (λ _. rows.new ≡ rows.old ++ row_of (map (part_of axis) triples.now)) }
 {
-    for triple in triples {
-        rows.push(triple.part(axis))?;
-    }
-    fill_up(rows, triples.len())
+    let mut row = [0; 296];
+    write_parts(triples, axis, &mut row);
+    rows.extend(&row[..length_of_row(triples.len())])
 }
 
 /// Appends the three rows of triples, one for each point.
@@ -112,10 +139,9 @@ fn push_same(rows: &mut Rows, number: Num, points: usize) -> Result<(), NoMemory
     requires { points ≤ 289 }
     ensures { IfOk result (λ _. rows.new ≡ rows.old ++ row_of (replicate points number)) }
 {
-    for _point in 0..points {
-        rows.push(number)?;
-    }
-    fill_up(rows, points)
+    let mut row = [0; 296];
+    write_same(number, points, &mut row);
+    rows.extend(&row[..length_of_row(points)])
 }
 
 /// Appends the rows of a number or triple that is the same at all points.

@@ -1,5 +1,5 @@
 -- Planes that have numbers for more places have them for fewer.
-use Rattle.std.proofs.Common.{ℕ, ◌≤◌, ◌+◌, ◌<◌, arith}
+use Rattle.std.proofs.Common.{ℕ, ◌+◌, ◌<◌, arith}
 use Rattle.number_rows.specs.declared.plane.Plane.{Plane}
 use Rattle.number_rows.specs.declared.plane.Plane.TheVariants.{Row, Value}
 use Rattle.number_rows.specs.declared.plane.Planes.{Planes}

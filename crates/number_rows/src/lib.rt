@@ -18,6 +18,7 @@ pub use loops::{copy, fill, give_raws, one_plane, take_raws, three_planes, two_p
 pub use plane::{Plane, Planes};
 pub use raw::Raw;
 pub use triples::{
-    Cross, Distance, Dot, Length, Normalize, OfTriple, OfTriples, Reflect, ToTriple, ToTriples,
-    faceforward_rows, number_of_triple, number_of_triples, triple_of_triple, triple_of_triples,
+    Cross, Distance, Dot, FaceForward, Length, Normalize, OfTriple, OfTriples, Reflect, ToTriple,
+    ToTripleOfThree, ToTriples, number_of_triple, number_of_triples, triple_of_three,
+    triple_of_triple, triple_of_triples,
 };

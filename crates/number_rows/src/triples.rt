@@ -43,6 +43,14 @@ pub trait ToTriples {
         ensures { result ≡ formula a b };
 }
 
+/// A triple of three triples.
+pub trait ToTripleOfThree {
+    ghost formula: { AnyVec3 → AnyVec3 → AnyVec3 → AnyVec3 };
+
+    fn apply(a: Vec3, b: Vec3, c: Vec3) -> Vec3
+        ensures { result ≡ formula a b c };
+}
+
 #[inline(always)]
 fn product(x: Raw, y: Raw) -> Raw
     ensures { result ≡ mul x y }
@@ -156,6 +164,18 @@ impl ToTriples for Reflect {
     }
 }
 
+/// A normal turned against a direction, as another normal says.
+pub struct FaceForward;
+
+impl ToTripleOfThree for FaceForward {
+    ghost formula = { t.faceforward };
+
+    #[inline(always)]
+    fn apply(a: Vec3, b: Vec3, c: Vec3) -> Vec3 {
+        faceforward(a, b, c)
+    }
+}
+
 /// A row takes the numbers of triples.
 #[tactic(auto, using(crate::proofs::Shorter::all_shorter))]
 pub fn number_of_triple<K: OfTriple>(a: &Planes, out: &mut [Raw])
@@ -220,9 +240,9 @@ pub fn triple_of_triples<K: ToTriples>(
     }
 }
 
-/// Three rows take normals turned against directions, as others say.
+/// Three rows take the triples of three triples.
 #[tactic(auto, using(crate::proofs::Shorter::all_shorter))]
-pub fn faceforward_rows(
+pub fn triple_of_three<K: ToTripleOfThree>(
     a: &Planes,
     b: &Planes,
     c: &Planes,
@@ -235,10 +255,10 @@ pub fn faceforward_rows(
     requires c { ArePlanes (length x.old) c.now }
     requires same { (length y.old ≡ length x.old) × (length z.old ≡ length x.old) }
     ensures long { (length x.new ≡ length x.old) × ((length y.new ≡ length y.old) × (length z.new ≡ length z.old)) }
-    ensures each { (i : ℕ) → i < length x.old → triple_in x.new y.new z.new i ≡ t.faceforward (triple_at a.now i) (triple_at b.now i) (triple_at c.now i) }
+    ensures each { (i : ℕ) → i < length x.old → triple_in x.new y.new z.new i ≡ K.formula (triple_at a.now i) (triple_at b.now i) (triple_at c.now i) }
 {
     for i in 0..x.len() {
-        let t = faceforward(a.at(i), b.at(i), c.at(i));
+        let t = K::apply(a.at(i), b.at(i), c.at(i));
         x[i] = Raw::of(t.x);
         y[i] = Raw::of(t.y);
         z[i] = Raw::of(t.z);

@@ -20,7 +20,7 @@ use Rattle.grid_code.specs.View.{with_node, block_of}
 use Rattle.grid_machine.specs.State.{state_of, Near, ground_of, lit_ground, lights_registers, ReadyIn, Runs, RunsTurns}
 use Rattle.grid_machine.proofs.Kept.{NearBy, has_kept, places_kept, kept_on, kept_live, ready_kept, runs_kept, begin_kept, any_kept}
 use Rattle.grid_code.proofs.Blocks.{branch_is, loop_is, lights_is, block_size}
-use Rattle.grid_machine.proofs.Nodes.{running_ready, running_small, running_next, running_end, put_steps, differ_steps}
+use Rattle.grid_machine.proofs.Nodes.{running_ready, running_small, running_next, running_end, asleep_runs, put_steps, differ_steps}
 use Rattle.grid_machine.proofs.Masks.{Turning, one_at, parts_at, turning_step, turning_stop, turning_end, looped_steps}
 use Rattle.grid_machine.proofs.blocks.+run.Goals as goal
 
@@ -51,8 +51,14 @@ run_block-loop-node-preserved g t c =
       running_next _ _ _ _ _ _ _ _ _ _ c.node-item.result inv.1 (omega arith) c.node-item.is (state_of c.run_node.new.m) (runs_kept ls ls1 c.args.m.now c.loop-node.m c.run_node.new.m c.args.most (with_node c.node-item.result end) inv.0.0 (ap (λ s. s.lights) inv.0.1) c.run_node.ensures.masked),
     )
 
-pub run_block-returns-clause-masked : goal.run_block-returns-clause-masked
-run_block-returns-clause-masked g t c = running_end _ _ _ _ _ _ _ _ _ _ c.loop-node.invariant.1 (omega arith)
+pub run_block-returns-after-loop-node-clause-masked : goal.run_block-returns-after-loop-node-clause-masked
+run_block-returns-after-loop-node-clause-masked g t c = running_end _ _ _ _ _ _ _ _ _ _ c.loop-node.invariant.1 (omega arith)
+
+pub run_block-returns-else-any-clause-masked : goal.run_block-returns-else-any-clause-masked
+run_block-returns-else-any-clause-masked g t c =
+    let m = c.args.m.now in
+    let f = m.registers.frame.now in
+    asleep_runs (lit_ground (g.L.Illumination.lighting c.args.lights.now).lights f) f.places f.varying.now f.uniform.now c.args.most (block_of c.args.block.now) (state_of m) (sym c.any.ensures ∙ c.if-any.false)
 
 pub run_node-sum-requires : goal.run_node-sum-requires
 run_node-sum-requires g t c =

@@ -1,11 +1,18 @@
-use Rattle.std.proofs.Common.{ap, arith, ◌∙◌}
-use Rattle.std.proofs.lemmas.List.{get_or_read}
-use Rattle.fixed_math.specs.Axes.{part_of, origin}
-use Rattle.grid_rows.proofs.Filled.{parts_more}
+use Rattle.std.proofs.Common.{◌≡◌, ◌++◌, length, pos, subst, ◌∙◌, arith, sym, ap, map}
+use Rattle.std.specs.Prelude.{IfOk}
+use Rattle.std.proofs.lemmas.List.{length-replicate, length-map}
+use Rattle.place_rows.proofs.Sets.{all_default}
+use Rattle.place_rows.specs.Layout.{row_length}
+use Rattle.fixed_math.specs.Axes.{part_of}
+use Rattle.grid_rows.proofs.Filled.{row_by}
 use Rattle.grid_rows.proofs.rows.push_parts.Goals as goal
 
-pub loop-triple-preserved : goal.loop-triple-preserved
-loop-triple-preserved c =
-    let read = get_or_read c.args.triples.now c.loop-triple.triple-index c.triple-item.result (omega arith) c.triple-item.is origin in
-    parts_more (part_of c.args.axis) c.args.triples.now c.loop-triple.triple-index c.args.rows.now c.loop-triple.rows c.push.new.self c.part.result origin (omega arith) c.in_ok-push.ensures
-    (c.part.ensures ∙ ap (part_of c.args.axis) read) c.loop-triple.invariant
+pub write_parts-requires-clause-zero : goal.write_parts-requires-clause-zero
+write_parts-requires-clause-zero c k = all_default 296 k (pos 0)
+
+pub returns : goal.returns
+returns c =
+    let row = c.write_parts.new.row in
+    let long : length row ≡ 296 = c.write_parts.ensures.long ∙ length-replicate 296 (pos 0) in
+    let most = c.length_of_row.ensures.to in
+    subst (λ zs. IfOk c.extend.result (λ x. c.extend.new.self ≡ c.args.rows.now ++ zs)) (row_by (map (part_of c.args.axis) c.args.triples.now) row c.length_of_row.result (c.length_of_row.ensures.value ∙ ap row_length (sym (length-map c.args.triples.now (part_of c.args.axis)))) (omega arith) c.write_parts.ensures.same) c.extend.ensures

@@ -1,6 +1,17 @@
-use Rattle.std.proofs.Common.{refl}
-use Rattle.grid_rows.proofs.Filled.{filled_more}
+use Rattle.std.proofs.Common.{◌≡◌, ◌++◌, length, pos, subst, ◌∙◌, arith, sym, ap, replicate}
+use Rattle.std.specs.Prelude.{IfOk}
+use Rattle.std.proofs.lemmas.List.{length-replicate}
+use Rattle.place_rows.proofs.Sets.{all_default}
+use Rattle.place_rows.specs.Layout.{row_length}
+use Rattle.grid_rows.proofs.Filled.{row_by}
 use Rattle.grid_rows.proofs.rows.push_same.Goals as goal
 
-pub loop-point-preserved : goal.loop-point-preserved
-loop-point-preserved c = filled_more c.args.rows.now c.loop-point.rows c.push.new.self c.loop-point._point c.args.number c.args.number c.in_ok-push.ensures refl c.loop-point.invariant
+pub write_same-requires-clause-zero : goal.write_same-requires-clause-zero
+write_same-requires-clause-zero c k = all_default 296 k (pos 0)
+
+pub returns : goal.returns
+returns c =
+    let row = c.write_same.new.row in
+    let long : length row ≡ 296 = c.write_same.ensures.long ∙ length-replicate 296 (pos 0) in
+    let most = c.length_of_row.ensures.to in
+    subst (λ zs. IfOk c.extend.result (λ x. c.extend.new.self ≡ c.args.rows.now ++ zs)) (row_by (replicate c.args.points c.args.number) row c.length_of_row.result (c.length_of_row.ensures.value ∙ ap row_length (sym (length-replicate c.args.points c.args.number))) (omega arith) c.write_same.ensures.same) c.extend.ensures

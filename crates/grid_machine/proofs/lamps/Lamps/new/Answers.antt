@@ -1,5 +1,4 @@
 use Rattle.std.proofs.Common.{ap, ◌∙◌}
-use Rattle.grid_machine.specs.Asked.{asked_all}
 use Rattle.grid_machine.specs.State.{lines_of}
 use Rattle.grid_machine.proofs.Roomy.{some_lights}
 use Rattle.grid_machine.proofs.lamps.Lamps.new.Goals as goal

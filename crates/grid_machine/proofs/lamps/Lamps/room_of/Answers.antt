@@ -1,6 +1,6 @@
 use Rattle.std.proofs.Common.{ℕ, subst}
 use Rattle.grid_code.specs.declared.shader_code.Code.{Code}
-use Rattle.grid_machine.specs.Rooms.{HasRoom}
+use Rattle.grid_registers.specs.Rooms.{HasRoom}
 use Rattle.grid_machine.proofs.Roomy.{roomy_more, room_next}
 use Rattle.grid_machine.proofs.lamps.Lamps.room_of.Goals as goal
 

@@ -1,5 +1,5 @@
 use Rattle.std.proofs.Common.{ℕ, ◌<◌}
-use Rattle.grid_machine.specs.Rooms.{HasRoom}
+use Rattle.grid_registers.specs.Rooms.{HasRoom}
 use Rattle.grid_machine.proofs.lamps.Lamps.room_of.Given as goal
 
 abbrev pub invariant-loop-n : goal.invariant-loop-n

@@ -1,7 +1,7 @@
 use Rattle.std.proofs.Common.{get_or, sym, subst}
 use Rattle.grid_code.specs.View.{block_of}
 use Rattle.grid_machine.specs.State.{Ready}
-use Rattle.grid_machine.specs.declared.frame.Frame.{Frame}
+use Rattle.grid_registers.specs.declared.frame.Frame.{Frame}
 use Rattle.grid_machine.proofs.Fitting.{fitting_ready}
 use Rattle.grid_machine.proofs.lamps.LampsIllumination.ask.Goals as goal
 

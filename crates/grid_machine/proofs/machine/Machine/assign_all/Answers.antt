@@ -9,7 +9,8 @@ use Rattle.grid_code.specs.Uses.{has}
 use Rattle.place_values.specs.Cells.{is_known}
 use Rattle.grid_machine.specs.State.{state_of}
 use Rattle.grid_machine.proofs.Kept.{kept_on, has_kept, written_kept}
-use Rattle.grid_machine.proofs.Loads.{item_passes, same_shapes, map_length, assigning_next, assigned_all}
+use Rattle.grid_machine.proofs.Loads.{same_shapes, map_length, assigning_next, assigned_all}
+use Rattle.grid_registers.proofs.Operands.{item_passes}
 use Rattle.grid_machine.proofs.machine.Machine.assign_all.Goals as goal
 
 pub assign-requires-clause-shape : goal.assign-requires-clause-shape

@@ -5,7 +5,7 @@ use Rattle.grid_code.specs.Shapes.{register_shape}
 use Rattle.place_rows.specs.Banks.{held}
 use Rattle.place_values.specs.Cells.{value_of}
 use Rattle.grid_machine.specs.State.{state_of, texts_of, Near}
-use Rattle.grid_machine.specs.Operands.{reach}
+use Rattle.grid_registers.specs.Operands.{reach}
 use Rattle.grid_machine.proofs.machine.Machine.commit.Goals as goal
 
 pub returns-in-Uniform-clause-near : goal.returns-in-Uniform-clause-near

@@ -2,7 +2,7 @@ use Rattle.std.proofs.Common.{◌+◌, ◌*◌, get_or, false, refl}
 use Rattle.grid_code.specs.Uses.{numbers_of}
 use Rattle.place_rows.specs.Banks.{size, held}
 use Rattle.grid_machine.specs.State.{rank, texts_of}
-use Rattle.grid_machine.proofs.Writes.{written, stored_at}
+use Rattle.grid_registers.proofs.Writes.{written, stored_at}
 use Rattle.grid_machine.proofs.machine.Machine.commit_row.Goals as goal
 
 pub returns-clause-near : goal.returns-clause-near

@@ -4,7 +4,7 @@ use Rattle.grid_code.specs.Uses.{numbers_of}
 use Rattle.place_rows.specs.Banks.{held, shape_of_cell}
 use Rattle.place_values.specs.Cells.{value_of}
 use Rattle.grid_machine.specs.State.{rank, texts_of}
-use Rattle.grid_machine.proofs.Writes.{written_one, held_shape}
+use Rattle.grid_registers.proofs.Writes.{written_one, held_shape}
 use Rattle.grid_machine.proofs.machine.Machine.commit_shared.Goals as goal
 
 pub returns-then-any-clause-near : goal.returns-then-any-clause-near

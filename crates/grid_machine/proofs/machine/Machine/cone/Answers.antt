@@ -3,7 +3,7 @@ use Rattle.builtins.specs.declared.shape.Shape.TheVariants as shapes
 use Rattle.grid_code.specs.declared.code.Register.TheVariants.{Uniform}
 use Rattle.grid_code.specs.Uses.{has}
 use Rattle.grid_machine.specs.State.{state_of}
-use Rattle.grid_machine.proofs.Loads.{item_passes}
+use Rattle.grid_registers.proofs.Operands.{item_passes}
 use Rattle.place_rows.proofs.Totals.{cone_is}
 use Rattle.grid_machine.proofs.machine.Machine.cone.Goals as goal
 

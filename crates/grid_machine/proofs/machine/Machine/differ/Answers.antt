@@ -6,7 +6,7 @@ use Rattle.grid_code.specs.Shapes.{register_shape}
 use Rattle.place_rows.specs.Banks.{held}
 use Rattle.place_values.specs.Cells.{value_of}
 use Rattle.grid_machine.specs.State.{state_of, lines_of, texts_of}
-use Rattle.grid_machine.specs.Operands.{operand_at}
+use Rattle.grid_registers.specs.Operands.{operand_at}
 use Rattle.grid_machine.proofs.Near.{difference_near}
 use Rattle.grid_machine.proofs.Shapes.{read_shape, read_held, difference_has, reach_within}
 use Rattle.grid_machine.proofs.machine.Machine.differ.Goals as goal

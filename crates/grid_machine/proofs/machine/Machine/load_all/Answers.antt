@@ -9,7 +9,8 @@ use Rattle.place_rows.specs.Layout.{height}
 use Rattle.grid_machine.specs.Run.{rows_of, value_in}
 use Rattle.grid_machine.specs.State.{state_of}
 use Rattle.grid_machine.proofs.Kept.{kept_on, has_kept, written_kept}
-use Rattle.grid_machine.proofs.Loads.{Loading, item_passes, room_after, loading_next, loaded_all}
+use Rattle.grid_machine.proofs.Loads.{Loading, room_after, loading_next, loaded_all}
+use Rattle.grid_registers.proofs.Operands.{item_passes}
 use Rattle.grid_machine.proofs.machine.Machine.load_all.Goals as goal
 
 pub load-requires : goal.load-requires

@@ -1,4 +1,4 @@
-use Rattle.std.proofs.Common.{◌<◌, sym, ap, ◌∙◌, subst}
+use Rattle.std.proofs.Common.{sym, ap, ◌∙◌}
 use Rattle.builtins.specs.Shapes.{shape}
 use Rattle.grid_code.specs.Masked.{result_of}
 use Rattle.place_rows.specs.Banks.{held}

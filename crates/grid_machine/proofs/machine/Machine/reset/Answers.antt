@@ -4,7 +4,7 @@ use Rattle.grid_code.specs.Uses.{numbers_of}
 use Rattle.place_values.specs.Cells.{value_of}
 use Rattle.grid_machine.specs.State.{rank}
 use Rattle.std.proofs.lemmas.List.{get_or-replicate}
-use Rattle.grid_machine.proofs.Ranks.{rank_in}
+use Rattle.grid_registers.proofs.Ranks.{rank_in}
 use Rattle.grid_machine.proofs.Roomy.{within_rows}
 use Rattle.grid_machine.proofs.Zeros.{zero_is}
 use Rattle.grid_machine.proofs.machine.Machine.reset.Goals as goal

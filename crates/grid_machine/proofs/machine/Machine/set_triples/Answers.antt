@@ -6,7 +6,7 @@ use Rattle.place_rows.specs.Banks.{held}
 use Rattle.place_values.specs.Cells.{value_of}
 use Rattle.grid_machine.specs.State.{state_of, texts_of}
 use Rattle.grid_machine.proofs.Near.{near_on, write_near}
-use Rattle.grid_machine.proofs.Operands.{reach_in}
+use Rattle.grid_registers.proofs.Operands.{reach_in}
 use Rattle.grid_machine.proofs.machine.Machine.set_triples.Goals as goal
 
 pub returns-clause-near : goal.returns-clause-near

@@ -4,7 +4,7 @@ use Rattle.builtins.specs.declared.shape.Shape.TheVariants as shapes
 use Rattle.grid_code.specs.declared.code.Register.TheVariants.{Uniform}
 use Rattle.grid_code.specs.Uses.{has}
 use Rattle.grid_machine.specs.State.{state_of}
-use Rattle.grid_machine.proofs.Loads.{item_passes}
+use Rattle.grid_registers.proofs.Operands.{item_passes}
 use Rattle.place_rows.proofs.Totals.{specular_is, few_specular, many_specular}
 use Rattle.grid_machine.proofs.machine.Machine.specular.Goals.{in_default-via-then-args-lt3, in_default-via-else-args-lt3+else-args-lt4}
 use Rattle.grid_machine.proofs.machine.Machine.specular.Goals as goal

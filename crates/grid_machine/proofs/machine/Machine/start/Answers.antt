@@ -10,7 +10,7 @@ use Rattle.grid_code.specs.Uses.{has, names_at}
 use Rattle.grid_machine.specs.Run.{started}
 use Rattle.grid_machine.specs.State.{state_of, NearIn}
 use Rattle.grid_machine.proofs.Kept.{has_kept, written_kept}
-use Rattle.grid_machine.proofs.Loads.{item_passes}
+use Rattle.grid_registers.proofs.Operands.{item_passes}
 use Rattle.grid_machine.proofs.Starts.{copy_written}
 use Rattle.grid_machine.proofs.machine.Machine.start.Goals as goal
 

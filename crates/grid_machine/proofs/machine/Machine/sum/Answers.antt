@@ -13,7 +13,7 @@ use Rattle.place_rows.specs.Seen.{gain_at}
 use Rattle.grid_machine.specs.State.{state_of, texts_of}
 use Rattle.grid_machine.proofs.Near.{near_on, write_near, read_near, reads_near}
 use Rattle.place_rows.proofs.Totals.{sum_at}
-use Rattle.grid_machine.proofs.Operands.{reach_in}
+use Rattle.grid_registers.proofs.Operands.{reach_in}
 use Rattle.grid_machine.proofs.machine.Machine.sum.Goals as goal
 
 pub returns-clause-near : goal.returns-clause-near

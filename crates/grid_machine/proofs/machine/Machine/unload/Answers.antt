@@ -8,7 +8,8 @@ use Rattle.place_values.specs.Cells.{value_of}
 use Rattle.grid_machine.specs.State.{state_of, texts_of}
 use Rattle.grid_machine.specs.Run.{value_in}
 use Rattle.grid_machine.proofs.Elements.{unloaded_next, others_set, long_set, SetAt, raws_set}
-use Rattle.grid_machine.proofs.Shapes.{read_shape, read_held, triple_back}
+use Rattle.grid_machine.proofs.Shapes.{read_shape, read_held}
+use Rattle.grid_registers.proofs.Parts.{triple_back}
 use Rattle.grid_machine.proofs.machine.Machine.unload.Goals as goal
 
 pub loop-place-preserved : goal.loop-place-preserved

@@ -1,0 +1,23 @@
+use Rattle.std.proofs.Common.{◌<◌, length, refl, sym, ap, ◌∙◌, subst, pos, get_or}
+use Rattle.std.proofs.lemmas.List.{with_items_is}
+use Rattle.std.specs.Vec.{with_items}
+use Rattle.sl_ast.specs.declared.typed.Value.TheVariants as values
+use Rattle.builtins.specs.declared.shape.Shape.TheVariants as shapes
+use Rattle.builtins.specs.Values.{number_of}
+use Rattle.number_rows.specs.Planes.{plane_at}
+use Rattle.grid_registers.specs.Operands.{operand_at}
+use Rattle.grid_registers.specs.Held.{texts_of}
+use Rattle.grid_registers.proofs.Parts.{as_many, holds_numbers}
+use Rattle.grid_registers.proofs.registers.Registers.number_of_two.Goals as goal
+
+pub two_planes-requires-clause-a : goal.two_planes-requires-clause-a
+two_planes-requires-clause-a g c = as_many c.numbers.result c.args.self.now.frame.now.places _ c.numbers.ensures.plane (ap length c.deref_mut.ensures.value ∙ c.requires.room shapes.Number)
+
+pub two_planes-requires-clause-b : goal.two_planes-requires-clause-b
+two_planes-requires-clause-b g c = as_many c.numbers-2.result c.args.self.now.frame.now.places _ c.numbers-2.ensures.plane (ap length c.deref_mut.ensures.value ∙ c.requires.room shapes.Number)
+
+pub returns-clause-each : goal.returns-clause-each
+returns-clause-each g c =
+    let r = c.args.self.now in
+    let places = r.frame.now.places in
+    holds_numbers (texts_of r) (with_items c.args.row.now.numbers c.two_planes.new.out).items c.args.row.now.xs.items c.args.row.now.ys.items c.args.row.now.zs.items c.args.row.now.words.items places (λ i. values.Number (g.K.Two.formula (number_of (operand_at r c.args.p i)) (number_of (operand_at r c.args.q i)))) (λ i. g.K.Two.formula (number_of (operand_at r c.args.p i)) (number_of (operand_at r c.args.q i))) (λ i l. ap (λ xs. get_or xs i (pos 0)) (with_items_is c.args.row.now.numbers c.two_planes.new.out (c.two_planes.ensures.long ∙ ap length c.deref_mut.ensures.value ∙ sym c.args.row.now.numbers.ok.0)) ∙ c.two_planes.ensures.each i (subst (λ n. i < n) (sym (ap length c.deref_mut.ensures.value ∙ c.requires.room shapes.Number)) l) ∙ ap (λ z. g.K.Two.formula z (plane_at c.numbers-2.result i)) (c.numbers.ensures.each i l) ∙ ap (λ z. g.K.Two.formula (number_of (operand_at r c.args.p i)) z) (c.numbers-2.ensures.each i l)) (λ i l. refl)

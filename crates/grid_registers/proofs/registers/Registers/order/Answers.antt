@@ -1,0 +1,25 @@
+use Rattle.std.proofs.Common.{◌<◌, length, refl, sym, ap, ◌∙◌, subst, pos, get_or}
+use Rattle.std.proofs.lemmas.List.{with_items_is}
+use Rattle.std.specs.Vec.{with_items}
+use Rattle.sl_ast.specs.declared.typed.Value.TheVariants as values
+use Rattle.builtins.specs.declared.shape.Shape.TheVariants as shapes
+use Rattle.builtins.specs.Formulas as formulas
+use Rattle.number_rows.specs.Truths.{truth}
+use Rattle.builtins.specs.Values.{number_of}
+use Rattle.number_rows.specs.Planes.{plane_at}
+use Rattle.grid_registers.specs.Operands.{operand_at}
+use Rattle.grid_registers.specs.Held.{texts_of}
+use Rattle.grid_registers.proofs.Parts.{as_many, holds_numbers}
+use Rattle.grid_registers.proofs.registers.Registers.order.Goals as goal
+
+pub order_rows-requires-clause-a : goal.order_rows-requires-clause-a
+order_rows-requires-clause-a c = as_many c.numbers.result c.args.self.now.frame.now.places _ c.numbers.ensures.plane (ap length c.deref_mut.ensures.value ∙ c.requires.room shapes.Number)
+
+pub order_rows-requires-clause-b : goal.order_rows-requires-clause-b
+order_rows-requires-clause-b c = as_many c.numbers-2.result c.args.self.now.frame.now.places _ c.numbers-2.ensures.plane (ap length c.deref_mut.ensures.value ∙ c.requires.room shapes.Number)
+
+pub returns-clause-each : goal.returns-clause-each
+returns-clause-each c =
+    let r = c.args.self.now in
+    let places = r.frame.now.places in
+    holds_numbers (texts_of r) (with_items c.args.row.now.numbers c.order_rows.new.out).items c.args.row.now.xs.items c.args.row.now.ys.items c.args.row.now.zs.items c.args.row.now.words.items places (λ i. values.Number (truth (formulas.order c.args.op (number_of (operand_at r c.args.p i)) (number_of (operand_at r c.args.q i))))) (λ i. truth (formulas.order c.args.op (number_of (operand_at r c.args.p i)) (number_of (operand_at r c.args.q i)))) (λ i l. ap (λ xs. get_or xs i (pos 0)) (with_items_is c.args.row.now.numbers c.order_rows.new.out (c.order_rows.ensures.long ∙ ap length c.deref_mut.ensures.value ∙ sym c.args.row.now.numbers.ok.0)) ∙ c.order_rows.ensures.each i (subst (λ n. i < n) (sym (ap length c.deref_mut.ensures.value ∙ c.requires.room shapes.Number)) l) ∙ ap (λ z. truth (formulas.order c.args.op z (plane_at c.numbers-2.result i))) (c.numbers.ensures.each i l) ∙ ap (λ z. truth (formulas.order c.args.op (number_of (operand_at r c.args.p i)) z)) (c.numbers-2.ensures.each i l)) (λ i l. refl)

@@ -1,0 +1,5 @@
+pub mod Rooms
+pub mod Held
+pub mod Frames
+pub mod Sources
+pub mod Operands
