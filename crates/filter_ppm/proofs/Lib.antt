@@ -1,7 +1,5 @@
 pub mod Grids
-pub mod Sweeps
-pub mod Reaches
-pub mod ShownSamples
+pub mod Places
 pub mod Within
 pub mod Means
 pub mod Filters

@@ -3,10 +3,8 @@
 
 mod adding;
 mod film;
-mod filtered;
 mod levels;
 mod pixel_filter;
-mod pixel_window;
 mod ppm;
 mod rect;
 mod sampling;
@@ -16,10 +14,8 @@ mod sums;
 mod tables;
 mod total;
 mod weights;
-mod window;
 
 pub use film::Film;
-pub use filtered::pixels;
 pub use levels::{expose, pixel_levels, quantize};
 pub use pixel_filter::PixelFilter;
 pub use ppm::{append_band, band_bytes, header};

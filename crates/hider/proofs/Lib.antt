@@ -1,4 +1,5 @@
 pub mod Small
+pub mod Sides
 pub mod Threes
 pub mod Between
 pub mod Cuts
@@ -20,3 +21,4 @@ pub mod Frames
 pub mod Depths
 pub mod Flats
 pub mod Numbers
+pub mod Besides

@@ -7,6 +7,7 @@ use Rattle.std.proofs.lemmas.Int.{ints, int_min_is, int_max_is}
 use Rattle.fixed_math.specs.declared.vec3.Vec3.{Vec3}
 use Rattle.fixed_math.specs.declared.vec3.Axis.{Axis}
 use Rattle.fixed_math.specs.Axes.{part_of, origin}
+use Rattle.dice.specs.declared.diced.GridRef.{GridRef}
 use Rattle.hider.specs.declared.cell.CellCorner.{CellCorner}
 use Rattle.hider.specs.declared.cell.Cell.{Cell}
 use Rattle.hider.specs.Cells.{Micropolygon, first_corner}
@@ -55,6 +56,9 @@ grid_values columns rows points colours opacities = record {
   colour = λ i. slice_index_or colours (first_corner columns i) origin;
   opacity = λ i. slice_index_or opacities (first_corner columns i) origin;
 }
+
+abbrev pub values_of : GridRef → CellValues
+values_of g = grid_values g.columns g.rows g.p.now g.ci.now g.oi.now
 
 -- what stays lies between its two ends
 pub stays_between : (z : ℤ) → LiesBetween z z z

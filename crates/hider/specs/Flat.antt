@@ -11,7 +11,9 @@ use Rattle.hider.specs.declared.fragment.Fragment.{Fragment}
 use Rattle.hider.specs.declared.quad.Corner.{Corner}
 use Rattle.hider.specs.declared.quad.Quad.{Quad}
 use Rattle.hider.specs.declared.raster_point.RasterPoint.{RasterPoint}
+use Rattle.hider.specs.declared.sample_grid.SampleGrid.{SampleGrid}
 use Rattle.hider.specs.CellValues.{CellValues}
+use Rattle.hider.specs.Searching.{AreBeside}
 use Rattle.hider.specs.Coverage.{covers_facing, covers_triangle}
 
 -- a depth from near to far
@@ -49,6 +51,11 @@ pub record IsFlat (v : View) (k : CellValues) (i : ℕ) (f : FlatCell) : Type 0 
   pub d : f.d ≡ raster_point v (k.corner i 3 0)
   pub colour : f.colour ≡ k.colour i
   pub opacity : f.opacity ≡ k.opacity i
+
+-- cell i of cells that stay where they are lies beside the pixels of a grid of samples
+abbrev pub IsCellBeside : View → CellValues → ℕ → SampleGrid → Type 0
+IsCellBeside v k i g =
+    AreBeside g (raster_point v (k.corner i 0 0)).place (raster_point v (k.corner i 1 0)).place (raster_point v (k.corner i 2 0)).place (raster_point v (k.corner i 3 0)).place
 
 -- what a triangle of a micropolygon shows, if it is one
 abbrev pub facing_covers : FlatCell → Option Facing → Spot → Option Fragment

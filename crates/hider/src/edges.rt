@@ -39,10 +39,18 @@ fn owns_edge(dx: i64, dy: i64) -> bool
     dy < 0 || dy == 0 && dx > 0
 }
 
-fn is_on_side(side: i64, owned: bool) -> bool
+/// Whether the side of an edge on which a place lies is the inner one, or the place lies on the edge and is its own.
+pub(crate) fn is_on_side(side: i64, owned: bool) -> bool
     ensures { result ≡ by_side side owned }
 {
     side > 0 || side == 0 && owned
+}
+
+/// Whether the edge from `a` to `b` owns the places on it.
+pub(crate) fn owns_places(a: Spot, b: Spot) -> bool
+    ensures { result ≡ owns (b.x -ℤ a.x) (b.y -ℤ a.y) }
+{
+    owns_edge(less(b.x(), a.x()), less(b.y(), a.y()))
 }
 
 /// Whether `s` lies inside the edge from `a` to `b`, or on it where the edge owns it.
@@ -50,8 +58,5 @@ fn is_on_side(side: i64, owned: bool) -> bool
 pub fn is_inside_edge(a: Spot, b: Spot, s: Spot) -> bool
     ensures { result ≡ is_inside a b s }
 {
-    is_on_side(
-        edge_at(a, b, s),
-        owns_edge(less(b.x(), a.x()), less(b.y(), a.y())),
-    )
+    is_on_side(edge_at(a, b, s), owns_places(a, b))
 }

@@ -1,28 +1,54 @@
 // A triangle of a micropolygon of one colour, turned so that its area is positive.
-ghost use Rattle.std.specs.Prelude.{◌≡◌, ◌≤◌, ◌^◌, ◌<ℤ◌, pos, true, false, unsigned_abs, MatchOption, IfSome};
-ghost use Rattle.fixed_math.specs.Edges.{edge};
+ghost use Rattle.std.specs.Prelude.{◌≡◌, ◌≤◌, ◌^◌, ◌<ℤ◌, ◌-ℤ◌, pos, true, false, unsigned_abs, MatchOption, IfSome};
+ghost use Rattle.fixed_math.specs.Edges.{edge, owns};
 ghost use Rattle.hider.specs.Coverage.{is_in_three, areas_at};
 ghost use Rattle.hider.specs.Weighing.{AreAreas};
 
 use crate::areas::Areas;
-use crate::coverage::is_in_triangle;
-use crate::means::areas_at;
+use crate::edges::{edge_at, is_on_side, owns_places};
 use crate::raster_point::RasterPoint;
 use crate::spot::Spot;
 
-/// A triangle whose twofold area is `whole`, above 0.
+/// A triangle whose twofold area is `whole`, above 0, with what its three edges in turn own of the places on them.
 #[derive(Clone, Copy)]
 pub(crate) struct Facing {
     pub(crate) a: RasterPoint,
     pub(crate) b: RasterPoint,
     pub(crate) c: RasterPoint,
     pub(crate) whole: i64,
+    first: bool,
+    second: bool,
+    third: bool,
+    pub(crate) ghost first_is: { first ≡ owns (b.place.x -ℤ a.place.x) (b.place.y -ℤ a.place.y) },
+    pub(crate) ghost second_is: { second ≡ owns (c.place.x -ℤ b.place.x) (c.place.y -ℤ b.place.y) },
+    pub(crate) ghost third_is: { third ≡ owns (a.place.x -ℤ c.place.x) (a.place.y -ℤ c.place.y) },
     pub(crate) ghost whole_is: { whole ≡ edge a.place b.place c.place },
     pub(crate) ghost some: { pos 0 <ℤ whole },
+    pub(crate) ghost small: { unsigned_abs whole ≤ 2 ^ 59 },
 }
 
 impl Facing {
     ghost use Rattle.hider.specs.Flat.{IsFacingOf};
+
+    /// The triangle of three corners whose twofold area is `whole`, above 0.
+    fn turned(a: &RasterPoint, b: &RasterPoint, c: &RasterPoint, whole: i64) -> Facing
+        requires whole { whole ≡ edge a.now.place b.now.place c.now.place }
+        requires some { pos 0 <ℤ whole }
+        requires small { unsigned_abs whole ≤ 2 ^ 59 }
+        ensures a { result.a ≡ a.now }
+        ensures b { result.b ≡ b.now }
+        ensures c { result.c ≡ c.now }
+    {
+        Facing {
+            a: *a,
+            b: *b,
+            c: *c,
+            whole,
+            first: owns_places(a.place, b.place),
+            second: owns_places(b.place, c.place),
+            third: owns_places(c.place, a.place),
+        }
+    }
 
     /// The triangle of three corners, turned so that its area is positive: `area` is its twofold area with its sign.
     pub(crate) fn of(a: &RasterPoint, b: &RasterPoint, c: &RasterPoint, area: i64) -> Option<Facing>
@@ -31,19 +57,9 @@ impl Facing {
         ensures { IsFacingOf a.now b.now c.now result }
     {
         if area > 0 {
-            Some(Facing {
-                a: *a,
-                b: *b,
-                c: *c,
-                whole: area,
-            })
+            Some(Facing::turned(a, b, c, area))
         } else if area < 0 {
-            Some(Facing {
-                a: *a,
-                b: *c,
-                c: *b,
-                whole: -area,
-            })
+            Some(Facing::turned(a, c, b, -area))
         } else {
             None
         }
@@ -56,10 +72,23 @@ impl Facing {
         ensures parts { IfSome result (λ w. AreAreas w) }
         ensures small { IfSome result (λ w. unsigned_abs w.whole ≤ 2 ^ 59) }
     {
-        if is_in_triangle(self.a.place, self.b.place, self.c.place, s) {
-            Some(areas_at(self.a.place, self.b.place, self.c.place, s))
-        } else {
-            None
+        let at_c = edge_at(self.a.place, self.b.place, s);
+        if !is_on_side(at_c, self.first) {
+            return None;
         }
+        let at_a = edge_at(self.b.place, self.c.place, s);
+        if !is_on_side(at_a, self.second) {
+            return None;
+        }
+        let at_b = edge_at(self.c.place, self.a.place, s);
+        if !is_on_side(at_b, self.third) {
+            return None;
+        }
+        Some(Areas {
+            a: at_a,
+            b: at_b,
+            c: at_c,
+            whole: self.whole,
+        })
     }
 }

@@ -1,17 +1,18 @@
 // The cells of a grid that stays where it is: its points are put on the raster once.
-ghost use Rattle.std.specs.Prelude.{◌≡◌, ◌<◌, ◌≤◌, ◌^◌, ◌+ℤ◌, [], ◌∷◌, OnOk, ℕ, length, unsigned_abs};
+ghost use Rattle.std.specs.Prelude.{◌≡◌, ◌<◌, ◌≤◌, ◌^◌, ◌+ℤ◌, [], ◌∷◌, IsTrue, OnOk, ℕ, length, unsigned_abs};
 ghost use Rattle.std.specs.List.{cons_option};
 ghost use Rattle.std.specs.Option.{option_and_then};
 ghost use Rattle.transforms.specs.declared.view.View.{View};
 ghost use Rattle.hider.specs.Bounding.{bounds_of};
-ghost use Rattle.hider.specs.CellValues.{CellValues, grid_values, micropolygon_of, micropolygons_of, cell_when};
+ghost use Rattle.hider.specs.CellValues.{CellValues, grid_values, micropolygon_of, micropolygons_of, cell_when, values_of};
 ghost use Rattle.hider.specs.Cells.{still, seen};
 ghost use Rattle.hider.specs.Coverage.{covers};
-ghost use Rattle.hider.specs.Flat.{AreOnRaster, IsFlat, are_all_seen, flat_quad};
+ghost use Rattle.hider.specs.Flat.{AreOnRaster, IsCellBeside, IsFlat, are_all_seen, flat_quad};
 ghost use Rattle.hider.specs.Fragments.{covering};
 ghost use Rattle.hider.specs.Searching.{IsPartOf, StaysIn};
-ghost use Rattle.hider.specs.Tiles.{HavePut, sample_count};
+ghost use Rattle.hider.specs.Tiles.{HavePut, IsSampleGrid, sample_count};
 
+use crate::beside::are_beside;
 use crate::bounds::Bounds;
 use crate::edges::edge_at;
 use crate::extremes::{greatest_of, least_of};
@@ -149,6 +150,48 @@ fn flat_cell(grid: &GridRef<'_>, seen: &[RasterPoint], cell: usize) -> FlatCell
     }
 }
 
+/// Whether the corners of cell `cell` of a grid, whose points are on the raster, all lie beyond one side of a tile's pixels.
+fn lies_beside(tile: &SampleGrid, grid: &GridRef<'_>, seen: &[RasterPoint], cell: usize) -> bool
+    requires valid { IsSampleGrid tile.now }
+    requires count { length seen.now ≡ length grid.now.p.now }
+    requires cell { cell < (values_of grid.now).count }
+    ensures { IsTrue result → (v : View) → AreOnRaster v grid.now.p.now seen.now → IsCellBeside v (values_of grid.now) cell tile.now }
+{
+    let columns = grid.columns;
+    let n = first_of(columns, cell);
+    are_beside(
+        tile,
+        seen[n],
+        seen[n + 1],
+        seen[n + columns + 1],
+        seen[n + columns],
+    )
+}
+
+/// Puts in what cell `cell` of a grid shows at each sample, where its points are on the raster. Most cells of a large grid lie
+/// beside a tile, and are left at once.
+fn hide_at(
+    lists: &mut [FragmentList],
+    places: &Places<'_>,
+    grid: &GridRef<'_>,
+    seen: &[RasterPoint],
+    cell: usize,
+    one_sided: bool,
+    flip: bool,
+) -> Result<(), NoMemory>
+    requires enough { sample_count places.now.grid ≤ length lists.old }
+    requires count { length seen.now ≡ length grid.now.p.now }
+    requires cell { cell < (values_of grid.now).count }
+    ensures { OnOk result ((v : View) → AreOnRaster v grid.now.p.now seen.now → HavePut places.now.grid (covering v (still one_sided flip (cell_when (values_of grid.now) cell 0) ∷ [])) lists.old lists.new) }
+{
+    if lies_beside(&places.grid, grid, seen, cell) {
+        return Ok(());
+    }
+    let flat = flat_cell(grid, seen, cell);
+    hide_flat(lists, places, &flat, one_sided, flip)?;
+    Ok(())
+}
+
 /// Puts in what the cells of a grid show at each sample, where its points are on the raster.
 pub(crate) fn hide_grid(
     lists: &mut [FragmentList],
@@ -160,11 +203,10 @@ pub(crate) fn hide_grid(
 ) -> Result<(), NoMemory>
     requires enough { sample_count places.now.grid ≤ length lists.old }
     requires count { length seen.now ≡ length grid.now.p.now }
-    ensures { OnOk result ((v : View) → AreOnRaster v grid.now.p.now seen.now → HavePut places.now.grid (covering v (micropolygons_of (grid_values grid.now.columns grid.now.rows grid.now.p.now grid.now.ci.now grid.now.oi.now) one_sided flip)) lists.old lists.new) }
+    ensures { OnOk result ((v : View) → AreOnRaster v grid.now.p.now seen.now → HavePut places.now.grid (covering v (micropolygons_of (values_of grid.now) one_sided flip)) lists.old lists.new) }
 {
     for cell in 0..(grid.columns - 1) * (grid.rows - 1) {
-        let flat = flat_cell(grid, seen, cell);
-        hide_flat(lists, places, &flat, one_sided, flip)?;
+        hide_at(lists, places, grid, seen, cell, one_sided, flip)?;
     }
     Ok(())
 }

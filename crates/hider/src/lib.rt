@@ -3,6 +3,7 @@
 #![tactic(auto)]
 
 mod areas;
+mod beside;
 mod bounded;
 mod bounds;
 mod cell;

@@ -3,7 +3,7 @@ use Rattle.std.specs.Prelude.{ℤ, pos, List, slice_index_or}
 use Rattle.fixed_math.specs.Spots.{Spot}
 use Rattle.hider.specs.Tiles.{sample_of}
 use Rattle.hider.proofs.Small.{read64}
-use Rattle.filter_ppm.proofs.ShownSamples.{on_raster}
+use Rattle.filter_ppm.proofs.Places.{on_raster}
 use Rattle.filter_ppm.proofs.sampling.sample_at.Goals as goal
 
 pub new-requires-clause-x : goal.new-requires-clause-x

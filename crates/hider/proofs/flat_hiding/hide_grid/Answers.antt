@@ -8,6 +8,6 @@ loop-cell-preserved c = λ v h.
     let g = c.args.grid.now in
     let k = grid_values g.columns g.rows g.p.now g.ci.now g.oi.now in
     let i = c.loop-cell.cell in
-    have_put_next v c.args.places.now.grid (micropolygon_of k c.args.one_sided c.args.flip) i c.args.lists.now c.loop-cell.lists c.hide_flat.new.lists (c.loop-cell.invariant v h)
-    (same_at_all_times v g.columns g.rows g.p.now g.ci.now g.oi.now i c.args.one_sided c.args.flip c.args.places.now.grid c.loop-cell.lists c.hide_flat.new.lists
-    (c.in_ok-hide_flat.ensures v k i (c.flat_cell-flat.ensures v h)))
+    have_put_next v c.args.places.now.grid (micropolygon_of k c.args.one_sided c.args.flip) i c.args.lists.now c.loop-cell.lists c.hide_at.new.lists (c.loop-cell.invariant v h)
+    (same_at_all_times v g.columns g.rows g.p.now g.ci.now g.oi.now i c.args.one_sided c.args.flip c.args.places.now.grid c.loop-cell.lists c.hide_at.new.lists
+    (c.in_ok-hide_at.ensures v h))
