@@ -162,8 +162,10 @@ fn run_loop<L: Illumination>(
     run_block(ask, m, lights, most);
 }
 
-// The body of a statement over lights: of `illuminance` once for each light, of `illuminate` and `solar` where the light is lit.
+// The body of a statement over lights: of `illuminance` once for each light, of `illuminate` and `solar` where the light is lit. It holds
+// points and answers of a whole grid, which a level of nesting without lights has no need of on the stack.
 #[cycle(run)]
+#[inline(never)]
 fn run_lights<L: Illumination>(
     over: LightStmt,
     args: &[Register],
