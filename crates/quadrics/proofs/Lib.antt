@@ -1,0 +1,5 @@
+mod Denominators
+mod Derivatives
+mod Mixes
+mod Quadratics
+mod SlopeSteps

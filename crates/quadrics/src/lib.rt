@@ -1,0 +1,14 @@
+//! Quadrics: rational patches of spheres, cylinders, cones and disks. A point is the exact quotient of two Bernstein sums, rounded down once.
+#![tactic(auto)]
+
+mod mixing;
+mod quadric;
+mod quotient;
+mod round;
+mod rows;
+mod ruled;
+mod spans;
+
+pub use quadric::Quadric;
+pub use round::Round;
+pub use ruled::Ruled;
