@@ -4,5 +4,5 @@ pub mod Sizes
 pub mod Fitting
 pub mod Seen
 pub mod Stacks
-mod Culls
+pub mod Culls
 pub mod Meetings

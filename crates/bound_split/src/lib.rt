@@ -7,10 +7,12 @@
 mod deciding;
 mod extents;
 mod lengths;
+mod sights;
 mod splits;
 mod walk;
 
 pub use deciding::decide;
 pub use extents::{Extent, Reach, extent_of, meets};
+pub use sights::{Sight, sight_of};
 pub use splits::{Decision, halves};
 pub use walk::{Leaf, Walk};

@@ -2,7 +2,7 @@
 ghost use Rattle.std.specs.Prelude.{◌≡◌, ◌≤◌, ◌<◌, ◌+◌, ℕ, List, [], ◌∷◌, ◌++◌, Bool, true, length, filter, MatchOption, IfSome, OnSome, IfNone, pos, ◌≤ℤ◌};
 ghost use Rattle.patches.specs.Parts.{Part, IsPart};
 ghost use Rattle.bound_split.specs.declared.splits.Decision.{Decision};
-ghost use Rattle.bound_split.specs.Decisions.{decision_of};
+ghost use Rattle.bound_split.specs.Decisions.{decision_of, FitsPart};
 ghost use Rattle.bound_split.specs.Leaves.{leaves, pending, IsBelow, IsDeepFrom};
 ghost use Rattle.bound_split.specs.Culling.{IsTest, Skips, visits};
 
@@ -102,6 +102,34 @@ impl Walk {
     {
         next_leaf(&mut self.stack, s, camera, rate, bound, keeps)
     }
+
+    /// Takes the next piece that is to be visited, none at the end. What is dropped in this way isn't split; `visit` goes on below a
+    /// piece that was taken.
+    pub fn take(&mut self) -> Option<Piece>
+        ensures taken { MatchOption result ((self.old ≡ []) × (self.new ≡ [])) (λ piece. self.old ≡ self.new ++ piece ∷ []) }
+        ensures part { IfSome result (λ piece. IsPart piece) }
+        ensures deep { IfSome result (λ piece. IsDeepFrom 0 (self.new ++ piece ∷ [])) }
+    {
+        let piece = self.stack.pop()?;
+        piece.recall();
+        Some(piece)
+    }
+
+    /// Visits a piece that was taken: it is the next leaf where it is diced, else its halves are to be visited, the first one before
+    /// the second.
+    pub fn visit(&mut self, piece: Piece, decision: Decision) -> Option<Leaf>
+        requires deep { IsDeepFrom 0 (self.old ++ piece ∷ []) }
+        requires fits { FitsPart decision piece }
+        ensures leaf { (decide : Part → Decision) → decide piece ≡ decision →
+            IfSome result (λ leaf. (leaf.piece ≡ piece) × (leaves decide piece ≡ piece ∷ []) × (self.new ≡ self.old)) }
+        ensures split { (decide : Part → Decision) → decide piece ≡ decision →
+            IfNone result (pending decide self.new ≡ leaves decide piece ++ pending decide self.old) }
+        ensures fewer { IfNone result (visits self.new < visits (self.old ++ piece ∷ [])) }
+        ensures sizes { IfSome result (λ leaf. decision ≡ Decision.Dice leaf.p leaf.q) }
+        ensures small { IfSome result (λ leaf. IsPart leaf.piece × (leaf.p ≤ 4) × (leaf.q ≤ 4)) }
+    {
+        visit(&mut self.stack, piece, decision)
+    }
 }
 
 /// The next leaf of a stack of pieces that a test keeps.
@@ -131,7 +159,8 @@ fn next_leaf<S: Surface, F: Fn(Piece) -> bool>(
     while let Some(piece) = stack.pop() {
         piece.recall();
         if keeps(piece) {
-            if let Some(leaf) = visit(stack, piece, s, camera, rate, bound) {
+            let decision = decide(s, &piece, camera, rate, bound);
+            if let Some(leaf) = visit(stack, piece, decision) {
                 return Some(leaf);
             }
         }
@@ -140,28 +169,19 @@ fn next_leaf<S: Surface, F: Fn(Piece) -> bool>(
 }
 
 /// The piece as a leaf where it is diced; else its halves go to the stack, the first one on top.
-fn visit<S: Surface>(
-    stack: &mut ArrayVec<Piece, 17>,
-    piece: Piece,
-    s: &S,
-    camera: &Camera,
-    rate: Num,
-    bound: Num,
-) -> Option<Leaf>
+fn visit(stack: &mut ArrayVec<Piece, 17>, piece: Piece, decision: Decision) -> Option<Leaf>
     requires deep { IsDeepFrom 0 (stack.old.items ++ piece ∷ []) }
-    requires low { pos 0 ≤ℤ bound }
-    requires high { bound ≤ℤ pos 536870912 }
-    ensures leaf { let decide = decision_of camera.now rate bound (S.width_of s.now) (S.net_of s.now) in
+    requires fits { FitsPart decision piece }
+    ensures leaf { (decide : Part → Decision) → decide piece ≡ decision →
         IfSome result (λ leaf. (leaf.piece ≡ piece) × (leaves decide piece ≡ piece ∷ []) × (stack.new.items ≡ stack.old.items)) }
-    ensures split { let decide = decision_of camera.now rate bound (S.width_of s.now) (S.net_of s.now) in
+    ensures split { (decide : Part → Decision) → decide piece ≡ decision →
         IfNone result (pending decide stack.new.items ≡ leaves decide piece ++ pending decide stack.old.items) }
     ensures fewer { IfNone result (visits stack.new.items < visits (stack.old.items ++ piece ∷ [])) }
-    ensures sizes { let decide = decision_of camera.now rate bound (S.width_of s.now) (S.net_of s.now) in
-        IfSome result (λ leaf. decide leaf.piece ≡ Decision.Dice leaf.p leaf.q) }
+    ensures sizes { IfSome result (λ leaf. decision ≡ Decision.Dice leaf.p leaf.q) }
     ensures small { IfSome result (λ leaf. IsPart leaf.piece × (leaf.p ≤ 4) × (leaf.q ≤ 4)) }
     ensures deep { IsDeepFrom 0 stack.new.items }
 {
-    match decide(s, &piece, camera, rate, bound) {
+    match decision {
         Decision::SplitU => {
             let [low, high] = halves(&piece, true);
             push_halves(stack, &piece, low, high);

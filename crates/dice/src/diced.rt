@@ -5,7 +5,7 @@ ghost use Rattle.patches.specs.Lists.{Each};
 ghost use Rattle.dice.specs.Grids.{line_count, diced_points};
 ghost use Rattle.dice.specs.Normals.{normal};
 
-use crate::grid::collect_points;
+use crate::grid::{collect_points, lines_along};
 use crate::normals::collect_normals;
 use bumpalo::Bump;
 use bumpalo::collections::into_bump_slice;
@@ -44,16 +44,6 @@ pub struct Diced<'a> {
     pub ghost rows_to: { rows ≤ 17 },
     pub ghost points: { length p.now ≡ columns * rows },
     pub ghost normals: { length n.now ≡ columns * rows },
-}
-
-/// The number of lines that bound 2^`p` cells.
-fn lines_along(p: u8) -> usize
-    requires { p ≤ 4 }
-    ensures value { result ≡ line_count p }
-    ensures from { 2 ≤ result }
-    ensures to { result ≤ 17 }
-{
-    (1 << p) + 1
 }
 
 /// The diced grid of a leaf in `arena`: 2^`p` + 1 columns by 2^`q` + 1 rows of points, of coordinates with a raw magnitude of at

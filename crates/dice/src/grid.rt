@@ -1,12 +1,13 @@
 // The lines of a diced grid and the points on them.
-ghost use Rattle.std.specs.Prelude.{◌≡◌, ◌≤◌, ◌<◌, ◌*◌, ◌+◌, ◌^◌, ℕ, List, ◌++◌, length, map, IfOk};
+ghost use Rattle.std.specs.Prelude.{◌≡◌, ◌≤◌, ◌<◌, ◌*◌, ◌+◌, ◌^◌, ℕ, List, ◌++◌, length, map, IfOk, IfSome};
 ghost use Rattle.std.specs.List.{range_with_len};
 ghost use Rattle.patches.specs.Boxes.{IsWithin};
+ghost use Rattle.patches.specs.Curves.{IsCurve};
 ghost use Rattle.patches.specs.Lists.{Each};
 ghost use Rattle.dice.specs.Grids.{line_count, line_at, lines, row_points, diced_points};
 
 use fixed_math::{NoMemory, Vec3};
-use patches::{Dyadic, Piece, Surface};
+use patches::{Curve, Dyadic, Piece, Surface};
 use std::alloc::{Allocator, Global};
 
 /// The parameter of line `k`, of the lines that cut the part `i` of 2^`a` into 2^`p` cells. It is that of column `k` of a diced
@@ -23,6 +24,28 @@ pub fn line_at(a: u8, i: u16, p: u8, k: u16) -> Dyadic
     Dyadic::new((i * cells + k) * step)
 }
 
+/// The number of lines that bound 2^`p` cells.
+pub(crate) fn lines_along(p: u8) -> usize
+    requires { p ≤ 4 }
+    ensures value { result ≡ line_count p }
+    ensures from { 2 ≤ result }
+    ensures to { result ≤ 17 }
+{
+    (1 << p) + 1
+}
+
+/// The point at `u` and `v`, by the curve at `v` where there is one.
+fn point_on<S: Surface>(curve: &Option<Curve>, s: &S, u: Dyadic, v: Dyadic) -> Vec3
+    requires { IfSome curve.now (λ curve. IsCurve curve (λ u. S.point_of s.now u v) (λ u. S.du_of s.now u v) (λ u. S.dv_of s.now u v)) }
+    ensures value { result ≡ S.point_of s.now u v }
+    ensures small { IsWithin (2 ^ 30) result }
+{
+    match curve {
+        Some(curve) => curve.point(u),
+        None => s.point(u, v),
+    }
+}
+
 /// Appends the row of the grid at `v`.
 fn push_row<S: Surface, A: Allocator>(
     points: &mut Vec<Vec3, A>,
@@ -36,10 +59,11 @@ fn push_row<S: Surface, A: Allocator>(
     ensures value { IfOk result (λ _. points.new.items ≡ points.old.items ++ row_points (S.point_of s.now) v (lines piece.now.a piece.now.i p)) }
     ensures small { IfOk result (λ _. Each (IsWithin (2 ^ 30)) points.new.items) }
 {
+    let curve = s.curve_at(v);
     let cells: u16 = 1 << p;
     for k in 0..cells + 1 {
         let u = line_at(piece.a, piece.i, p, k);
-        points.push(s.point(u, v))?;
+        points.push(point_on(&curve, s, u, v))?;
     }
     Ok(())
 }
@@ -58,7 +82,7 @@ pub(crate) fn collect_points<S: Surface, A: Allocator>(
     ensures count { IfOk result (λ points. length points.items ≡ line_count p * line_count q) }
     ensures small { IfOk result (λ points. Each (IsWithin (2 ^ 30)) points.items) }
 {
-    let mut points = Vec::new(alloc);
+    let mut points = Vec::with_capacity(alloc, lines_along(p) * lines_along(q))?;
     let cells: u16 = 1 << q;
     for l in 0..cells + 1 {
         let v = line_at(piece.b, piece.j, q, l);

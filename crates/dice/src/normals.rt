@@ -1,15 +1,16 @@
 // The normals of a diced grid.
-ghost use Rattle.std.specs.Prelude.{◌≡◌, ◌≤◌, ◌<◌, ◌*◌, ◌+◌, ◌^◌, ℕ, pos, true, ◌*ℤ◌, ◌-ℤ◌, List, ◌++◌, length, map, unsigned_abs, slice_index_or, IfOk};
+ghost use Rattle.std.specs.Prelude.{◌≡◌, ◌≤◌, ◌<◌, ◌*◌, ◌+◌, ◌^◌, ℕ, pos, true, ◌*ℤ◌, ◌-ℤ◌, List, ◌++◌, length, map, unsigned_abs, slice_index_or, IfOk, IfSome};
 ghost use Rattle.std.specs.List.{range_with_len};
 ghost use Rattle.fixed_math.specs.Fixed.{IsRaw};
+ghost use Rattle.patches.specs.Curves.{IsCurve};
 ghost use Rattle.patches.specs.Slopes.{AreBelow};
 ghost use Rattle.dice.specs.Grids.{line_count, line_at, lines, row_points, diced_points};
 ghost use Rattle.dice.specs.Normals.{item, cross as cross_of, direction, normal, AreShort};
 
-use crate::grid::line_at;
+use crate::grid::{line_at, lines_along};
 use fixed_math::{NoMemory, Num, Vec3, minus, times, unit};
 use lanes::wide::unit_wide;
-use patches::{Dyadic, Piece, Surface};
+use patches::{Curve, Dyadic, Piece, Surface};
 use std::alloc::Allocator;
 
 /// One number of a cross product: `a * d - b * c`.
@@ -116,11 +117,16 @@ fn wide_unit(c: [i128; 3]) -> Vec3
     unit(c)
 }
 
-/// The unit normal of the surface at `u` and `v`, by its derivatives.
-fn normal_at<S: Surface>(s: &S, u: Dyadic, v: Dyadic) -> Vec3
+/// The unit normal of the surface at `u` and `v` by its derivatives, those along the curve at `v` where there is one.
+fn normal_on<S: Surface>(curve: &Option<Curve>, s: &S, u: Dyadic, v: Dyadic) -> Vec3
+    requires { IfSome curve.now (λ curve. IsCurve curve (λ u. S.point_of s.now u v) (λ u. S.du_of s.now u v) (λ u. S.dv_of s.now u v)) }
     ensures { result ≡ normal (S.du_of s.now) (S.dv_of s.now) u v }
 {
-    cross_direction(s.du_at(u, v), s.dv_at(u, v))
+    let (across, up) = match curve {
+        Some(curve) => (curve.du(u), curve.dv(u)),
+        None => (s.du_at(u, v), s.dv_at(u, v)),
+    };
+    cross_direction(across, up)
 }
 
 /// Appends the normals of the row of the grid at `v`.
@@ -134,10 +140,11 @@ fn push_normals<S: Surface, A: Allocator>(
     requires cells { p ≤ 4 }
     ensures { IfOk result (λ _. normals.new.items ≡ normals.old.items ++ row_points (normal (S.du_of s.now) (S.dv_of s.now)) v (lines piece.now.a piece.now.i p)) }
 {
+    let curve = s.curve_at(v);
     let cells: u16 = 1 << p;
     for k in 0..cells + 1 {
         let u = line_at(piece.a, piece.i, p, k);
-        normals.push(normal_at(s, u, v))?;
+        normals.push(normal_on(&curve, s, u, v))?;
     }
     Ok(())
 }
@@ -155,7 +162,7 @@ pub(crate) fn collect_normals<S: Surface, A: Allocator>(
     ensures value { IfOk result (λ normals. normals.items ≡ diced_points (normal (S.du_of s.now) (S.dv_of s.now)) piece.now p q) }
     ensures count { IfOk result (λ normals. length normals.items ≡ line_count p * line_count q) }
 {
-    let mut normals = Vec::new(alloc);
+    let mut normals = Vec::with_capacity(alloc, lines_along(p) * lines_along(q))?;
     let cells: u16 = 1 << q;
     for l in 0..cells + 1 {
         let v = line_at(piece.b, piece.j, q, l);

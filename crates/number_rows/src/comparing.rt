@@ -1,10 +1,12 @@
 // Tests, which give the number 1 or 0, and choices.
-ghost use Rattle.std.specs.Prelude.{◌≡◌, ℤ, pos, cond, int_lt, int_le, ◌&&◌, ◌||◌, not};
+ghost use Rattle.std.specs.Prelude.{◌≡◌, ℕ, ℤ, ◌<◌, ◌≤◌, pos, false, length, get_or, cond, int_lt, int_le, ◌&&◌, ◌||◌, not};
 ghost use Rattle.std.specs.Ordering.{int_eq};
 ghost use Rattle.builtins.specs.Values.{is_nonzero};
+ghost use Rattle.number_rows.specs.Planes.{plane_at, IsPlane};
 ghost use Rattle.number_rows.specs.Truths as truths;
 
 use crate::kernels::{One, Three, Two};
+use crate::plane::Plane;
 use crate::raw::Raw;
 use fixed_math::Num;
 
@@ -183,5 +185,17 @@ impl Three for Chosen {
     #[inline(always)]
     fn apply(x: Raw, y: Raw, z: Raw) -> Raw {
         one_of(is_nonzero(x), y, z)
+    }
+}
+
+/// The first of so many truths say where the numbers of a plane aren't 0.
+pub fn nonzero_places(a: &Plane, count: usize, out: &mut [bool])
+    requires plane { IsPlane count a.now }
+    requires room { count ≤ length out.old }
+    ensures long { length out.new ≡ length out.old }
+    ensures each { (i : ℕ) → i < count → get_or out.new i false ≡ is_nonzero (plane_at a.now i) }
+{
+    for i in 0..count {
+        out[i] = is_nonzero(a.at(i));
     }
 }

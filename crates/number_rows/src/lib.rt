@@ -12,9 +12,9 @@ mod raw;
 mod triples;
 
 pub use choice::{number_row, order_rows, part_row, parts_rows, three_parts_rows};
-pub use comparing::{And, Chosen, Differs, Not, Or, Same};
+pub use comparing::{And, Chosen, Differs, Not, Or, Same, nonzero_places};
 pub use kernels::{One, Power, SmoothStep, Step, Three, Two};
-pub use loops::{copy, fill, one_plane, three_planes, two_planes};
+pub use loops::{copy, fill, give_raws, one_plane, take_raws, three_planes, two_planes};
 pub use plane::{Plane, Planes};
 pub use raw::Raw;
 pub use triples::{

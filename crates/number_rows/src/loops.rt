@@ -1,5 +1,6 @@
 // Operations on rows, one loop each.
-ghost use Rattle.std.specs.Prelude.{◌≡◌, ℕ, ◌<◌, ◌≤◌, pos, length, get_or};
+ghost use Rattle.std.specs.Prelude.{◌≡◌, ℕ, ◌+◌, ◌<◌, ◌≤◌, pos, length, get_or};
+ghost use Rattle.fixed_math.specs.Fixed.{IsRaw};
 ghost use Rattle.number_rows.specs.Planes.{plane_at, IsPlane};
 
 use crate::kernels::{One, Three, Two};
@@ -35,6 +36,42 @@ pub fn copy(a: &Plane, out: &mut [Raw])
     match a {
         Plane::Row(row) => copy_row(row, out),
         Plane::Value(x) => fill(*x, out),
+    }
+}
+
+/// The first places of a row take so many raw values in 64 bits, from one on.
+pub fn take_raws(raws: &[i64], start: usize, count: usize, out: &mut [Raw])
+    requires raws { (k : ℕ) → IsRaw (get_or raws.now k (pos 0)) }
+    requires fits { start + count ≤ length raws.now }
+    requires room { count ≤ length out.old }
+    ensures long { length out.new ≡ length out.old }
+    ensures each { (i : ℕ) → i < count → get_or out.new i (pos 0) ≡ get_or raws.now (start + i) (pos 0) }
+{
+    for i in 0..count {
+        out[i] = raw_at(raws, start + i);
+    }
+}
+
+#[inline(always)]
+fn raw_at(raws: &[i64], k: usize) -> Raw
+    requires raws { (k : ℕ) → IsRaw (get_or raws.now k (pos 0)) }
+    requires there { k < length raws.now }
+    ensures { result ≡ get_or raws.now k (pos 0) }
+{
+    Raw::of_raw(raws[k])
+}
+
+/// So many raw values in 64 bits, from one on, take the numbers of a plane.
+pub fn give_raws(a: &Plane, out: &mut [i64], start: usize, count: usize)
+    requires plane { IsPlane count a.now }
+    requires room { start + count ≤ length out.old }
+    ensures long { length out.new ≡ length out.old }
+    ensures each { (i : ℕ) → i < count → get_or out.new (start + i) (pos 0) ≡ plane_at a.now i }
+    ensures before { (k : ℕ) → k < start → get_or out.new k (pos 0) ≡ get_or out.old k (pos 0) }
+    ensures raws { ((k : ℕ) → IsRaw (get_or out.old k (pos 0))) → (k : ℕ) → IsRaw (get_or out.new k (pos 0)) }
+{
+    for i in 0..count {
+        out[start + i] = a.at(i).raw();
     }
 }
 

@@ -40,6 +40,24 @@ impl Raw {
         Raw { raw: 0 }
     }
 
+    /// The number of a raw value in 64 bits that is in range.
+    #[inline(always)]
+    pub fn of_raw(raw: i64) -> Raw
+        requires { IsRaw raw }
+        ensures { result ≡ raw }
+    {
+        Raw { raw: raw as i32 }
+    }
+
+    /// The raw value in 64 bits.
+    #[inline(always)]
+    pub fn raw(self) -> i64
+        ensures value { result ≡ self }
+        ensures raw { IsRaw result }
+    {
+        self.raw as i64
+    }
+
     // A raw value in range.
     #[inline(always)]
     pub(crate) fn from_bits(raw: i32) -> Raw

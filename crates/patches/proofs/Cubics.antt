@@ -1,6 +1,7 @@
 -- Blossoms of degree 2, and the weights of slopes of degree 3.
-use Rattle.std.proofs.Common.{◌≡◌, ◌∙◌, ap, ℕ, ◌+◌, ◌-◌, ◌*◌, arith, List, [], ◌∷◌, slice_index_or}
-use Rattle.std.specs.Prelude.{ℤ, pos, ◌+ℤ◌, ◌-ℤ◌, ◌*ℤ◌}
+use Rattle.std.proofs.Common.{◌≡◌, ◌∙◌, ap, ℕ, ◌+◌, ◌-◌, ◌*◌, ◌^◌, ◌≤◌, arith, List, [], ◌∷◌, slice_index_or, unsigned_abs, to_z, of_z}
+use Rattle.std.specs.Prelude.{ℤ, pos, ◌+ℤ◌, ◌*ℤ◌}
+use Rattle.std.specs.Int.{w64}
 use Rattle.std.proofs.lemmas.Int.{ints}
 use Rattle.fixed_math.specs.declared.vec3.Vec3.{Vec3}
 use Rattle.fixed_math.specs.declared.vec3.Axis.{Axis}
@@ -9,12 +10,8 @@ use Rattle.fixed_math.specs.Blossom.{denominator, blossom}
 use Rattle.fixed_math.specs.Tensor.{weights_3, weighted, weighted_net, blossom_net}
 use Rattle.fixed_math.proofs.Weights.{mul-add, mul-mul}
 use Rattle.fixed_math.proofs.Tensors.{blossom_same, weighted-weights_3}
+use Rattle.patches.proofs.Fractions.{same_64}
 use Rattle.patches.specs.Slopes.{weights_2}
-
--- a blossom of two arguments reads three control numbers
-pub blossom_same_2 : (s t : ℕ) (c d : ℕ → ℤ) → c 0 ≡ d 0 → c 1 ≡ d 1 → c 2 ≡ d 2 → blossom (s ∷ t ∷ []) c 0 ≡ blossom (s ∷ t ∷ []) d 0
-unfolding blossom
-blossom_same_2 s t c d e f g = rw (e, f, g)
 
 quadratic : (p s : ℕ) (a b c : ℤ) →
     pos (p * p) *ℤ a +ℤ (pos (2 * (p * s)) *ℤ b +ℤ (pos (s * s) *ℤ c +ℤ pos 0)) ≡ pos p *ℤ (pos p *ℤ a +ℤ pos s *ℤ b) +ℤ pos s *ℤ (pos p *ℤ b +ℤ pos s *ℤ c)
@@ -34,8 +31,6 @@ weighted_net_3_2 u v c =
     weighted-weights_2 v (λ y. weighted (weights_3 u) (λ x. c x y) 0) 0
     ∙ blossom_same (v ∷ v ∷ []) (λ y. weighted (weights_3 u) (λ x. c x y) 0) (λ y. blossom (u ∷ u ∷ u ∷ []) (λ x. c x y) 0) 0 (λ y. weighted-weights_3 u (λ x. c x y) 0)
 
--- the step between two control points, by other names of their places
-pub step_read : (ps : List Vec3) (a : Axis) (k l m n : ℕ) (z : ℤ) → z ≡ part_of a (slice_index_or ps l origin) -ℤ part_of a (slice_index_or ps k origin) → k ≡ m → l ≡ n →
-    z ≡ part_of a (slice_index_or ps n origin) -ℤ part_of a (slice_index_or ps m origin)
-step_read ps a k l m n z e f g =
-    e ∙ ap (λ i. part_of a (slice_index_or ps l origin) -ℤ part_of a (slice_index_or ps i origin)) f ∙ ap (λ i. part_of a (slice_index_or ps i origin) -ℤ part_of a (slice_index_or ps m origin)) g
+-- a coordinate of a control point, by another name of its place
+pub control_read : (ps : List Vec3) (a : Axis) (k m : ℕ) (z : ℤ) → unsigned_abs z ≤ 2 ^ 31 → z ≡ part_of a (slice_index_or ps k origin) → k ≡ m → to_z w64 (of_z w64 z) ≡ part_of a (slice_index_or ps m origin)
+control_read ps a k m z h e f = same_64 z (omega arith) ∙ e ∙ ap (λ i. part_of a (slice_index_or ps i origin)) f

@@ -4,18 +4,22 @@ ghost use Rattle.fixed_math.specs.declared.vec3.Vec3.{Vec3};
 ghost use Rattle.fixed_math.specs.Axes.{AreWithin, part_of, origin};
 ghost use Rattle.fixed_math.specs.Blossom.{denominator, blossom, ends};
 ghost use Rattle.fixed_math.specs.Tensor.{blossom_net, weighted_net, weights_3};
+ghost use Rattle.fixed_math.specs.Fixed.{sat};
 ghost use Rattle.fixed_math.specs.Whole.{floor_by as floor_of};
 ghost use Rattle.patches.specs.Boxes.{IsWithin};
 ghost use Rattle.patches.specs.BoxLaws.{bicubic_box, bicubic_inside, bicubic_parts, bicubic_rows};
 ghost use Rattle.patches.specs.Nets.{control, blossom_point, bicubic_point, bicubic_net, all_ends};
+ghost use Rattle.patches.specs.Curves.{value_at, slope_at, IsCurve};
 ghost use Rattle.patches.specs.Slopes.{bicubic_du, bicubic_dv, weights_2, steps_u, steps_v, AreBelow};
 
-use crate::blossoms::{Arguments, blossom_2, blossom_3, slope_of};
+use crate::blossoms::{Arguments, Column, blossom_3, column_at, ends_of};
 use crate::boxes::box_of_points;
+use crate::cubic::Cubic;
+use crate::curve::{Coordinate, Curve};
 use crate::piece::{Dyadic, Piece, Span, span_at};
 use crate::surface::Surface;
 use arrayvec::ArrayVec;
-use fixed_math::{Axis, Num, Vec3, floor_by, minus};
+use fixed_math::{Axis, Num, Vec3, floor_by};
 use std::marker::Model;
 
 /// The bicubic patch in Bezier form of sixteen points (RenderMan Interface 3.2, section 5.2, `Patch "bicubic"`), by rows of four,
@@ -44,127 +48,95 @@ impl Bicubic {
 }
 
 /// A coordinate of control point `k`.
-fn control_at(points: &[Vec3; 16], axis: Axis, k: usize) -> i128
+fn control_at(points: &[Vec3; 16], axis: Axis, k: usize) -> i64
     requires { k < 16 }
     ensures value { result ≡ part_of axis (slice_index_or points.now k origin) }
     ensures bound { unsigned_abs result ≤ 2 ^ 31 }
 {
-    points[k].part(axis).raw() as i128
+    points[k].part(axis).raw()
 }
 
-/// The step of a coordinate from control point `k` to control point `l`.
-fn step_at(points: &[Vec3; 16], axis: Axis, k: usize, l: usize) -> i128
-    requires from { k < 16 }
-    requires to { l < 16 }
-    ensures value { result ≡ part_of axis (slice_index_or points.now l origin) -ℤ part_of axis (slice_index_or points.now k origin) }
-    ensures bound { unsigned_abs result ≤ 2 ^ 32 }
-{
-    let from = control_at(points, axis, k);
-    let to = control_at(points, axis, l);
-    minus(to, from)
-}
-
-/// The blossom along u of row `j` of the control points.
-fn row(points: &[Vec3; 16], axis: Axis, j: usize, us: Arguments) -> i128
-    requires { j < 4 }
-    ensures value { result ≡ blossom (us.first ∷ us.second ∷ us.third ∷ []) (λ x. control 4 points.now axis x j) 0 }
+/// The blossom along v of column `k` of the control points.
+fn column(points: &[Vec3; 16], axis: Axis, k: usize, vs: Arguments) -> i128
+    requires { k < 4 }
+    ensures value { result ≡ blossom (vs.first ∷ vs.second ∷ vs.third ∷ []) (λ y. control 4 points.now axis k y) 0 }
     ensures bound { unsigned_abs result ≤ 2 ^ 67 }
 {
-    let a = control_at(points, axis, 4 * j);
-    let b = control_at(points, axis, 4 * j + 1);
-    let c = control_at(points, axis, 4 * j + 2);
-    let d = control_at(points, axis, 4 * j + 3);
-    blossom_3(us, a, b, c, d)
-}
-
-/// The blossom along u of the steps within row `j` of the control points.
-fn steps_across(points: &[Vec3; 16], axis: Axis, j: usize, u: u16) -> i128
-    requires row { j < 4 }
-    requires from_zero { u ≤ 4096 }
-    ensures value { result ≡ blossom (u ∷ u ∷ []) (λ x. steps_u (control 4 points.now axis) x j) 0 }
-    ensures bound { unsigned_abs result ≤ 2 ^ 56 }
-{
-    let a = step_at(points, axis, 4 * j, 4 * j + 1);
-    let b = step_at(points, axis, 4 * j + 1, 4 * j + 2);
-    let c = step_at(points, axis, 4 * j + 2, 4 * j + 3);
-    blossom_2(u, a, b, c)
-}
-
-/// The blossom along u of the steps from row `j` of the control points to the next.
-fn steps_up(points: &[Vec3; 16], axis: Axis, j: usize, us: Arguments) -> i128
-    requires { j < 3 }
-    ensures value { result ≡ blossom (us.first ∷ us.second ∷ us.third ∷ []) (λ x. steps_v (control 4 points.now axis) x j) 0 }
-    ensures bound { unsigned_abs result ≤ 2 ^ 68 }
-{
-    let a = step_at(points, axis, 4 * j, 4 * j + 4);
-    let b = step_at(points, axis, 4 * j + 1, 4 * j + 5);
-    let c = step_at(points, axis, 4 * j + 2, 4 * j + 6);
-    let d = step_at(points, axis, 4 * j + 3, 4 * j + 7);
-    blossom_3(us, a, b, c, d)
-}
-
-/// The coordinate by the blossom at `us` and `vs`, times 4096 six times.
-fn exact(points: &[Vec3; 16], axis: Axis, us: Arguments, vs: Arguments) -> i128
-    ensures value { result ≡ blossom_net (us.first ∷ us.second ∷ us.third ∷ []) (vs.first ∷ vs.second ∷ vs.third ∷ []) (control 4 points.now axis) }
-    ensures bound { unsigned_abs result ≤ 2 ^ 103 }
-{
-    let a = row(points, axis, 0, us);
-    let b = row(points, axis, 1, us);
-    let c = row(points, axis, 2, us);
-    let d = row(points, axis, 3, us);
+    let a = control_at(points, axis, k);
+    let b = control_at(points, axis, 4 + k);
+    let c = control_at(points, axis, 8 + k);
+    let d = control_at(points, axis, 12 + k);
     blossom_3(vs, a, b, c, d)
 }
 
-/// The coordinate by the blossom at `us` and `vs`, rounded down once.
-fn coordinate_at(points: &[Vec3; 16], axis: Axis, us: Arguments, vs: Arguments) -> Num
-    requires { AreWithin (2 ^ 30) points.now }
-    ensures { result ≡ floor_of (blossom_net (us.first ∷ us.second ∷ us.third ∷ []) (vs.first ∷ vs.second ∷ vs.third ∷ []) (control 4 points.now axis)) (denominator ^ 6) }
+/// Column `k` of the control points at `v`.
+fn column_of(points: &[Vec3; 16], axis: Axis, k: usize, v: u16) -> Column
+    requires place { k < 4 }
+    requires from_zero { v ≤ 4096 }
+    ensures place { result.place ≡ blossom (v ∷ v ∷ v ∷ []) (λ y. control 4 points.now axis k y) 0 }
+    ensures rise { result.rise ≡ pos 3 *ℤ blossom (v ∷ v ∷ []) (λ y. steps_v (control 4 points.now axis) k y) 0 }
+    ensures place_small { unsigned_abs result.place ≤ 2 ^ 67 }
+    ensures rise_small { unsigned_abs result.rise ≤ 2 ^ 67 }
 {
-    Num::sat(floor_by(exact(points, axis, us, vs), 1 << 72))
+    let a = control_at(points, axis, k);
+    let b = control_at(points, axis, 4 + k);
+    let c = control_at(points, axis, 8 + k);
+    let d = control_at(points, axis, 12 + k);
+    column_at(v, a, b, c, d)
 }
 
-/// The point by the blossom at `us` and `vs`.
-fn point_at(points: &[Vec3; 16], us: Arguments, vs: Arguments) -> Vec3
-    requires { AreWithin (2 ^ 30) points.now }
-    ensures value { result ≡ blossom_point 4 (denominator ^ 6) points.now (us.first ∷ us.second ∷ us.third ∷ []) (vs.first ∷ vs.second ∷ vs.third ∷ []) }
-    ensures small { IsWithin (2 ^ 30) result }
+/// A coordinate along the curve at `v`.
+fn coordinate_along(points: &[Vec3; 16], axis: Axis, v: u16) -> Coordinate
+    requires { v ≤ 4096 }
+    ensures place { (u : ℕ) → u ≤ 4096 → value_at result.place u ≡ weighted_net (weights_3 u) (weights_3 v) (control 4 points.now axis) }
+    ensures across { (u : ℕ) → u ≤ 4096 → slope_at result.place u ≡ pos 3 *ℤ weighted_net (weights_2 u) (weights_3 v) (steps_u (control 4 points.now axis)) }
+    ensures up { (u : ℕ) → u ≤ 4096 → value_at result.rise u ≡ pos 3 *ℤ weighted_net (weights_3 u) (weights_2 v) (steps_v (control 4 points.now axis)) }
 {
-    Vec3 {
-        x: coordinate_at(points, Axis::X, us, vs),
-        y: coordinate_at(points, Axis::Y, us, vs),
-        z: coordinate_at(points, Axis::Z, us, vs),
+    let a = column_of(points, axis, 0, v);
+    let b = column_of(points, axis, 1, v);
+    let c = column_of(points, axis, 2, v);
+    let d = column_of(points, axis, 3, v);
+    Coordinate {
+        place: Cubic::of_control(a.place, b.place, c.place, d.place),
+        rise: Cubic::of_control(a.rise, b.rise, c.rise, d.rise),
     }
 }
 
-/// The slope of a coordinate along u, rounded down once.
-fn slope_along_u(points: &[Vec3; 16], axis: Axis, u: u16, v: u16) -> i64
-    requires across { u ≤ 4096 }
-    requires up { v ≤ 4096 }
-    ensures value { result ≡ floor_of (pos 3 *ℤ weighted_net (weights_2 u) (weights_3 v) (steps_u (control 4 points.now axis))) (denominator ^ 5) }
-    ensures bound { unsigned_abs result ≤ 2 ^ 40 }
-{
-    let vs = Arguments::equal(v);
-    let a = steps_across(points, axis, 0, u);
-    let b = steps_across(points, axis, 1, u);
-    let c = steps_across(points, axis, 2, u);
-    let d = steps_across(points, axis, 3, u);
-    let exact = blossom_3(vs, a, b, c, d);
-    slope_of(exact)
+/// A coordinate of four points of a net.
+#[derive(Clone, Copy)]
+struct Four {
+    first: Num,
+    second: Num,
+    third: Num,
+    fourth: Num,
 }
 
-/// The slope of a coordinate along v, rounded down once.
-fn slope_along_v(points: &[Vec3; 16], axis: Axis, u: u16, v: u16) -> i64
-    requires across { u ≤ 4096 }
-    requires up { v ≤ 4096 }
-    ensures value { result ≡ floor_of (pos 3 *ℤ weighted_net (weights_3 u) (weights_2 v) (steps_v (control 4 points.now axis))) (denominator ^ 5) }
-    ensures bound { unsigned_abs result ≤ 2 ^ 40 }
+/// A number over 4096 six times, rounded down.
+fn rounded(exact: i128) -> Num
+    ensures { result ≡ sat (floor_of exact (denominator ^ 6)) }
 {
-    let us = Arguments::equal(u);
-    let a = steps_up(points, axis, 0, us);
-    let b = steps_up(points, axis, 1, us);
-    let c = steps_up(points, axis, 2, us);
-    let exact = blossom_2(v, a, b, c);
-    slope_of(exact)
+    Num::sat(floor_by(exact, 1 << 72))
+}
+
+/// A coordinate of the row of the net at `vs`.
+fn row_over(points: &[Vec3; 16], axis: Axis, across: Span, vs: Arguments) -> Four
+    requires { AreWithin (2 ^ 30) points.now }
+    ensures first { result.first ≡ floor_of (blossom_net (across.low ∷ across.low ∷ across.low ∷ []) (vs.first ∷ vs.second ∷ vs.third ∷ []) (control 4 points.now axis)) (denominator ^ 6) }
+    ensures second { result.second ≡ floor_of (blossom_net (across.low ∷ across.low ∷ across.high ∷ []) (vs.first ∷ vs.second ∷ vs.third ∷ []) (control 4 points.now axis)) (denominator ^ 6) }
+    ensures third { result.third ≡ floor_of (blossom_net (across.low ∷ across.high ∷ across.high ∷ []) (vs.first ∷ vs.second ∷ vs.third ∷ []) (control 4 points.now axis)) (denominator ^ 6) }
+    ensures fourth { result.fourth ≡ floor_of (blossom_net (across.high ∷ across.high ∷ across.high ∷ []) (vs.first ∷ vs.second ∷ vs.third ∷ []) (control 4 points.now axis)) (denominator ^ 6) }
+{
+    let a = column(points, axis, 0, vs);
+    let b = column(points, axis, 1, vs);
+    let c = column(points, axis, 2, vs);
+    let d = column(points, axis, 3, vs);
+    let ends = ends_of(across, a, b, c, d);
+    Four {
+        first: rounded(ends.first),
+        second: rounded(ends.second),
+        third: rounded(ends.third),
+        fourth: rounded(ends.fourth),
+    }
 }
 
 /// Appends the row of the net at `vs`.
@@ -173,10 +145,43 @@ fn push_row(net: &mut ArrayVec<Vec3, 16>, points: &[Vec3; 16], across: Span, vs:
     requires small { AreWithin (2 ^ 30) points.now }
     ensures { net.new.items ≡ net.old.items ++ map (λ us. blossom_point 4 (denominator ^ 6) points.now us (vs.first ∷ vs.second ∷ vs.third ∷ [])) (all_ends 3 0 across.low across.high) }
 {
-    net.push(point_at(points, Arguments::ends(across, 0), vs));
-    net.push(point_at(points, Arguments::ends(across, 1), vs));
-    net.push(point_at(points, Arguments::ends(across, 2), vs));
-    net.push(point_at(points, Arguments::ends(across, 3), vs));
+    let x = row_over(points, Axis::X, across, vs);
+    let y = row_over(points, Axis::Y, across, vs);
+    let z = row_over(points, Axis::Z, across, vs);
+    net.push(Vec3 {
+        x: x.first,
+        y: y.first,
+        z: z.first,
+    });
+    net.push(Vec3 {
+        x: x.second,
+        y: y.second,
+        z: z.second,
+    });
+    net.push(Vec3 {
+        x: x.third,
+        y: y.third,
+        z: z.third,
+    });
+    net.push(Vec3 {
+        x: x.fourth,
+        y: y.fourth,
+        z: z.fourth,
+    });
+}
+
+impl Bicubic {
+    /// The curve at `v`.
+    fn curve(&self, v: Dyadic) -> Curve
+        ensures { IsCurve result (λ u. bicubic_point self.now u v) (λ u. bicubic_du self.now u v) (λ u. bicubic_dv self.now u v) }
+    {
+        let v = v.numerator();
+        Curve {
+            x: coordinate_along(&self.points, Axis::X, v),
+            y: coordinate_along(&self.points, Axis::Y, v),
+            z: coordinate_along(&self.points, Axis::Z, v),
+        }
+    }
 }
 
 impl Surface for Bicubic {
@@ -199,29 +204,19 @@ impl Surface for Bicubic {
     ghost rows = { bicubic_rows };
 
     fn point(&self, u: Dyadic, v: Dyadic) -> Vec3 {
-        let us = Arguments::equal(u.numerator());
-        let vs = Arguments::equal(v.numerator());
-        point_at(&self.points, us, vs)
+        self.curve(v).point(u)
     }
 
     fn du_at(&self, u: Dyadic, v: Dyadic) -> [i64; 3] {
-        let u = u.numerator();
-        let v = v.numerator();
-        [
-            slope_along_u(&self.points, Axis::X, u, v),
-            slope_along_u(&self.points, Axis::Y, u, v),
-            slope_along_u(&self.points, Axis::Z, u, v),
-        ]
+        self.curve(v).du(u)
     }
 
     fn dv_at(&self, u: Dyadic, v: Dyadic) -> [i64; 3] {
-        let u = u.numerator();
-        let v = v.numerator();
-        [
-            slope_along_v(&self.points, Axis::X, u, v),
-            slope_along_v(&self.points, Axis::Y, u, v),
-            slope_along_v(&self.points, Axis::Z, u, v),
-        ]
+        self.curve(v).dv(u)
+    }
+
+    fn curve_at(&self, v: Dyadic) -> Option<Curve> {
+        Some(self.curve(v))
     }
 
     fn net(&self, piece: &Piece) -> ArrayVec<Vec3, 16> {

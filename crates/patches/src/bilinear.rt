@@ -1,5 +1,5 @@
 // Bilinear patches.
-ghost use Rattle.std.specs.Prelude.{◌≡◌, ◌≤◌, ◌<◌, ◌*◌, ◌^◌, ℕ, ℤ, List, [], ◌∷◌, length, unsigned_abs, slice_index_or};
+ghost use Rattle.std.specs.Prelude.{◌≡◌, ◌≤◌, ◌<◌, ◌*◌, ◌^◌, ℕ, ℤ, pos, ◌*ℤ◌, List, [], ◌∷◌, length, unsigned_abs, slice_index_or};
 ghost use Rattle.fixed_math.specs.declared.vec3.Vec3.{Vec3};
 ghost use Rattle.fixed_math.specs.Axes.{AreWithin, part_of, origin};
 ghost use Rattle.fixed_math.specs.Blossom.{denominator};
@@ -8,14 +8,17 @@ ghost use Rattle.fixed_math.specs.Whole.{floor_by as floor_of};
 ghost use Rattle.patches.specs.Boxes.{IsWithin};
 ghost use Rattle.patches.specs.BoxLaws.{bilinear_box, bilinear_inside, bilinear_parts, bilinear_rows};
 ghost use Rattle.patches.specs.Nets.{control, blossom_point, bilinear_point, bilinear_net};
+ghost use Rattle.patches.specs.Curves.{value_at, slope_at, IsCurve};
 ghost use Rattle.patches.specs.Slopes.{bilinear_du, bilinear_dv, weights_0, steps_u, steps_v, AreBelow};
 
 use crate::boxes::box_of_points;
-use crate::mixing::{mix, slope};
+use crate::cubic::Cubic;
+use crate::curve::{Coordinate, Curve};
+use crate::mixing::mix_short;
 use crate::piece::{Dyadic, Piece, span_at};
 use crate::surface::Surface;
 use arrayvec::ArrayVec;
-use fixed_math::{Axis, Num, Vec3, floor_by};
+use fixed_math::{Axis, Num, Vec3, floor_by, minus};
 use std::marker::Model;
 
 /// The bilinear patch of four points (RenderMan Interface 3.2, section 5.2, `Patch "bilinear"`), in the order (0,0), (1,0), (0,1), (1,1)
@@ -44,16 +47,16 @@ impl Bilinear {
 }
 
 /// A coordinate of control point `k`.
-fn control_at(points: &[Vec3; 4], axis: Axis, k: usize) -> i128
+fn control_at(points: &[Vec3; 4], axis: Axis, k: usize) -> i64
     requires { k < 4 }
     ensures value { result ≡ part_of axis (slice_index_or points.now k origin) }
     ensures bound { unsigned_abs result ≤ 2 ^ 31 }
 {
-    points[k].part(axis).raw() as i128
+    points[k].part(axis).raw()
 }
 
 /// The coordinate at `u` and `v`, times 4096 twice.
-fn exact(points: &[Vec3; 4], axis: Axis, u: u16, v: u16) -> i128
+fn exact(points: &[Vec3; 4], axis: Axis, u: u16, v: u16) -> i64
     requires across { u ≤ 4096 }
     requires up { v ≤ 4096 }
     ensures value { result ≡ blossom_net (u ∷ []) (v ∷ []) (control 2 points.now axis) }
@@ -63,9 +66,9 @@ fn exact(points: &[Vec3; 4], axis: Axis, u: u16, v: u16) -> i128
     let b = control_at(points, axis, 1);
     let c = control_at(points, axis, 2);
     let d = control_at(points, axis, 3);
-    let bottom = mix(u, a, b);
-    let top = mix(u, c, d);
-    mix(v, bottom, top)
+    let bottom = mix_short(u, a, b);
+    let top = mix_short(u, c, d);
+    mix_short(v, bottom, top)
 }
 
 /// The coordinate at `u` and `v`, rounded down once.
@@ -75,7 +78,7 @@ fn coordinate_at(points: &[Vec3; 4], axis: Axis, u: u16, v: u16) -> Num
     requires up { v ≤ 4096 }
     ensures { result ≡ floor_of (blossom_net (u ∷ []) (v ∷ []) (control 2 points.now axis)) (denominator ^ 2) }
 {
-    Num::sat(floor_by(exact(points, axis, u, v), 1 << 24))
+    Num::sat(floor_by(exact(points, axis, u, v) as i128, 1 << 24))
 }
 
 /// The point at `u` and `v`.
@@ -93,30 +96,39 @@ fn point_at(points: &[Vec3; 4], u: u16, v: u16) -> Vec3
     }
 }
 
-/// The slope along u of a coordinate at `v`, rounded down once.
-fn slope_along_u(points: &[Vec3; 4], axis: Axis, v: u16) -> i64
+/// A coordinate along the curve at `v`, over the denominators of a bicubic patch.
+fn coordinate_along(points: &[Vec3; 4], axis: Axis, v: u16) -> Coordinate
     requires { v ≤ 4096 }
-    ensures value { result ≡ floor_of (weighted_net weights_0 (weights_1 v) (steps_u (control 2 points.now axis))) denominator }
-    ensures bound { unsigned_abs result ≤ 2 ^ 32 }
+    ensures place { (u : ℕ) → u ≤ 4096 → value_at result.place u ≡ pos (2 ^ 48) *ℤ weighted_net (weights_1 u) (weights_1 v) (control 2 points.now axis) }
+    ensures across { (u : ℕ) → slope_at result.place u ≡ pos (2 ^ 48) *ℤ weighted_net weights_0 (weights_1 v) (steps_u (control 2 points.now axis)) }
+    ensures up { (u : ℕ) → u ≤ 4096 → value_at result.rise u ≡ pos (2 ^ 48) *ℤ weighted_net (weights_1 u) weights_0 (steps_v (control 2 points.now axis)) }
 {
     let a = control_at(points, axis, 0);
     let b = control_at(points, axis, 1);
     let c = control_at(points, axis, 2);
     let d = control_at(points, axis, 3);
-    slope(v, a, b, c, d)
+    let left = mix_short(v, a, c);
+    let right = mix_short(v, b, d);
+    let left_rise = minus(c as i128, a as i128);
+    let right_rise = minus(d as i128, b as i128);
+    Coordinate {
+        place: Cubic::of_ends(left as i128, right as i128),
+        rise: Cubic::of_ends(left_rise, right_rise),
+    }
 }
 
-/// The slope along v of a coordinate at `u`, rounded down once.
-fn slope_along_v(points: &[Vec3; 4], axis: Axis, u: u16) -> i64
-    requires { u ≤ 4096 }
-    ensures value { result ≡ floor_of (weighted_net (weights_1 u) weights_0 (steps_v (control 2 points.now axis))) denominator }
-    ensures bound { unsigned_abs result ≤ 2 ^ 32 }
-{
-    let a = control_at(points, axis, 0);
-    let b = control_at(points, axis, 1);
-    let c = control_at(points, axis, 2);
-    let d = control_at(points, axis, 3);
-    slope(u, a, c, b, d)
+impl Bilinear {
+    /// The curve at `v`.
+    fn curve(&self, v: Dyadic) -> Curve
+        ensures { IsCurve result (λ u. bilinear_point self.now u v) (λ u. bilinear_du self.now u v) (λ u. bilinear_dv self.now u v) }
+    {
+        let v = v.numerator();
+        Curve {
+            x: coordinate_along(&self.points, Axis::X, v),
+            y: coordinate_along(&self.points, Axis::Y, v),
+            z: coordinate_along(&self.points, Axis::Z, v),
+        }
+    }
 }
 
 impl Surface for Bilinear {
@@ -142,22 +154,16 @@ impl Surface for Bilinear {
         point_at(&self.points, u.numerator(), v.numerator())
     }
 
-    fn du_at(&self, _: Dyadic, v: Dyadic) -> [i64; 3] {
-        let v = v.numerator();
-        [
-            slope_along_u(&self.points, Axis::X, v),
-            slope_along_u(&self.points, Axis::Y, v),
-            slope_along_u(&self.points, Axis::Z, v),
-        ]
+    fn du_at(&self, u: Dyadic, v: Dyadic) -> [i64; 3] {
+        self.curve(v).du(u)
     }
 
-    fn dv_at(&self, u: Dyadic, _: Dyadic) -> [i64; 3] {
-        let u = u.numerator();
-        [
-            slope_along_v(&self.points, Axis::X, u),
-            slope_along_v(&self.points, Axis::Y, u),
-            slope_along_v(&self.points, Axis::Z, u),
-        ]
+    fn dv_at(&self, u: Dyadic, v: Dyadic) -> [i64; 3] {
+        self.curve(v).dv(u)
+    }
+
+    fn curve_at(&self, v: Dyadic) -> Option<Curve> {
+        Some(self.curve(v))
     }
 
     fn net(&self, piece: &Piece) -> ArrayVec<Vec3, 16> {

@@ -5,6 +5,8 @@ mod bicubic;
 mod bilinear;
 mod blossoms;
 mod boxes;
+mod cubic;
+mod curve;
 mod mixing;
 mod patch;
 mod piece;
@@ -12,6 +14,8 @@ mod surface;
 
 pub use bicubic::Bicubic;
 pub use bilinear::Bilinear;
+pub use cubic::Cubic;
+pub use curve::{Coordinate, Curve};
 pub use patch::Patch;
 pub use piece::{Dyadic, Piece};
 pub use surface::Surface;

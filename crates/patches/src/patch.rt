@@ -3,6 +3,7 @@ ghost use Rattle.patches.specs.Patches.{patch_point, patch_du, patch_dv, patch_n
 
 use crate::bicubic::Bicubic;
 use crate::bilinear::Bilinear;
+use crate::curve::Curve;
 use crate::piece::{Dyadic, Piece};
 use crate::surface::Surface;
 use arrayvec::ArrayVec;
@@ -52,6 +53,13 @@ impl Surface for Patch {
         match self {
             Patch::Bilinear(patch) => patch.dv_at(u, v),
             Patch::Bicubic(patch) => patch.dv_at(u, v),
+        }
+    }
+
+    fn curve_at(&self, v: Dyadic) -> Option<Curve> {
+        match self {
+            Patch::Bilinear(patch) => patch.curve_at(v),
+            Patch::Bicubic(patch) => patch.curve_at(v),
         }
     }
 

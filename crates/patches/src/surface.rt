@@ -1,12 +1,14 @@
 // Parametric surfaces, with their laws.
-ghost use Rattle.std.specs.Prelude.{◌≡◌, ◌≤◌, ◌<◌, ◌%◌, ◌^◌, ℕ, ℤ, List, [], ◌∷◌, length};
+ghost use Rattle.std.specs.Prelude.{◌≡◌, ◌≤◌, ◌<◌, ◌%◌, ◌^◌, ℕ, ℤ, List, [], ◌∷◌, length, IfSome};
 ghost use Rattle.fixed_math.specs.declared.vec3.Vec3.{Vec3};
 ghost use Rattle.fixed_math.specs.Axes.{AreWithin};
 ghost use Rattle.patches.specs.Rects.{Rect};
 ghost use Rattle.patches.specs.Parts.{rect_of};
 ghost use Rattle.patches.specs.Slopes.{AreBelow};
+ghost use Rattle.patches.specs.Curves.{IsCurve};
 ghost use Rattle.patches.specs.Boxes.{Box, corners, IsOrdered, IsWithin, PointsLieInBoxes, PartsLieInBoxes, NetsHaveRows};
 
+use crate::curve::Curve;
 use crate::piece::{Dyadic, Piece};
 use arrayvec::ArrayVec;
 use fixed_math::Vec3;
@@ -41,6 +43,11 @@ pub trait Surface {
     fn dv_at(&self, u: Dyadic, v: Dyadic) -> [i64; 3]
         ensures value { result ≡ dv_of self.now u v }
         ensures small { AreBelow (2 ^ 40) result };
+
+    /// The curve at `v`, by which many points and derivatives are had at a small part of the cost of single ones; none where
+    /// the surface isn't polynomial along u.
+    fn curve_at(&self, v: Dyadic) -> Option<Curve>
+        ensures { IfSome result (λ curve. IsCurve curve (λ u. point_of self.now u v) (λ u. du_of self.now u v) (λ u. dv_of self.now u v)) };
 
     /// The control points of the surface over a piece, by rows of `net_width` points, u fastest.
     fn net(&self, piece: &Piece) -> ArrayVec<Vec3, 16>

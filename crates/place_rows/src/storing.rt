@@ -1,28 +1,83 @@
 // Values of registers by shape, read and stored.
-ghost use Rattle.std.specs.Prelude.{◌≡◌, ℕ, ◌+◌, ◌*◌, ◌&&◌, ◌==◌, ◌<◌, ◌≤◌, cond, false, pos, length, get_or, IfOk};
+ghost use Rattle.std.specs.Prelude.{◌≡◌, ℕ, ◌+◌, ◌*◌, ◌&&◌, ◌==◌, ◌<◌, ◌≤◌, cond, true, false, pos, length, get_or, IfOk};
 ghost use Rattle.builtins.specs.declared.shape.Shape.{Shape as AnyShape};
 ghost use Rattle.builtins.specs.declared.shape.Shape.TheVariants as shapes;
 ghost use Rattle.grid_code.specs.Masked.{same_shape};
 ghost use Rattle.place_rows.specs.Banks.{size, held, of_shape, shape_of_cell, zero_cell, IsStored, IsRowStored};
 
 use crate::bank::Bank;
+use crate::mask::both;
 use builtins::Shape;
 use bumpalo::Bump;
 use fixed_math::{NoMemory, Vec3};
-use number_rows::Raw;
+use number_rows::{Raw, fill};
 use place_values::Cell;
 
-// Writes a row into the row of a register, at the places that are live.
-fn store_row<T: Copy>(rows: &mut [T], register: usize, live: &[bool], row: &[T])
+fn chosen<T: Copy>(taken: bool, a: T, b: T) -> T
+    ensures { result ≡ cond taken a b }
+{
+    if taken { a } else { b }
+}
+
+// A row takes another one's elements at the places that are live.
+fn blend<T: Copy>(target: &mut [T], live: &[bool], row: &[T])
     requires live { length row.now ≤ length live.now }
+    requires long { length target.old ≡ length row.now }
+    ensures long { length target.new ≡ length target.old }
+    ensures each { (d : T) (j : ℕ) → j < length row.now → get_or target.new j d ≡ cond (get_or live.now j false) (get_or row.now j d) (get_or target.old j d) }
+{
+    for i in 0..row.len() {
+        target[i] = chosen(live[i], row[i], target[i]);
+    }
+}
+
+// The same where all places may be known to be live.
+fn store_in<T: Copy>(target: &mut [T], all: bool, live: &[bool], row: &[T])
+    requires live { length row.now ≤ length live.now }
+    requires all { all ≡ true → (i : ℕ) → i < length row.now → get_or live.now i false ≡ true }
+    requires long { length target.old ≡ length row.now }
+    ensures long { length target.new ≡ length target.old }
+    ensures each { (d : T) (j : ℕ) → j < length row.now → get_or target.new j d ≡ cond (get_or live.now j false) (get_or row.now j d) (get_or target.old j d) }
+{
+    if all {
+        target.copy_from_slice(row);
+    } else {
+        blend(target, live, row);
+    }
+}
+
+// Writes a row into the row of a register, at the places that are live, all of which may be known to be.
+fn store_row<T: Copy>(rows: &mut [T], register: usize, all: bool, live: &[bool], row: &[T])
+    requires live { length row.now ≤ length live.now }
+    requires all { all ≡ true → (i : ℕ) → i < length row.now → get_or live.now i false ≡ true }
     requires fits { register * length row.now + length row.now ≤ length rows.old }
     ensures long { length rows.new ≡ length rows.old }
     ensures each { IsRowStored T register live.now row.now rows.old rows.new }
 {
-    for i in 0..row.len() {
-        if live[i] {
-            rows[register * row.len() + i] = row[i];
-        }
+    let start = register * row.len();
+    store_in(&mut rows[start..start + row.len()], all, live, row);
+}
+
+// Whether the first places are all live.
+fn are_live(live: &[bool], count: usize) -> bool
+    requires { count ≤ length live.now }
+    ensures { result ≡ true → (i : ℕ) → i < count → get_or live.now i false ≡ true }
+{
+    let mut all = true;
+    for i in 0..count {
+        all = both(all, live[i]);
+    }
+    all
+}
+
+// How many values of a shape a bank has.
+fn length_of(row: &Bank, shape: Shape) -> usize
+    ensures { result ≡ size row.now shape }
+{
+    match shape {
+        Shape::Number => row.numbers.len(),
+        Shape::Triple => row.xs.len(),
+        Shape::Word => row.words.len(),
     }
 }
 
@@ -34,6 +89,15 @@ fn make_first<T: Copy>(row: &mut [T], count: usize, value: T)
 {
     for n in 0..count {
         row[n] = value;
+    }
+}
+
+fn fill_words(word: usize, words: &mut [usize])
+    ensures long { length words.new ≡ length words.old }
+    ensures each { (k : ℕ) → k < length words.old → get_or words.new k 0 ≡ word }
+{
+    for k in 0..words.len() {
+        words[k] = word;
     }
 }
 
@@ -110,6 +174,22 @@ impl Bank<'_> {
         }
     }
 
+    /// Makes all values of a cell's shape that cell.
+    pub fn fill(&mut self, cell: &Cell)
+        ensures size { (t : AnyShape) → size self.new t ≡ size self.old t }
+        ensures value { (k : ℕ) → k < size self.old (shape_of_cell cell.now) → held self.new (shape_of_cell cell.now) k ≡ cell.now }
+    {
+        match cell {
+            Cell::Number(x) => fill(Raw::of(*x), &mut self.numbers),
+            Cell::Triple(t) => {
+                fill(Raw::of(t.x), &mut self.xs);
+                fill(Raw::of(t.y), &mut self.ys);
+                fill(Raw::of(t.z), &mut self.zs);
+            }
+            Cell::Word(w) => fill_words(*w, &mut self.words),
+        }
+    }
+
     /// Writes the row of that shape into the row of a register, at the places that are live.
     pub fn store(&mut self, shape: Shape, register: usize, live: &[bool], row: &Bank)
         requires live { size row.now shape ≤ length live.now }
@@ -117,14 +197,15 @@ impl Bank<'_> {
         ensures size { (t : AnyShape) → size self.new t ≡ size self.old t }
         ensures value { IsStored (size row.now shape) shape register live.now row.now self.old self.new }
     {
+        let all = are_live(live, length_of(row, shape));
         match shape {
-            Shape::Number => store_row(&mut self.numbers, register, live, &row.numbers),
+            Shape::Number => store_row(&mut self.numbers, register, all, live, &row.numbers),
             Shape::Triple => {
-                store_row(&mut self.xs, register, live, &row.xs);
-                store_row(&mut self.ys, register, live, &row.ys);
-                store_row(&mut self.zs, register, live, &row.zs);
+                store_row(&mut self.xs, register, all, live, &row.xs);
+                store_row(&mut self.ys, register, all, live, &row.ys);
+                store_row(&mut self.zs, register, all, live, &row.zs);
             }
-            Shape::Word => store_row(&mut self.words, register, live, &row.words),
+            Shape::Word => store_row(&mut self.words, register, all, live, &row.words),
         }
     }
 

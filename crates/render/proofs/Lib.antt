@@ -4,3 +4,5 @@ pub mod Completing
 pub mod StockFlat
 pub mod Fetched
 pub mod Loading
+pub mod Courses
+pub mod Obeying

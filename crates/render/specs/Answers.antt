@@ -1,8 +1,12 @@
 -- What the code's answers say of the verdict and the sink.
-use Rattle.std.specs.Prelude.{◌≡◌, ℕ, List, Option, Some, None, Vec, map, true, Result, Ok, Err}
+use Rattle.std.specs.Prelude.{◌≡◌, ◌+◌, ◌⊎◌, ℕ, List, [], ◌∷◌, length, codes, Option, Some, None, option_map, String, string_bytes, Vec, map, true, Result, Ok, Err}
 use Rattle.std.specs.declared.alloc.Global.{Global}
+use Rattle.fixed_math.specs.declared.memory.NoMemory.{NoMemory as NoMemoryError}
+use Rattle.outside.specs.Causes.{Told}
+use Rattle.outside.specs.Library.{Files}
+use Rattle.outside.specs.NoteLines.{Says}
 use Rattle.outside.specs.Sink.{Written}
-use Rattle.outside.specs.Frames.{whole, Adds, AddsFront}
+use Rattle.outside.specs.Frames.{Picture, whole, Adds, AddsFront}
 use Rattle.displace_shade.specs.Shop.{set_value}
 use Rattle.render.specs.declared.accepted.Accepted.{Accepted}
 use Rattle.shader_binding.specs.Sets.{AcceptedValue}
@@ -11,6 +15,14 @@ use Rattle.acceptance.specs.Causes.{Cause, Reads}
 use Rattle.render.specs.Verdict as verdicts
 use Rattle.render.specs.Verdict.{pictures_of}
 use Rattle.render.specs.Run.{is_accepted}
+use Rattle.render.specs.Pictures.{frames_of}
+use Rattle.render.specs.Notes.{note_of}
+use Rattle.render.specs.Lines.{first_summaries, summaries_of, scene_of}
+use Rattle.render.specs.Course.{Ends}
+use Rattle.buckets.specs.declared.limits.DrawFault.{DrawFault}
+use Rattle.buckets.specs.declared.limits.DrawFault.TheVariants as drawing
+use Rattle.command_line.specs.Command.{Command}
+use Rattle.command_line.specs.declared.command.RunOptions.{RunOptions}
 use Rattle.acceptance.specs.Answers.{Because, status_of_refusal}
 use Rattle.command_line.specs.declared.command.Action.{Action}
 use Rattle.acceptance.specs.declared.refusal.Refusal.{Refusal}
@@ -64,9 +76,72 @@ number_of NoScene = 6
 number_of WriteFault = 8
 number_of NoMemory = 9
 
--- what an answer's note tells, where the scene has this name
-abbrev pub cause_told : List ℕ → Answer → Option Cause
-cause_told name NoScene = Some (causes.Missing name)
-cause_told name (Refused (refusals.Missing file)) = Some (causes.Missing file)
-cause_told name (Refused (refusals.At file line code)) = Some (causes.At file line code)
-cause_told name _ = None
+-- the lines of an answer, where the scene has this name
+abbrev pub answer_lines : List ℕ → Answer → List (List ℕ)
+answer_lines name Done = []
+answer_lines name Usage = codes "usage\n" ∷ []
+answer_lines name NoScene = note_of name (causes.Missing name) ∷ []
+answer_lines name (Refused (refusals.Missing file)) = note_of name (causes.Missing file) ∷ []
+answer_lines name (Refused (refusals.At file line code)) = note_of name (causes.At file line code) ∷ []
+answer_lines name (Refused refusals.ReadFault) = codes "read fault\n" ∷ []
+answer_lines name (Refused refusals.NoMemory) = codes "no memory\n" ∷ []
+answer_lines name WriteFault = codes "write fault\n" ∷ []
+answer_lines name NoMemory = codes "no memory\n" ∷ []
+
+-- the answer is a fault at a line of a file
+abbrev pub IsFaultAt : Answer → Type 0
+IsFaultAt (Refused (refusals.At file line code)) = Unit {0}
+IsFaultAt _ = ⊥
+
+-- a line, where there is one
+abbrev pub lines_in : Option (List ℕ) → List (List ℕ)
+lines_in None = []
+lines_in (Some line) = line ∷ []
+
+-- the lines of a note that was made, or for which memory ran out
+abbrev pub note_lines : Result (Option (String Global)) NoMemoryError → List (List ℕ)
+note_lines (Ok note) = lines_in (option_map string_bytes note)
+note_lines (Err e) = codes "no memory\n" ∷ []
+
+-- the answer is that of this verdict, where the scene has this name
+abbrev pub IsOf : List ℕ → Answer → verdicts.Verdict → Type 0
+IsOf name Done v = is_accepted v ≡ true
+IsOf name WriteFault v = is_accepted v ≡ true
+IsOf name NoMemory v = Unit {0}
+IsOf name Usage v = v ≡ verdicts.Usage
+IsOf name NoScene v = v ≡ verdicts.Refused (causes.Missing name)
+IsOf name (Refused (refusals.Missing file)) v = v ≡ verdicts.Refused (causes.Missing file)
+IsOf name (Refused (refusals.At file line code)) v = v ≡ verdicts.Refused (causes.At file line code)
+IsOf name (Refused refusals.ReadFault) v = Unit {0}
+IsOf name (Refused refusals.NoMemory) v = Unit {0}
+
+-- how a command is obeyed: the course of its run without the line of the status
+pub record Obeys (command : Option Command) (held : Option Files) (answer : Answer) (old new : Option (List Written)) (lines lines_then : Option (List (List ℕ))) (faults faults_then : ℕ) : Type 0 where
+  pub verdict : verdicts.Verdict
+  pub known : Told held (λ files. verdict ≡ verdicts.verdict_of_command command files)
+  pub is_of : IsOf (scene_of command) answer verdict
+  pub ended : ℕ
+  pub ends : Ends ended (pictures_of verdict) old new
+  pub all : answer ≡ Done → ended ≡ length (pictures_of verdict)
+  pub none : ComesBefore answer → ended ≡ 0
+  pub told : ℕ
+  pub behind : (told ≡ ended) ⊎ ((answer ≡ NoMemory) × (told + 1 ≡ ended))
+  pub says : Says (summaries_of command verdict told) lines lines_then faults faults_then
+
+-- how the frames of an accepted scene are drawn: some first ones, and the summaries of those
+pub record Draws (o : RunOptions) (a : AcceptedValue) (ended told : ℕ) (old new : Option (List Written)) (lines lines_then : Option (List (List ℕ))) (faults faults_then : ℕ) : Type 0 where
+  pub ends : Ends ended (frames_of a) old new
+  pub says : Says (first_summaries o a told) lines lines_then faults faults_then
+
+-- what is left of one frame whose drawing fails: a part of it, or all of it where memory ran out behind it
+pub record LeavesFrame (fault : DrawFault) (p : Picture) (old new : Option (List Written)) : Type 0 where
+  pub ended : ℕ
+  pub ends : Ends ended (p ∷ []) old new
+  pub behind : (ended ≡ 0) ⊎ ((fault ≡ drawing.NoMemory) × (ended ≡ 1))
+
+-- the same, where the drawing fails at one of them
+pub record DrawsInPart (o : RunOptions) (a : AcceptedValue) (fault : DrawFault) (old new : Option (List Written)) (lines lines_then : Option (List (List ℕ))) (faults faults_then : ℕ) : Type 0 where
+  pub ended : ℕ
+  pub told : ℕ
+  pub draws : Draws o a ended told old new lines lines_then faults faults_then
+  pub behind : (told ≡ ended) ⊎ ((fault ≡ drawing.NoMemory) × (told + 1 ≡ ended))

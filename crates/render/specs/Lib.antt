@@ -4,5 +4,7 @@ pub mod Summary
 pub mod Verdict
 pub mod Stocked
 pub mod Run
+pub mod Lines
+pub mod Course
 pub mod Answers
 pub mod Coded

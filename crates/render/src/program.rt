@@ -1,15 +1,17 @@
 // The whole program, as one call.
-ghost use Rattle.std.specs.Prelude.{◌≡◌, ◌≢◌, ◌≤◌, ◌⊎◌, true, false, Some, IfOk, option_map, string_bytes};
+ghost use Rattle.std.specs.Prelude.{◌≡◌, ◌≢◌, ◌≤◌, ◌⊎◌, true, false, Some, IfOk, OnOk, OnErr, option_map, string_bytes};
 ghost use Rattle.outside.specs.Causes.{Rose, Told};
 ghost use Rattle.outside.specs.Asked.{AsksFront};
 ghost use Rattle.command_line.specs.Ranges.{LieInRanges};
 ghost use Rattle.command_line.specs.Texts.{texts};
 ghost use Rattle.render.specs.Run.{IsUsage, draws, draws_action, IsAccepted, HasStatus, AnswersVerdict, IsRefused, AddsFrames, AddsFirstFrames, AsksFirstNames};
-ghost use Rattle.command_line.specs.Command.{source_view, command_view};
+ghost use Rattle.command_line.specs.Command.{source_view, command_of, command_view};
 ghost use Rattle.render.specs.Verdict.{verdict, verdict_of_command, asked_for_command};
-ghost use Rattle.acceptance.specs.Causes.{Cause};
-ghost use Rattle.render.specs.Notes.{scene_name, name_in_notes, fault_line, note_of};
-ghost use Rattle.render.specs.Answers.{Agrees, ComesBefore, number_of, cause_told};
+ghost use Rattle.outside.specs.NoteLines.{Says};
+ghost use Rattle.render.specs.Notes.{scene_name, name_in_notes, fault_line};
+ghost use Rattle.render.specs.Answers.{Agrees, ComesBefore, Obeys, IsFaultAt, number_of, answer_lines, lines_in, note_lines};
+ghost use Rattle.render.specs.Lines.{scene_of};
+ghost use Rattle.render.specs.Course.{Course};
 ghost use Rattle.render.specs.declared.program.Answer.TheVariants.{Usage, Refused, WriteFault, NoMemory as OutOfMemory};
 ghost use Rattle.acceptance.specs.declared.refusal.Refusal.TheVariants.{ReadFault};
 
@@ -19,7 +21,7 @@ use acceptance::{FileId, Refusal};
 use buckets::DrawFault;
 use command_line::{Action, SceneCommand, Source, scene_command};
 use fixed_math::NoMemory;
-use outside::{FrameSink, Library, Notes};
+use outside::{FrameSink, Library, Notes, say_line};
 use std::alloc::Global;
 
 // What a command comes to.
@@ -58,6 +60,7 @@ fn obeyed<L: Library, O: FrameSink, N: Notes>(
     ensures sink_later { O.faults frames.old ≤ O.faults frames.new }
     ensures read { result ≡ Refused ReadFault → Rose (L.faults library.old) (L.faults library.new) }
     ensures write { result ≡ WriteFault → Rose (O.faults frames.old) (O.faults frames.new) }
+    ensures course { Obeys (Some (command_view command.now)) (L.held library.old) result (O.written frames.old) (O.written frames.new) (N.lines notes.old) (N.lines notes.new) (N.faults notes.old) (N.faults notes.new) }
 {
     let accepted = match load(alloc, library, command) {
         Ok(Some(accepted)) => accepted,
@@ -107,6 +110,8 @@ fn answered<'a, L: Library, O: FrameSink, N: Notes>(
     ensures sink_later { O.faults frames.old ≤ O.faults frames.new }
     ensures read { result.0 ≡ Refused ReadFault → Rose (L.faults library.old) (L.faults library.new) }
     ensures write { result.0 ≡ WriteFault → Rose (O.faults frames.old) (O.faults frames.new) }
+    ensures named { result.0 ≢ OutOfMemory → result.1.now ≡ scene_of (command_of (texts words.now)) }
+    ensures course { Obeys (command_of (texts words.now)) (L.held library.old) result.0 (O.written frames.old) (O.written frames.new) (N.lines notes.old) (N.lines notes.new) (N.faults notes.old) (N.faults notes.new) }
 {
     match scene_command(alloc, words) {
         Ok(Some(command)) => (
@@ -139,7 +144,7 @@ fn fault_note(
 
 // The note of an answer, where the scene has this name. There is none of want of memory, whose note takes no memory.
 fn note(alloc: Global, scene: &str, answer: &Answer) -> Result<Option<String>, NoMemory>
-    ensures { (cause : Cause) → cause_told scene.now answer.now ≡ Some cause → IfOk result (λ n. option_map string_bytes n ≡ Some (note_of scene.now cause)) }
+    ensures { IfOk result (λ n. lines_in (option_map string_bytes n) ≡ answer_lines scene.now answer.now) }
 {
     let text = match answer {
         Answer::Done => return Ok(None),
@@ -160,17 +165,22 @@ fn note(alloc: Global, scene: &str, answer: &Answer) -> Result<Option<String>, N
 }
 
 // Gives the line of a note to the user.
-fn tell<N: Notes>(notes: &mut N, note: &Result<Option<String>, NoMemory>) {
-    let _ = match note {
-        Ok(None) => Ok(()),
-        Ok(Some(text)) => notes.line(text.as_bytes()),
-        Err(_) => notes.line(b"no memory\n"),
-    };
+fn tell<N: Notes>(notes: &mut N, note: &Result<Option<String>, NoMemory>)
+    ensures { Says (note_lines note.now) (N.lines notes.old) (N.lines notes.new) (N.faults notes.old) (N.faults notes.new) }
+{
+    match note {
+        Ok(None) => {}
+        Ok(Some(text)) => say_line(notes, text.as_bytes()),
+        Err(_) => say_line(notes, b"no memory\n"),
+    }
 }
 
 // The status of an answer whose note is this.
 fn status(answer: &Answer, note: &Result<Option<String>, NoMemory>) -> u8
     ensures number { (result ≡ number_of answer.now) ⊎ (result ≡ 9) }
+    ensures told { OnOk note.now (result ≡ number_of answer.now) }
+    ensures untold { OnErr note.now (result ≡ 9) }
+    ensures fault { IsFaultAt answer.now → OnOk note.now ((3 ≤ result) × (result ≤ 5)) }
     ensures answers { (result ≡ 0) ⊎ ((2 ≤ result) × (result ≤ 9)) }
 {
     match answer {
@@ -178,6 +188,7 @@ fn status(answer: &Answer, note: &Result<Option<String>, NoMemory>) -> u8
         Answer::Done => 0,
         Answer::Usage => 2,
         Answer::NoScene => 6,
+        Answer::Refused(Refusal::At { code, .. }) => code.status(),
         Answer::Refused(refusal) => refusal.status(),
         Answer::WriteFault => 8,
         Answer::NoMemory => 9,
@@ -233,6 +244,10 @@ pub fn run<'a, L: Library, O: FrameSink, N: Notes>(
     // Where nothing failed, the answer is the verdict's or want of memory; where the scene is refused, the sink's faults don't matter.
     ensures complete { (Rose (L.faults library.old) (L.faults library.new) → ⊥) → (Rose (O.faults frames.old) (O.faults frames.new) → ⊥) → Told (L.held library.old) (λ files. AnswersVerdict (texts words.now) files result) }
     ensures complete_refused { (Rose (L.faults library.old) (L.faults library.new) → ⊥) → Told (L.held library.old) (λ files. IsRefused (texts words.now) files → AnswersVerdict (texts words.now) files result) }
+
+    // One course of the run has its verdict, the frames that it ended, and the lines that the notes were given of both; a line that
+    // fails is missing among them, and changes nothing else.
+    ensures course { Course (texts words.now) (L.held library.old) result (O.written frames.old) (O.written frames.new) (N.lines notes.old) (N.lines notes.new) (N.faults notes.old) (N.faults notes.new) }
 
     // Only names that the verdict asks for were asked for, in its order, and what is held stays.
     ensures asked { Told (L.held library.old) (λ files. AsksFirstNames (texts words.now) files (L.asked library.old) (L.asked library.new)) }

@@ -1,7 +1,8 @@
 // Frames to a sink.
-ghost use Rattle.std.specs.Prelude.{◌≡◌, ◌≤◌, ◌+◌, ◌^◌, ◌∷◌, [], Some, false, All, length, map, option_map, string_bytes, slice_get, IfOk, OnOk, OnErr, IsErrOf};
+ghost use Rattle.std.specs.Prelude.{◌≡◌, ◌≤◌, ◌+◌, ◌^◌, ◌∷◌, [], Some, false, All, length, map, option_map, string_bytes, slice_get, IfOk, IfErr, OnOk, OnErr, IsErrOf};
 ghost use Rattle.outside.specs.Causes.{Rose};
-ghost use Rattle.outside.specs.Frames.{Adds, AddsPart, AddsFront, whole};
+ghost use Rattle.outside.specs.Frames.{Adds, AddsPart, whole};
+ghost use Rattle.outside.specs.NoteLines.{Says};
 ghost use Rattle.shader_binding.specs.Sets.{Fits};
 ghost use Rattle.shader_binding.specs.Bindings.{FitsPrim};
 ghost use Rattle.displace_shade.specs.Shop.{set_value};
@@ -13,14 +14,15 @@ ghost use Rattle.buckets.specs.declared.limits.DrawFault.TheVariants.{WriteFault
 ghost use Rattle.command_line.specs.Ranges.{LieInRanges};
 ghost use Rattle.render.specs.Pictures.{picture_of, frames_of};
 ghost use Rattle.render.specs.Summary.{limits_of, summary_line, summary_with, summary_of};
-ghost use Rattle.render.specs.Answers.{accepted_in};
+ghost use Rattle.render.specs.Answers.{accepted_in, lines_in, DrawsInPart, LeavesFrame};
+ghost use Rattle.render.specs.Lines.{first_summaries};
 
 use crate::accepted::Accepted;
 use buckets::{DrawFault, Limits, Report, render_frame};
 use command_line::RunOptions;
 use displace_shade::Shop;
 use fixed_math::NoMemory;
-use outside::{FrameSink, Notes};
+use outside::{FrameSink, Notes, say_line};
 use scene::{Frame, Scene};
 use std::alloc::Global;
 
@@ -123,7 +125,7 @@ fn finished<O: FrameSink>(
     requires epochs { report.old.epochs ≤ 2 ^ 62 }
     ensures closed { OnOk result (O.is_open sink.new ≡ false) }
     ensures ok { OnOk result (Adds (whole (picture_of (shaded_by shown.now.scene.now shop.old) shown.now.frame.now) ∷ []) (O.written sink.old) (O.written sink.new)) }
-    ensures err { OnErr result (AddsFront (picture_of (shaded_by shown.now.scene.now shop.old) shown.now.frame.now ∷ []) (O.written sink.old) (O.written sink.new)) }
+    ensures err { IfErr result (λ e. LeavesFrame e (picture_of (shaded_by shown.now.scene.now shop.old) shown.now.frame.now) (O.written sink.old) (O.written sink.new)) }
     ensures later { O.faults sink.old ≤ O.faults sink.new }
     ensures failed { IsErrOf result WriteFault → Rose (O.faults sink.old) (O.faults sink.new) }
     ensures summary { IfOk result (λ l. option_map string_bytes l ≡ summary_of options (shaded_by shown.now.scene.now shop.old) shown.now.frame.now) }
@@ -136,9 +138,11 @@ fn finished<O: FrameSink>(
 }
 
 // Gives the line of a summary to the user.
-fn tell<N: Notes>(notes: &mut N, line: &Option<String>) {
+fn tell<N: Notes>(notes: &mut N, line: &Option<String>)
+    ensures { Says (lines_in (option_map string_bytes line.now)) (N.lines notes.old) (N.lines notes.new) (N.faults notes.old) (N.faults notes.new) }
+{
     if let Some(text) = line {
-        let _ = notes.line(text.as_bytes());
+        say_line(notes, text.as_bytes());
     }
 }
 
@@ -166,7 +170,8 @@ fn write_frames<O: FrameSink, N: Notes>(
     requires count { shop.old.count ≡ 0 }
     ensures closed { OnOk result (O.is_open sink.new ≡ false) }
     ensures ok { OnOk result (Adds (map whole (frames_of (shaded_by scene.now shop.old))) (O.written sink.old) (O.written sink.new)) }
-    ensures err { OnErr result (AddsFront (frames_of (shaded_by scene.now shop.old)) (O.written sink.old) (O.written sink.new)) }
+    ensures says { OnOk result (Says (first_summaries options (shaded_by scene.now shop.old) (length scene.now.frames)) (N.lines notes.old) (N.lines notes.new) (N.faults notes.old) (N.faults notes.new)) }
+    ensures err { IfErr result (λ e. DrawsInPart options (shaded_by scene.now shop.old) e (O.written sink.old) (O.written sink.new) (N.lines notes.old) (N.lines notes.new) (N.faults notes.old) (N.faults notes.new)) }
     ensures later { O.faults sink.old ≤ O.faults sink.new }
     ensures failed { IsErrOf result WriteFault → Rose (O.faults sink.old) (O.faults sink.new) }
 {
@@ -204,7 +209,8 @@ pub(crate) fn write_pictures<O: FrameSink, N: Notes>(
     requires few { length accepted.scene.frames ≤ 1000 }
     ensures closed { OnOk result (O.is_open sink.new ≡ false) }
     ensures ok { OnOk result (Adds (map whole (frames_of (accepted_in accepted))) (O.written sink.old) (O.written sink.new)) }
-    ensures err { OnErr result (AddsFront (frames_of (accepted_in accepted)) (O.written sink.old) (O.written sink.new)) }
+    ensures says { OnOk result (Says (first_summaries options (accepted_in accepted) (length accepted.scene.frames)) (N.lines notes.old) (N.lines notes.new) (N.faults notes.old) (N.faults notes.new)) }
+    ensures err { IfErr result (λ e. DrawsInPart options (accepted_in accepted) e (O.written sink.old) (O.written sink.new) (N.lines notes.old) (N.lines notes.new) (N.faults notes.old) (N.faults notes.new)) }
     ensures later { O.faults sink.old ≤ O.faults sink.new }
     ensures failed { IsErrOf result WriteFault → Rose (O.faults sink.old) (O.faults sink.new) }
 {

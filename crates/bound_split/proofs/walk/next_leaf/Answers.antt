@@ -1,6 +1,7 @@
 -- What was passed over so far, and the piece that the loop stands at.
-use Rattle.std.proofs.Common.{◌<◌, length, subst, sym}
+use Rattle.std.proofs.Common.{◌<◌, ◌∙◌, ap, true, length, subst, sym}
 use Rattle.std.proofs.lemmas.List.{nil_from_length}
+use Rattle.patches.specs.Parts.{Part}
 use Rattle.bound_split.specs.Decisions.{decision_of}
 use Rattle.bound_split.specs.Leaves.{IsDeepFrom, pending}
 use Rattle.bound_split.specs.Culling.{Skips, visits}
@@ -13,8 +14,21 @@ returns-in-Some-visit-clause-skipped g c = λ test is.
     let decide = decision_of c.args.camera.now c.args.rate c.args.bound (g.S.Surface.width_of c.args.s.now) (g.S.Surface.net_of c.args.s.now) in
     let all = pending decide c.args.stack.now.items in
     let popped = subst (λ s. Skips test all (pending decide s)) c.in-Some.ensures.items (c.loop-piece.invariant.skipped test is) in
-    let leaf = c.in-Some-visit.ensures.leaf in
+    let leaf = c.in-Some-visit.ensures.leaf decide (sym c.decide-decision.ensures.value) in
     rw (leaf.0, leaf.2) (skips-leaf decide test all c.pop.new.self.items c.in-Some.piece leaf.1 popped)
+
+pub returns-in-Some-visit-clause-passed : goal.returns-in-Some-visit-clause-passed
+returns-in-Some-visit-clause-passed g c =
+    let decide = decision_of c.args.camera.now c.args.rate c.args.bound (g.S.Surface.width_of c.args.s.now) (g.S.Surface.net_of c.args.s.now) in
+    let leaf = c.in-Some-visit.ensures.leaf decide (sym c.decide-decision.ensures.value) in
+    subst (λ (p : Part). g.F.Fn.post c.args.keeps (p, tt) true) (sym leaf.0) c.if-keeps.ensures
+
+pub returns-in-Some-visit-clause-sizes : goal.returns-in-Some-visit-clause-sizes
+returns-in-Some-visit-clause-sizes g c =
+    let decide = decision_of c.args.camera.now c.args.rate c.args.bound (g.S.Surface.width_of c.args.s.now) (g.S.Surface.net_of c.args.s.now) in
+    let is = sym c.decide-decision.ensures.value in
+    let leaf = c.in-Some-visit.ensures.leaf decide is in
+    ap decide leaf.0 ∙ is ∙ c.in-Some-visit.ensures.sizes
 
 pub loop-piece-preserved-in_default-visit : goal.loop-piece-preserved-in_default-visit
 loop-piece-preserved-in_default-visit g c =
@@ -22,7 +36,7 @@ loop-piece-preserved-in_default-visit g c =
     let all = pending decide c.args.stack.now.items in
     record {
       deep = c.visit.ensures.deep;
-      skipped = λ test is. skips-split decide test all c.pop.new.self.items c.visit.new.stack.items c.in-Some.piece c.in_default-visit.ensures.split
+      skipped = λ test is. skips-split decide test all c.pop.new.self.items c.visit.new.stack.items c.in-Some.piece (c.in_default-visit.ensures.split decide (sym c.decide-decision.ensures.value))
           (subst (λ s. Skips test all (pending decide s)) c.in-Some.ensures.items (c.loop-piece.invariant.skipped test is));
     }
 

@@ -1,37 +1,30 @@
-use Rattle.std.proofs.Common.{◌≡◌, ◌∙◌, ◌^◌, ap, to_z, of_z, arith}
-use Rattle.std.proofs.lemmas.Int.{ints}
-use Rattle.std.specs.Int.{w128}
-use Rattle.fixed_math.specs.Blossom.{blossom, mix}
-use Rattle.fixed_math.proofs.Fits.{read_back}
-use Rattle.patches.specs.Nets.{control}
+use Rattle.std.proofs.Common.{◌∙◌, arith, refl, ◌*◌, ◌^◌}
+use Rattle.fixed_math.specs.Blossom.{blossom}
+use Rattle.patches.proofs.Fractions.{same_64, short_step, short_below}
 use Rattle.patches.proofs.bilinear.exact.Goals as goal
+
+pub mix_short-requires-clause-small_a : goal.mix_short-requires-clause-small_a
+mix_short-requires-clause-small_a c =
+    let bottom = short_step c.args.u c.control_at-a.result c.control_at-b.result c.mix_short-bottom.result (2 ^ 31) (omega arith) c.control_at-a.ensures.bound c.control_at-b.ensures.bound c.mix_short-bottom.ensures.value c.mix_short-bottom.ensures.bound in
+    short_below c.mix_short-bottom.result (4096 * 2 ^ 31) _ (omega arith) (omega arith) bottom.1
+
+pub mix_short-requires-clause-small_b : goal.mix_short-requires-clause-small_b
+mix_short-requires-clause-small_b c =
+    let top = short_step c.args.u c.control_at-c.result c.control_at-d.result c.mix_short-top.result (2 ^ 31) (omega arith) c.control_at-c.ensures.bound c.control_at-d.ensures.bound c.mix_short-top.ensures.value c.mix_short-top.ensures.bound in
+    short_below c.mix_short-top.result (4096 * 2 ^ 31) _ (omega arith) (omega arith) top.1
 
 pub returns-clause-value : goal.returns-clause-value
 unfolding blossom
 returns-clause-value c =
-    let P = control 2 c.args.points.now c.args.axis in
-    let a = read_back c.control_at-a.result c.control_at-a.type_inv ∙ c.control_at-a.ensures.value in
-    let b = read_back c.control_at-b.result c.control_at-b.type_inv ∙ c.control_at-b.ensures.value in
-    let d = read_back c.control_at-c.result c.control_at-c.type_inv ∙ c.control_at-c.ensures.value in
-    let e = read_back c.control_at-d.result c.control_at-d.type_inv ∙ c.control_at-d.ensures.value in
-    let bottom : to_z w128 (of_z w128 c.mix-bottom.result) ≡ mix c.args.u (P 0 0) (P 1 0) =
-    read_back c.mix-bottom.result c.mix-bottom.type_inv ∙ c.mix-bottom.ensures.value
-    ∙ ap (λ x. mix c.args.u x (to_z w128 (of_z w128 c.control_at-b.result))) a ∙ ap (λ x. mix c.args.u (P 0 0) x) b in
-    let top : to_z w128 (of_z w128 c.mix-top.result) ≡ mix c.args.u (P 0 1) (P 1 1) =
-    read_back c.mix-top.result c.mix-top.type_inv ∙ c.mix-top.ensures.value
-    ∙ ap (λ x. mix c.args.u x (to_z w128 (of_z w128 c.control_at-d.result))) d ∙ ap (λ x. mix c.args.u (P 0 1) x) e in
-    read_back c.mix.result c.mix.type_inv ∙ c.mix.ensures.value
-    ∙ ap (λ x. mix c.args.v x (to_z w128 (of_z w128 c.mix-top.result))) bottom ∙ ap (λ x. mix c.args.v (mix c.args.u (P 0 0) (P 1 0)) x) top
-
-pub mix-requires-clause-small_a : goal.mix-requires-clause-small_a
-mix-requires-clause-small_a c = let b = c.mix-bottom.ensures.bound (2 ^ 31) (omega (arith, ints)) (omega (arith, ints)) in omega (arith, ints, b)
-
-pub mix-requires-clause-small_b : goal.mix-requires-clause-small_b
-mix-requires-clause-small_b c = let b = c.mix-top.ensures.bound (2 ^ 31) (omega (arith, ints)) (omega (arith, ints)) in omega (arith, ints, b)
+    let bottom = short_step c.args.u c.control_at-a.result c.control_at-b.result c.mix_short-bottom.result (2 ^ 31) (omega arith) c.control_at-a.ensures.bound c.control_at-b.ensures.bound c.mix_short-bottom.ensures.value c.mix_short-bottom.ensures.bound in
+    let top = short_step c.args.u c.control_at-c.result c.control_at-d.result c.mix_short-top.result (2 ^ 31) (omega arith) c.control_at-c.ensures.bound c.control_at-d.ensures.bound c.mix_short-top.ensures.value c.mix_short-top.ensures.bound in
+    let whole = short_step c.args.v c.mix_short-bottom.result c.mix_short-top.result c.mix_short.result (4096 * 2 ^ 31) (omega arith) bottom.1 top.1 c.mix_short.ensures.value c.mix_short.ensures.bound in
+    same_64 c.mix_short.result (omega (arith, whole.1)) ∙ whole.0
+    ∙ rw (bottom.0, top.0, c.control_at-a.ensures.value, c.control_at-b.ensures.value, c.control_at-c.ensures.value, c.control_at-d.ensures.value) refl
 
 pub returns-clause-bound : goal.returns-clause-bound
 returns-clause-bound c =
-    let a = c.mix-bottom.ensures.bound (2 ^ 31) (omega (arith, ints)) (omega (arith, ints)) in
-    let b = c.mix-top.ensures.bound (2 ^ 31) (omega (arith, ints)) (omega (arith, ints)) in
-    let d = c.mix.ensures.bound (2 ^ 43) (omega (arith, ints, a)) (omega (arith, ints, b)) in
-    omega (arith, ints, d)
+    let bottom = short_step c.args.u c.control_at-a.result c.control_at-b.result c.mix_short-bottom.result (2 ^ 31) (omega arith) c.control_at-a.ensures.bound c.control_at-b.ensures.bound c.mix_short-bottom.ensures.value c.mix_short-bottom.ensures.bound in
+    let top = short_step c.args.u c.control_at-c.result c.control_at-d.result c.mix_short-top.result (2 ^ 31) (omega arith) c.control_at-c.ensures.bound c.control_at-d.ensures.bound c.mix_short-top.ensures.value c.mix_short-top.ensures.bound in
+    let whole = short_step c.args.v c.mix_short-bottom.result c.mix_short-top.result c.mix_short.result (4096 * 2 ^ 31) (omega arith) bottom.1 top.1 c.mix_short.ensures.value c.mix_short.ensures.bound in
+    short_below c.mix_short.result (4096 * (4096 * 2 ^ 31)) _ (omega arith) (omega arith) whole.1

@@ -1,14 +1,14 @@
 use Rattle.buckets.specs.Shopped.{shaded_by}
 use Rattle.render.specs.Pictures.{picture_of}
-use Rattle.render.proofs.Writing.{one_part, one_whole}
+use Rattle.render.proofs.Courses.{part-left, whole-left}
 use Rattle.render.proofs.write.finished.Goals as goal
 
 pub returns-in_err-done-clause-err : goal.returns-in_err-done-clause-err
 returns-in_err-done-clause-err g c =
     let p = picture_of (shaded_by c.args.shown.now.scene.now c.args.shop.now) c.args.shown.now.frame.now in
-    one_part _ p _ _ c.in_err-done.ensures.err
+    part-left _ p _ _ c.in_err-done.ensures.err
 
 pub returns-in_err-line_of-clause-err : goal.returns-in_err-line_of-clause-err
 returns-in_err-line_of-clause-err g c =
     let p = picture_of (shaded_by c.args.shown.now.scene.now c.args.shop.now) c.args.shown.now.frame.now in
-    one_whole _ p _ _ c.in_ok-done.ensures.ok
+    whole-left _ p _ _ c.from_residual-in_err-line_of.ensures.1 c.in_ok-done.ensures.ok

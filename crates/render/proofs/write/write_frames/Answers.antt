@@ -1,9 +1,12 @@
-use Rattle.std.proofs.Common.{◌<◌, ◌∷◌, [], ◌∙◌, ap, sym, subst, List, All, length, map, arith}
+use Rattle.std.proofs.Common.{◌≡◌, ◌<◌, ◌∷◌, [], ◌∙◌, ap, sym, subst, List, All, length, map, arith}
 use Rattle.std.proofs.lemmas.List.Elements.{All-get_or}
-use Rattle.std.specs.Prelude.{OnErr}
-use Rattle.outside.specs.Frames.{whole, Adds, AddsFront}
+use Rattle.std.specs.Prelude.{option_map, string_bytes}
+use Rattle.outside.specs.Frames.{whole, Adds}
 use Rattle.outside.proofs.Entries.{adds-next}
-use Rattle.render.proofs.Writing.{front_next-err}
+use Rattle.render.proofs.Courses.{says-next-line}
+use Rattle.render.specs.Summary.{summary_of}
+use Rattle.render.specs.Answers.{LeavesFrame, DrawsInPart}
+use Rattle.render.proofs.Obeying.{draws-in-part, of-error}
 use Rattle.scene.specs.Scene.{FrameValue}
 use Rattle.shader_binding.specs.Sets.{Fits}
 use Rattle.shader_binding.specs.Bindings.{FitsPrim}
@@ -48,9 +51,13 @@ loop-index-preserved g c =
     let before = g.O.FrameSink.written c.loop-index.sink in
     let behind = g.O.FrameSink.written c.finished.new.sink in
     let one = subst (λ (s : ShaderSet). Adds (whole (picture_of (record { scene = c.args.scene.now; set = set_value s }) f) ∷ []) before behind) c.loop-index.invariant.set c.in_ok-line.ensures.ok in
+    let line : option_map string_bytes c.in_ok-line.line ≡ summary_of c.args.options a f =
+    subst (λ (s : ShaderSet). option_map string_bytes c.in_ok-line.line ≡ summary_of c.args.options (record { scene = c.args.scene.now; set = set_value s }) f) c.loop-index.invariant.set c.in_ok-line.ensures.summary in
     record {
       closed = c.in_ok-line.ensures.closed;
       added = adds-next (picture_of a) c.frames_in-frames.result.now c.loop-index.index f first before behind c.loop-index-test.true c.index-frames-index.is c.loop-index.invariant.added one;
+      says = says-next-line (summary_of c.args.options a) c.frames_in-frames.result.now c.loop-index.index f (option_map string_bytes c.in_ok-line.line) _ _ _ _ _ _
+          c.loop-index-test.true c.index-frames-index.is line c.loop-index.invariant.says c.tell.ensures;
       later = omega (arith, c.loop-index.invariant.later, c.finished.ensures.later);
       set = c.in_ok-line.ensures.set ∙ c.loop-index.invariant.set;
       count = omega (arith, c.loop-index.invariant.count, c.in_ok-line.ensures.count);
@@ -64,7 +71,9 @@ returns-in_err-line-clause-err g c =
     let first = g.O.FrameSink.written c.args.sink.now in
     let before = g.O.FrameSink.written c.loop-index.sink in
     let behind = g.O.FrameSink.written c.finished.new.sink in
-    let part = subst (λ (s : ShaderSet). AddsFront (picture_of (record { scene = c.args.scene.now; set = set_value s }) f ∷ []) before behind) c.loop-index.invariant.set c.in_err-line.ensures.err in
-    subst (λ (fs : List FrameValue). OnErr c.from_residual.result (AddsFront (map (picture_of a) fs) first behind)) c.frames_in-frames.ensures
-    (front_next-err c.from_residual.result (picture_of a) c.frames_in-frames.result.now c.loop-index.index f first before behind c.loop-index-test.true c.index-frames-index.is
-    c.loop-index.invariant.added part)
+    let o = c.args.options in
+    let fault = c.in_err-line.field-0.0 in
+    let left = subst (λ (s : ShaderSet). LeavesFrame fault (picture_of (record { scene = c.args.scene.now; set = set_value s }) f) before behind) c.loop-index.invariant.set c.in_err-line.ensures.err in
+    of-error c.from_residual.result fault (λ e. DrawsInPart o a e first behind _ _ _ _) c.from_residual.ensures.1
+    (draws-in-part o a fault c.frames_in-frames.result.now c.loop-index.index f first before behind _ _ _ _ c.frames_in-frames.ensures c.loop-index-test.true c.index-frames-index.is
+    c.loop-index.invariant.added left c.loop-index.invariant.says)

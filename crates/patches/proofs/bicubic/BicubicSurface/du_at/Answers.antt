@@ -1,6 +1,8 @@
-use Rattle.patches.proofs.Fractions.{slopes_below}
+use Rattle.std.proofs.Common.{◌∙◌, sym, subst, ◌^◌}
+use Rattle.patches.specs.Slopes.{AreBelow}
 use Rattle.patches.proofs.bicubic.BicubicSurface.du_at.Goals as goal
 
 pub returns-clause-small : goal.returns-clause-small
 returns-clause-small c =
-    slopes_below c.slope_along_u.result c.slope_along_u-2.result c.slope_along_u-3.result c.slope_along_u.ensures.bound c.slope_along_u-2.ensures.bound c.slope_along_u-3.ensures.bound
+    let h = c.du.ensures.within in
+    subst (AreBelow (2 ^ 40)) (sym (c.du.ensures.value ∙ c.curve.ensures.across c.args.u h)) (c.curve.ensures.across_small c.args.u h)

@@ -1,6 +1,8 @@
-use Rattle.patches.proofs.Fractions.{slopes_below}
+use Rattle.std.proofs.Common.{◌∙◌, sym, subst, ◌^◌}
+use Rattle.patches.specs.Slopes.{AreBelow}
 use Rattle.patches.proofs.bicubic.BicubicSurface.dv_at.Goals as goal
 
 pub returns-clause-small : goal.returns-clause-small
 returns-clause-small c =
-    slopes_below c.slope_along_v.result c.slope_along_v-2.result c.slope_along_v-3.result c.slope_along_v.ensures.bound c.slope_along_v-2.ensures.bound c.slope_along_v-3.ensures.bound
+    let h = c.dv.ensures.within in
+    subst (AreBelow (2 ^ 40)) (sym (c.dv.ensures.value ∙ c.curve.ensures.up c.args.u h)) (c.curve.ensures.up_small c.args.u h)
