@@ -1,6 +1,5 @@
 // Numbers, texts of one's own, and names by their places.
-use fixed_math::{Names, Num, Text, Wide, hash32, isqrt, unit};
-use rib_lex::Decimal;
+use fixed_math::{Decimal, Names, Num, Text, Wide, hash32, isqrt, unit};
 use std::test::Fail;
 
 fn raw(x: i64) -> Num {

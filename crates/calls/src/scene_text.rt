@@ -1,5 +1,6 @@
 // Tokens and requests.
-use rib_lex::{Decimal, Token, TokenKind, tokens};
+use fixed_math::Decimal;
+use rib_lex::{Token, TokenKind, tokens};
 use rib_reader::{Arg, Class, Kind, Param, Req, Request, Values, holding, last_named, requests};
 use std::alloc::Global;
 use std::test::Fail;

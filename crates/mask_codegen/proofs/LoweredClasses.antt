@@ -27,7 +27,8 @@ use Rattle.sl_meaning.specs.Core as C
 use Rattle.sl_meaning.specs.Core.{Slot, class_in}
 use Rattle.sl_meaning.specs.Lowered as lowered
 use Rattle.sl_meaning.specs.Lowered.{expr, exprs, arguments, stmt, stmts, put_into, read, with_last}
-use Rattle.mask_codegen.proofs.LoweredScopes.{classes_of, Scope, scope_after, scope_after_all, scope_of_formals, variable_class}
+use Rattle.mask_codegen.specs.CoreClasses.{classes_of, ClassesAgree}
+use Rattle.mask_codegen.proofs.LoweredScopes.{Scope, scope_after, scope_after_all, scope_of_formals, variable_class}
 
 both : (a b c d : Bool) → a ≡ c → b ≡ d → (a && b) ≡ (c && d)
 both a b c d h k = cc
@@ -192,3 +193,6 @@ mutual
   stmts_class (T.first s rest) g ks us u ss q h =
       let parts = and_parts (typed_stmt g ks s) (typed_stmts g (types_after s ks) rest) h in
       both _ _ _ _ (stmt_class s g ks us u ss q parts.0) (stmts_class rest g (types_after s ks) (classes.after s us) u (C.after (stmt s us u) ss) (scope_after s u ss us ks q) parts.1)
+
+pub classes_agree : ClassesAgree
+classes_agree e g kinds us u ss q h = expr_class e g kinds us u ss q h

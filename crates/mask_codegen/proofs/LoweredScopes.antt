@@ -16,10 +16,7 @@ use Rattle.sl_meaning.specs.Core as C
 use Rattle.sl_meaning.specs.Core.{Slot, slot, no_slot, class_in}
 use Rattle.sl_meaning.specs.Lowered.{stmt, stmts, arguments, slots}
 use Rattle.core_codegen.specs.Fine.{InScope}
-
-abbrev pub classes_of : List Slot → List Bool
-classes_of [] = []
-classes_of (s ∷ ss) = s.uniform ∷ classes_of ss
+use Rattle.mask_codegen.specs.CoreClasses.{classes_of}
 
 abbrev pub types_of : List Slot → List SlType
 types_of [] = []

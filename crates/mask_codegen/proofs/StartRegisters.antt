@@ -20,7 +20,7 @@ use Rattle.grid_code.specs.Names.{reg, name_at}
 use Rattle.grid_code.specs.Uses.{kind_registers, registers_from}
 use Rattle.grid_code.proofs.Both.{left, right}
 use Rattle.core_codegen.specs.Slots.{slots_of}
-use Rattle.mask_codegen.proofs.LoweredScopes.{classes_of}
+use Rattle.mask_codegen.specs.CoreClasses.{classes_of}
 use Rattle.mask_codegen.proofs.Made.{frame, weight, three_unless}
 use Rattle.mask_codegen.proofs.MadeLoad.{rows_reg}
 use Rattle.core_codegen.proofs.Relation.{name_with, name_back, place_small}

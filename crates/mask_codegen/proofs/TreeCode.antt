@@ -33,7 +33,8 @@ use Rattle.mask_codegen.proofs.LoweredLoad.{stmts_rows}
 use Rattle.mask_codegen.proofs.LoweredNesting.{body_nesting}
 use Rattle.mask_codegen.proofs.LoweredPlaced.{body_placed}
 use Rattle.mask_codegen.proofs.LoweredRoom.{body_room}
-use Rattle.mask_codegen.proofs.LoweredScopes.{classes_of, scope_of_params}
+use Rattle.mask_codegen.specs.CoreClasses.{classes_of}
+use Rattle.mask_codegen.proofs.LoweredScopes.{scope_of_params}
 use Rattle.mask_codegen.proofs.Made.{shared, made_all, weight, load_all}
 use Rattle.mask_codegen.proofs.MadeLoad.{weight_on, all_load}
 use Rattle.mask_codegen.proofs.Naming.{within_named}

@@ -3,9 +3,11 @@
 
 mod compiled;
 mod fault;
+mod laws;
 mod lit;
 mod named;
 mod sets;
 
 pub use compiled::{Compiled, compile};
 pub use fault::CodeFault;
+pub use laws::classes_agree;

@@ -1,15 +1,17 @@
 -- Two texts with a line feed between them.
-use Rattle.std.proofs.Common.{◌≡◌, ℕ, ◌+◌, ◌-◌, ◌≤◌, ◌∷◌, [], ◌++◌, List, Option, Some, None, Result, Ok, Err, length, length-append, take, drop, zero, suc, Bool, true, false, cond, eqb, refl, sym, ap, ◌∙◌, subst, arith, ◌&&◌, ◌||◌}
+use Rattle.std.proofs.Common.{◌≡◌, ℕ, ◌+◌, ◌-◌, ◌≤◌, ◌∷◌, [], ◌++◌, List, Option, Some, None, Result, Ok, Err, length, length-append, take, drop, zero, suc, Bool, true, false, cond, eqb, refl, sym, ap, ◌∙◌, subst, arith, ◌&&◌}
 use Rattle.std.specs.List.{prefix_len, take_while}
 use Rattle.std.proofs.lemmas.List.{take-append-le, drop-append-le}
 use Rattle.std.proofs.lemmas.List.Sums.{prefix_len-le-length, sum_by-cons}
-use Rattle.rib_lex.specs.Bytes.{line_feeds, is_white, is_letter, is_name, is_in_line, is_digit, is_sign, is_minus, is_point, is_mark, runs_on, begins_number, is_plain}
+use Rattle.fixed_math.specs.NumberBytes.{is_digit, is_sign, is_minus, is_point, is_mark}
+use Rattle.fixed_math.specs.DecimalText.{Exponent, head_is, behind_one, digits_at, behind_digits, is_none, exponent_text, exponent_of, exponent_behind, exponent_at, decimal_of, exponent_value, number_of, fraction_place, decimal_at}
+use Rattle.fixed_math.specs.declared.decimal.Decimal.{Decimal}
+use Rattle.rib_lex.specs.Bytes.{line_feeds, is_white, is_letter, is_name, is_in_line, runs_on, begins_number, is_plain}
 use Rattle.rib_lex.specs.Strings.{escaped, longer, longer_where, string_in}
-use Rattle.rib_lex.specs.Numbers.{Exponent, head_is, behind_one, digits_at, behind_digits, is_none, exponent_text, exponent_of, exponent_behind, exponent_at, is_spoiled, decimal_of, exponent_value, number_of, fraction_place, number_at}
+use Rattle.rib_lex.specs.Numbers.{closed, number_at}
 use Rattle.rib_lex.specs.Found.{found_at, found_string, found_number}
 use Rattle.rib_lex.specs.Tokens.{tokens_from, tokens_of, found_then, with_front, line_after, token, Placed}
 use Rattle.rib_lex.specs.Joined.{moved, TextsJoin}
-use Rattle.rib_lex.specs.declared.decimal.Decimal.{Decimal}
 use Rattle.rib_lex.specs.declared.token.Token.{Token}
 use Rattle.rib_lex.specs.declared.token.TokenKind.TheVariants.{Name, Number, Open, Close}
 use Rattle.rib_lex.specs.declared.token.LexCode.{LexCode}
@@ -47,9 +49,9 @@ module _ (c : List ℕ) where
 
   -- ---- numbers
 
-  abbrev exponent_more : Result Exponent LexCode → Result Exponent LexCode
-  exponent_more (Ok e) = Ok (exponent_text e.negative e.digits (e.rest ++ 10 ∷ c))
-  exponent_more (Err code) = Err code
+  abbrev exponent_more : Option Exponent → Option Exponent
+  exponent_more (Some e) = Some (exponent_text e.negative e.digits (e.rest ++ 10 ∷ c))
+  exponent_more None = None
 
   abbrev number_more : Result (Decimal × List ℕ) LexCode → Result (Decimal × List ℕ) LexCode
   number_more (Ok n) = Ok (n.0, n.1 ++ 10 ∷ c)
@@ -70,7 +72,7 @@ module _ (c : List ℕ) where
       (ap digits_at sign ∙ front-more is_digit (behind_one is_sign xs) refl) (ap behind_digits sign ∙ behind-more is_digit (behind_one is_sign xs) refl)
       ∙ exponent_of-more (head_is is_minus xs) (digits_at (behind_one is_sign xs)) (behind_digits (behind_one is_sign xs))
 
-  exponent_cond : (t : Bool) (x y : Result Exponent LexCode) → cond t (exponent_more x) (exponent_more y) ≡ exponent_more (cond t x y)
+  exponent_cond : (t : Bool) (x y : Option Exponent) → cond t (exponent_more x) (exponent_more y) ≡ exponent_more (cond t x y)
   exponent_cond true x y = refl
   exponent_cond false x y = refl
 
@@ -80,22 +82,34 @@ module _ (c : List ℕ) where
   exponent_at-more : (xs : List ℕ) → exponent_at (xs ++ 10 ∷ c) ≡ exponent_more (exponent_at xs)
   exponent_at-more xs =
       cond-same (head_is is_mark (xs ++ 10 ∷ c)) (head_is is_mark xs) (exponent_behind (behind_one is_mark (xs ++ 10 ∷ c))) (exponent_more (exponent_behind (behind_one is_mark xs)))
-      (Ok (exponent_text false [] (xs ++ 10 ∷ c))) (exponent_more (Ok (exponent_text false [] xs))) (head_is-more is_mark xs refl)
+      (Some (exponent_text false [] (xs ++ 10 ∷ c))) (exponent_more (Some (exponent_text false [] xs))) (head_is-more is_mark xs refl)
       (ap exponent_behind (behind_one-more is_mark xs refl) ∙ exponent_behind-more (behind_one is_mark xs)) refl
-      ∙ exponent_cond (head_is is_mark xs) (exponent_behind (behind_one is_mark xs)) (Ok (exponent_text false [] xs))
+      ∙ exponent_cond (head_is is_mark xs) (exponent_behind (behind_one is_mark xs)) (Some (exponent_text false [] xs))
 
-  number_cond : (t : Bool) (d : Decimal) (rest : List ℕ) → cond t (Err L4) (Ok (d, rest ++ 10 ∷ c)) ≡ number_more (cond t (Err L4) (Ok (d, rest)))
-  number_cond true d rest = refl
-  number_cond false d rest = refl
+  -- the same of a decimal that was read
+  abbrev read_more : Option (Decimal × List ℕ) → Option (Decimal × List ℕ)
+  read_more None = None
+  read_more (Some n) = Some (n.0, n.1 ++ 10 ∷ c)
 
-  number_of-more : (negative : Bool) (whole fraction : List ℕ) (e : Result Exponent LexCode) → number_of negative whole fraction (exponent_more e) ≡ number_more (number_of negative whole fraction e)
-  number_of-more negative whole fraction (Err code) = refl
-  number_of-more negative whole fraction (Ok e) =
-      let d : Decimal = decimal_of negative (whole ++ fraction) (length fraction) (exponent_value e.negative e.digits) in
-      ap (λ t. cond (is_none whole && is_none fraction || t) (Err L4) (Ok (d, e.rest ++ 10 ∷ c))) (head_is-more runs_on e.rest refl)
-      ∙ number_cond (is_spoiled whole fraction e.rest) d e.rest
+  read_cond : (t : Bool) (d : Decimal) (rest : List ℕ) → cond t None (Some (d, rest ++ 10 ∷ c)) ≡ read_more (cond t None (Some (d, rest)))
+  read_cond true d rest = refl
+  read_cond false d rest = refl
 
-  number_of-same : (n m : Bool) (ws vs fs gs : List ℕ) (x y : Result Exponent LexCode) → n ≡ m → ws ≡ vs → fs ≡ gs → x ≡ y → number_of n ws fs x ≡ number_of m vs gs y
+  number_of-more : (negative : Bool) (whole fraction : List ℕ) (e : Option Exponent) → number_of negative whole fraction (exponent_more e) ≡ read_more (number_of negative whole fraction e)
+  number_of-more negative whole fraction None = refl
+  number_of-more negative whole fraction (Some e) =
+      read_cond (is_none whole && is_none fraction) (decimal_of negative (whole ++ fraction) (length fraction) (exponent_value e.negative e.digits)) e.rest
+
+  closed_cond : (t : Bool) (n : Decimal × List ℕ) → cond t (Err L4) (Ok (n.0, n.1 ++ 10 ∷ c)) ≡ number_more (cond t (Err L4) (Ok n))
+  closed_cond true n = refl
+  closed_cond false n = refl
+
+  closed-more : (n : Option (Decimal × List ℕ)) → closed (read_more n) ≡ number_more (closed n)
+  closed-more None = refl
+  closed-more (Some n) =
+      ap (λ t. cond t (Err L4) (Ok (n.0, n.1 ++ 10 ∷ c))) (head_is-more runs_on n.1 refl) ∙ closed_cond (head_is runs_on n.1) n
+
+  number_of-same : (n m : Bool) (ws vs fs gs : List ℕ) (x y : Option Exponent) → n ≡ m → ws ≡ vs → fs ≡ gs → x ≡ y → number_of n ws fs x ≡ number_of m vs gs y
   number_of-same n m ws vs fs gs x y a b e f =
       ap (λ z. number_of z ws fs x) a ∙ ap (λ z. number_of m z fs x) b ∙ ap (λ z. number_of m vs z x) e ∙ ap (number_of m vs gs) f
 
@@ -105,8 +119,8 @@ module _ (c : List ℕ) where
       ∙ ap (behind_one is_point) (behind-more is_digit (behind_one is_sign xs) refl)
       ∙ behind_one-more is_point (behind_digits (behind_one is_sign xs)) refl
 
-  number_at-more : (xs : List ℕ) → number_at (xs ++ 10 ∷ c) ≡ number_more (number_at xs)
-  number_at-more xs =
+  decimal_at-more : (xs : List ℕ) → decimal_at (xs ++ 10 ∷ c) ≡ read_more (decimal_at xs)
+  decimal_at-more xs =
       let place = fraction_place-more xs in
       number_of-same (head_is is_minus (xs ++ 10 ∷ c)) (head_is is_minus xs) (digits_at (behind_one is_sign (xs ++ 10 ∷ c))) (digits_at (behind_one is_sign xs))
       (digits_at (fraction_place (xs ++ 10 ∷ c))) (digits_at (fraction_place xs)) (exponent_at (behind_digits (fraction_place (xs ++ 10 ∷ c))))
@@ -116,6 +130,9 @@ module _ (c : List ℕ) where
       (ap (λ ys. exponent_at (behind_digits ys)) place ∙ ap exponent_at (behind-more is_digit (fraction_place xs) refl)
       ∙ exponent_at-more (behind_digits (fraction_place xs)))
       ∙ number_of-more (head_is is_minus xs) (digits_at (behind_one is_sign xs)) (digits_at (fraction_place xs)) (exponent_at (behind_digits (fraction_place xs)))
+
+  number_at-more : (xs : List ℕ) → number_at (xs ++ 10 ∷ c) ≡ number_more (number_at xs)
+  number_at-more xs = ap closed (decimal_at-more xs) ∙ closed-more (decimal_at xs)
 
   -- ---- strings
 

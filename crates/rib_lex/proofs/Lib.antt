@@ -1,6 +1,3 @@
-pub mod DigitLemmas
-pub mod Decimals
-pub mod NumberLemmas
 pub mod Texts
 pub mod Unescaping
 pub mod Steps

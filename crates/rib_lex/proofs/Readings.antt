@@ -1,21 +1,22 @@
 -- From a text of these tokens just these tokens are read.
-use Rattle.std.proofs.Common.{◌≡◌, ℕ, ◌+◌, ◌-◌, ◌≤◌, ◌∷◌, [], ◌++◌, List, Result, Ok, Err, length, length-append, take, drop, suc, Bool, true, false, cond, eqb, refl, sym, ap, ◌∙◌, subst, arith, append_assoc, add-zero}
+use Rattle.std.proofs.Common.{◌≡◌, ℕ, ◌+◌, ◌-◌, ◌≤◌, ◌∷◌, [], ◌++◌, List, Option, Some, None, Ok, length, length-append, take, drop, suc, Bool, true, false, cond, eqb, refl, sym, ap, ◌∙◌, subst, arith, append_assoc, add-zero}
 use Rattle.std.specs.List.{prefix_len, take_while}
 use Rattle.std.proofs.lemmas.Bool.Decides.{nat_tests}
 use Rattle.std.proofs.lemmas.List.{append-nil}
 use Rattle.std.proofs.lemmas.List.Sums.{sum_by-cons, sum_by-append}
 use Rattle.std.proofs.Math.Seq.{drop-append_seam, take-append_seam}
-use Rattle.rib_lex.specs.Bytes.{line_feeds, is_white, is_letter, is_name, is_in_line, is_digit, is_sign, is_minus, is_point, begins_number, is_plain}
+use Rattle.fixed_math.specs.NumberBytes.{is_digit, is_sign, is_minus, is_point}
+use Rattle.fixed_math.specs.DecimalText.{Exponent, head_is, behind_one, digits_at, behind_digits, exponent_at, number_of, fraction_place}
+use Rattle.fixed_math.specs.declared.decimal.Decimal.{Decimal}
+use Rattle.rib_lex.specs.Bytes.{line_feeds, is_white, is_letter, is_name, is_in_line, begins_number, is_plain}
 use Rattle.rib_lex.specs.Strings.{longer, longer_where, string_in}
-use Rattle.rib_lex.specs.Numbers.{Exponent, head_is, behind_one, digits_at, behind_digits, exponent_at, number_of, fraction_place, number_at}
+use Rattle.rib_lex.specs.Numbers.{closed, number_at}
 use Rattle.rib_lex.specs.Found.{found_at, found_in, found_string, found_number}
 use Rattle.rib_lex.specs.Tokens.{tokens_from, with_front, line_after, token}
 use Rattle.rib_lex.specs.Spelling.{Each, IsGap, no_gap, white_gap, comment_gap, IsQuoted, closing, plain_byte, escaped_byte, IsWord, IsText, ends, goes_on, TokensSpell}
-use Rattle.rib_lex.specs.declared.decimal.Decimal.{Decimal}
 use Rattle.rib_lex.specs.declared.token.Token.{Token}
 use Rattle.rib_lex.specs.declared.token.TokenKind.{TokenKind}
 use Rattle.rib_lex.specs.declared.token.TokenKind.TheVariants.{Name, Str, Number, Open, Close}
-use Rattle.rib_lex.specs.declared.token.LexCode.{LexCode}
 use Rattle.rib_lex.specs.declared.found.Found.TheVariants.{Whole}
 use Rattle.rib_lex.proofs.Steps.{pass, one_more, step-whole}
 use Rattle.rib_lex.proofs.Joins.{white_step, add-one-first}
@@ -123,12 +124,12 @@ no_number b bs d rest h is =
     let whole : digits_at (behind_one is_sign (b ∷ bs)) ≡ [] = ap digits_at unsigned ∙ no_digits in
     let fraction : digits_at (fraction_place (b ∷ bs)) ≡ [] = ap digits_at place ∙ no_digits in
     nothing (head_is is_minus (b ∷ bs)) (exponent_at (behind_digits (fraction_place (b ∷ bs)))) d rest
-    (sym (ap (λ w. number_of (head_is is_minus (b ∷ bs)) w (digits_at (fraction_place (b ∷ bs))) (exponent_at (behind_digits (fraction_place (b ∷ bs))))) whole
-    ∙ ap (λ f. number_of (head_is is_minus (b ∷ bs)) [] f (exponent_at (behind_digits (fraction_place (b ∷ bs))))) fraction) ∙ is)
+    (sym (ap closed (ap (λ w. number_of (head_is is_minus (b ∷ bs)) w (digits_at (fraction_place (b ∷ bs))) (exponent_at (behind_digits (fraction_place (b ∷ bs))))) whole
+    ∙ ap (λ f. number_of (head_is is_minus (b ∷ bs)) [] f (exponent_at (behind_digits (fraction_place (b ∷ bs))))) fraction)) ∙ is)
   where
-    nothing : (negative : Bool) (e : Result Exponent LexCode) (d : Decimal) (rest : List ℕ) → number_of negative [] [] e ≡ Ok (d, rest) → ⊥
-    nothing negative (Ok e) d rest h = cc
-    nothing negative (Err code) d rest h = cc
+    nothing : (negative : Bool) (e : Option Exponent) (d : Decimal) (rest : List ℕ) → closed (number_of negative [] [] e) ≡ Ok (d, rest) → ⊥
+    nothing negative (Some e) d rest h = cc
+    nothing negative None d rest h = cc
 
 begins : (t : Bool) (b : ℕ) (bs : List ℕ) (d : Decimal) (rest : List ℕ) → begins_number b ≡ t → number_at (b ∷ bs) ≡ Ok (d, rest) → begins_number b ≡ true
 begins true b bs d rest h is = h

@@ -1,17 +1,20 @@
 -- A text is one of the tokens that are read from it.
-use Rattle.std.proofs.Common.{◌≡◌, ℕ, ◌+◌, ◌-◌, ◌≤◌, ◌∷◌, [], ◌++◌, List, Option, Some, None, Result, Ok, Err, length, length-append, take, drop, zero, suc, Bool, true, false, cond, eqb, refl, sym, ap, ◌∙◌, subst, arith, ◌||◌, append_assoc}
+use Rattle.std.proofs.Common.{◌≡◌, ℕ, ◌+◌, ◌-◌, ◌≤◌, ◌∷◌, [], ◌++◌, List, Option, Some, None, Result, Ok, Err, length, length-append, take, drop, zero, suc, Bool, true, false, cond, eqb, refl, sym, ap, ◌∙◌, subst, arith, ◌&&◌, ◌||◌, append_assoc}
 use Rattle.std.specs.List.{prefix_len, take_while}
 use Rattle.std.proofs.lemmas.Bool.{eqb-true}
 use Rattle.std.proofs.lemmas.List.{take-append-drop, length-drop, append-nil}
 use Rattle.std.proofs.lemmas.List.Sums.{prefix_len-le-length, sum_by-cons, sum_by-append}
 use Rattle.std.proofs.Math.Seq.{drop-append_seam, take-append_seam}
-use Rattle.rib_lex.specs.Bytes.{line_feeds, is_white, is_letter, is_name, is_in_line, is_digit, is_sign, is_minus, is_point, is_mark, begins_number, is_plain}
+use Rattle.fixed_math.specs.NumberBytes.{is_digit, is_sign, is_minus, is_point, is_mark}
+use Rattle.fixed_math.specs.DecimalText.{Exponent, head_is, behind_one, digits_at, behind_digits, is_none, exponent_text, exponent_of, exponent_behind, exponent_at, decimal_of, exponent_value, number_of, fraction_place, decimal_at}
+use Rattle.fixed_math.specs.declared.decimal.Decimal.{Decimal}
+use Rattle.fixed_math.proofs.DecimalTexts.{front_passes}
+use Rattle.rib_lex.specs.Bytes.{line_feeds, is_white, is_letter, is_name, is_in_line, runs_on, begins_number, is_plain}
 use Rattle.rib_lex.specs.Strings.{escaped, longer, longer_where, string_in}
-use Rattle.rib_lex.specs.Numbers.{Exponent, head_is, behind_one, digits_at, behind_digits, exponent_text, exponent_of, exponent_behind, exponent_at, is_spoiled, decimal_of, exponent_value, number_of, fraction_place, number_at}
+use Rattle.rib_lex.specs.Numbers.{closed, number_at}
 use Rattle.rib_lex.specs.Found.{found_at, found_string, found_number}
 use Rattle.rib_lex.specs.Tokens.{tokens_from, tokens_of, found_then, with_front, line_after, token, Placed}
 use Rattle.rib_lex.specs.Spelling.{Each, no_gap, white_gap, comment_gap, IsQuoted, closing, plain_byte, escaped_byte, IsWord, IsText, ends, goes_on}
-use Rattle.rib_lex.specs.declared.decimal.Decimal.{Decimal}
 use Rattle.rib_lex.specs.declared.token.Token.{Token}
 use Rattle.rib_lex.specs.declared.token.TokenKind.{TokenKind}
 use Rattle.rib_lex.specs.declared.token.TokenKind.TheVariants.{Name, Open, Close}
@@ -19,7 +22,6 @@ use Rattle.rib_lex.specs.declared.token.LexCode.{LexCode}
 use Rattle.rib_lex.specs.declared.token.LexCode.TheVariants.{L1, L4}
 use Rattle.rib_lex.specs.declared.found.Found.{Found}
 use Rattle.rib_lex.specs.declared.found.Found.TheVariants.{Blank, Whole, Fault}
-use Rattle.rib_lex.proofs.NumberLemmas.{front_passes}
 use Rattle.rib_lex.proofs.Steps.{pass, passes, one_more}
 use Rattle.rib_lex.proofs.Joins.{white_step, found_at-within, Within, add-one-first}
 
@@ -90,40 +92,52 @@ digits-behind xs = record { front = take (prefix_len is_digit xs) xs; is = sym (
 length-behind : (rest all : List ℕ) → IsBehind rest all → length rest ≤ length all
 length-behind rest all h = omega (arith, ap length h.is, length-append h.front rest)
 
-abbrev ExponentBehind : Result Exponent LexCode → List ℕ → Type 0
-ExponentBehind (Ok e) all = IsBehind e.rest all
-ExponentBehind (Err code) all = Unit {0}
+abbrev ExponentBehind : Option Exponent → List ℕ → Type 0
+ExponentBehind (Some e) all = IsBehind e.rest all
+ExponentBehind None all = Unit {0}
 
 exponent_of-behind : (negative : Bool) (ds rest all : List ℕ) → IsBehind rest all → ExponentBehind (exponent_of negative ds rest) all
 exponent_of-behind negative [] rest all h = tt
 exponent_of-behind negative (d ∷ ds) rest all h = h
 
-exponent_cond-behind : (t : Bool) (x y : Result Exponent LexCode) (all : List ℕ) → ExponentBehind x all → ExponentBehind y all → ExponentBehind (cond t x y) all
+exponent_cond-behind : (t : Bool) (x y : Option Exponent) (all : List ℕ) → ExponentBehind x all → ExponentBehind y all → ExponentBehind (cond t x y) all
 exponent_cond-behind true x y all h k = h
 exponent_cond-behind false x y all h k = k
 
 exponent_at-behind : (xs : List ℕ) → ExponentBehind (exponent_at xs) xs
 exponent_at-behind xs =
     let marked : List ℕ = behind_one is_mark xs in
-    exponent_cond-behind (head_is is_mark xs) (exponent_behind (behind_one is_mark xs)) (Ok (exponent_text false [] xs)) xs
+    exponent_cond-behind (head_is is_mark xs) (exponent_behind (behind_one is_mark xs)) (Some (exponent_text false [] xs)) xs
     (exponent_of-behind (head_is is_minus (behind_one is_mark xs)) (digits_at (behind_one is_sign (behind_one is_mark xs))) (behind_digits (behind_one is_sign (behind_one is_mark xs))) xs
     (behind_both xs (behind_one is_mark xs) (behind_digits (behind_one is_sign (behind_one is_mark xs))) (behind_one-behind is_mark xs)
     (behind_both (behind_one is_mark xs) (behind_one is_sign (behind_one is_mark xs)) (behind_digits (behind_one is_sign (behind_one is_mark xs)))
     (behind_one-behind is_sign (behind_one is_mark xs)) (digits-behind (behind_one is_sign (behind_one is_mark xs))))))
     (behind_self xs)
 
+abbrev ReadBehind : Option (Decimal × List ℕ) → List ℕ → Type 0
+ReadBehind None all = Unit {0}
+ReadBehind (Some n) all = IsBehind n.1 all
+
 abbrev pub NumberBehind : Result (Decimal × List ℕ) LexCode → List ℕ → Type 0
 NumberBehind (Ok n) all = IsBehind n.1 all
 NumberBehind (Err code) all = Unit {0}
 
-number_cond-behind : (t : Bool) (d : Decimal) (rest all : List ℕ) → IsBehind rest all → NumberBehind (cond t (Err L4) (Ok (d, rest))) all
-number_cond-behind true d rest all h = tt
-number_cond-behind false d rest all h = h
+read_cond-behind : (t : Bool) (d : Decimal) (rest all : List ℕ) → IsBehind rest all → ReadBehind (cond t None (Some (d, rest))) all
+read_cond-behind true d rest all h = tt
+read_cond-behind false d rest all h = h
 
-number_of-behind : (negative : Bool) (whole fraction : List ℕ) (e : Result Exponent LexCode) (all : List ℕ) → ExponentBehind e all → NumberBehind (number_of negative whole fraction e) all
-number_of-behind negative whole fraction (Ok e) all h =
-    number_cond-behind (is_spoiled whole fraction e.rest) (decimal_of negative (whole ++ fraction) (length fraction) (exponent_value e.negative e.digits)) e.rest all h
-number_of-behind negative whole fraction (Err code) all h = tt
+number_of-behind : (negative : Bool) (whole fraction : List ℕ) (e : Option Exponent) (all : List ℕ) → ExponentBehind e all → ReadBehind (number_of negative whole fraction e) all
+number_of-behind negative whole fraction None all h = tt
+number_of-behind negative whole fraction (Some e) all h =
+    read_cond-behind (is_none whole && is_none fraction) (decimal_of negative (whole ++ fraction) (length fraction) (exponent_value e.negative e.digits)) e.rest all h
+
+closed_cond-behind : (t : Bool) (n : Decimal × List ℕ) (all : List ℕ) → IsBehind n.1 all → NumberBehind (cond t (Err L4) (Ok n)) all
+closed_cond-behind true n all h = tt
+closed_cond-behind false n all h = h
+
+closed-behind : (n : Option (Decimal × List ℕ)) (all : List ℕ) → ReadBehind n all → NumberBehind (closed n) all
+closed-behind None all h = tt
+closed-behind (Some n) all h = closed_cond-behind (head_is runs_on n.1) n all h
 
 -- a first byte that begins a number belongs to it
 first_taken : (s d p : Bool) (b : ℕ) (bs : List ℕ) → is_sign b ≡ s → is_digit b ≡ d → is_point b ≡ p → begins_number b ≡ true → IsBehind (behind_digits (fraction_place (b ∷ bs))) bs
@@ -151,14 +165,15 @@ first_taken false false false b bs hs hd hp h =
 
 pub number-behind : (b : ℕ) (bs : List ℕ) → begins_number b ≡ true → NumberBehind (number_at (b ∷ bs)) bs
 number-behind b bs h =
-    number_of-behind (head_is is_minus (b ∷ bs)) (digits_at (behind_one is_sign (b ∷ bs))) (digits_at (fraction_place (b ∷ bs)))
+    closed-behind (decimal_at (b ∷ bs)) bs
+    (number_of-behind (head_is is_minus (b ∷ bs)) (digits_at (behind_one is_sign (b ∷ bs))) (digits_at (fraction_place (b ∷ bs)))
     (exponent_at (behind_digits (fraction_place (b ∷ bs)))) bs
     (exponent-from (exponent_at (behind_digits (fraction_place (b ∷ bs)))) (behind_digits (fraction_place (b ∷ bs))) bs
-    (first_taken (is_sign b) (is_digit b) (is_point b) b bs refl refl refl h) (exponent_at-behind (behind_digits (fraction_place (b ∷ bs)))))
+    (first_taken (is_sign b) (is_digit b) (is_point b) b bs refl refl refl h) (exponent_at-behind (behind_digits (fraction_place (b ∷ bs))))))
   where
-    exponent-from : (e : Result Exponent LexCode) (mid all : List ℕ) → IsBehind mid all → ExponentBehind e mid → ExponentBehind e all
-    exponent-from (Ok e) mid all h k = behind_both all mid e.rest h k
-    exponent-from (Err code) mid all h k = tt
+    exponent-from : (e : Option Exponent) (mid all : List ℕ) → IsBehind mid all → ExponentBehind e mid → ExponentBehind e all
+    exponent-from (Some e) mid all h k = behind_both all mid e.rest h k
+    exponent-from None mid all h k = tt
 
 -- ---- what is found is a word or a comment
 

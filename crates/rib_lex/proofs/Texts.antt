@@ -5,7 +5,7 @@ use Rattle.std.proofs.lemmas.Str.Ascii.{IsAscii-from_all}
 use Rattle.std.specs.Str.{IsAscii}
 use Rattle.std.specs.List.{take_while}
 use Rattle.rib_lex.specs.Bytes.{is_name}
-use Rattle.rib_lex.proofs.NumberLemmas.{front_passes}
+use Rattle.fixed_math.proofs.DecimalTexts.{front_passes}
 
 name_byte_is_ascii : (b : ℕ) → is_name b ≡ true → b < 128
 name_byte_is_ascii b h = grind (arith, nat_tests)

@@ -1,6 +1,7 @@
 -- The kinds of bytes of a scene's text.
 use Rattle.std.specs.Prelude.{ℕ, Bool, ◌&&◌, ◌||◌, ◌==◌, nat_le, not, List}
 use Rattle.std.specs.List.{count_by}
+use Rattle.fixed_math.specs.NumberBytes.{is_digit, is_sign, is_point}
 
 abbrev pub is_between : ℕ → ℕ → ℕ → Bool
 is_between low high b = nat_le low b && nat_le b high
@@ -8,9 +9,6 @@ is_between low high b = nat_le low b && nat_le b high
 -- space, tab, line feed, carriage return
 abbrev pub is_white : ℕ → Bool
 is_white b = b == 32 || b == 9 || b == 10 || b == 13
-
-abbrev pub is_digit : ℕ → Bool
-is_digit b = is_between 48 57 b
 
 -- a letter or _
 abbrev pub is_letter : ℕ → Bool
@@ -27,20 +25,6 @@ is_in_line b = not (b == 10)
 -- what stands for itself in a string: 32 to 126, tab, line feed
 abbrev pub is_plain : ℕ → Bool
 is_plain b = is_between 32 126 b || b == 9 || b == 10
-
-abbrev pub is_point : ℕ → Bool
-is_point b = b == 46
-
-abbrev pub is_minus : ℕ → Bool
-is_minus b = b == 45
-
--- + or -
-abbrev pub is_sign : ℕ → Bool
-is_sign b = b == 43 || b == 45
-
--- the mark of an exponent, e or E
-abbrev pub is_mark : ℕ → Bool
-is_mark b = b == 101 || b == 69
 
 -- what a number begins with
 abbrev pub begins_number : ℕ → Bool

@@ -4,7 +4,7 @@ use Rattle.std.specs.List.{prefix_len, take_while}
 use Rattle.rib_lex.specs.Bytes.{is_white, is_letter, is_name, is_in_line, begins_number}
 use Rattle.rib_lex.specs.Strings.{string_in}
 use Rattle.rib_lex.specs.Numbers.{number_at}
-use Rattle.rib_lex.specs.declared.decimal.Decimal.{Decimal}
+use Rattle.fixed_math.specs.declared.decimal.Decimal.{Decimal}
 use Rattle.rib_lex.specs.declared.token.TokenKind.TheVariants.{Name, Str, Number, Open, Close}
 use Rattle.rib_lex.specs.declared.token.LexCode.{LexCode}
 use Rattle.rib_lex.specs.declared.token.LexCode.TheVariants.{L1}

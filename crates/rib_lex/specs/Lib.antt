@@ -1,8 +1,6 @@
 pub mod Bytes
-pub mod Decimal
 pub mod Strings
 pub mod StringAnswers
-pub mod Digits
 pub mod Numbers
 pub mod Found
 pub mod Tokens

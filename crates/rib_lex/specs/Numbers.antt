@@ -1,117 +1,29 @@
--- A number's text: an optional sign, digits with at most one point, and an optional exponent of ten.
-use Rattle.std.specs.Prelude.{◌≡◌, refl, ℕ, Bool, true, false, ◌&&◌, ◌||◌, List, [], ◌∷◌, ◌++◌, length, drop, ℤ, pos, negsuc, neg_ℤ, ◌+ℤ◌, ◌-ℤ◌, Result, Ok, Err, if◌then◌else◌, codes}
-use Rattle.std.specs.List.{prefix_len, take_while}
-use Rattle.fixed_math.specs.Whole.{clamp}
-use Rattle.rib_lex.specs.Bytes.{is_digit, is_sign, is_minus, is_point, is_mark, runs_on}
-use Rattle.rib_lex.specs.Decimal.{signed}
-use Rattle.rib_lex.specs.Digits.{value_of, kept_value, dropped_count}
-use Rattle.rib_lex.specs.declared.decimal.Decimal.{Decimal}
+-- A number's text: the longest number at the front, with nothing directly behind it that would go on with it.
+use Rattle.std.specs.Prelude.{◌≡◌, refl, ℕ, true, List, pos, Option, Some, None, Result, Ok, Err, if◌then◌else◌, codes}
+use Rattle.fixed_math.specs.DecimalText.{head_is, decimal_at}
+use Rattle.fixed_math.specs.declared.decimal.Decimal.{Decimal}
+use Rattle.rib_lex.specs.Bytes.{runs_on}
 use Rattle.rib_lex.specs.declared.token.LexCode.{LexCode}
 use Rattle.rib_lex.specs.declared.token.LexCode.TheVariants.{L4}
 
--- the first byte is there and passes
-abbrev pub head_is : (ℕ → Bool) → List ℕ → Bool
-head_is p [] = false
-head_is p (b ∷ bs) = p b
-
--- behind the first byte, where it passes
-abbrev pub behind_one : (ℕ → Bool) → List ℕ → List ℕ
-behind_one p [] = []
-behind_one p (b ∷ bs) = if p b then bs else b ∷ bs
-
--- the digits at the front, and what stands behind them
-abbrev pub digits_at : List ℕ → List ℕ
-digits_at bs = take_while is_digit bs
-
-abbrev pub behind_digits : List ℕ → List ℕ
-behind_digits bs = drop (prefix_len is_digit bs) bs
-
-abbrev pub is_none : List ℕ → Bool
-is_none [] = true
-is_none (b ∷ bs) = false
-
--- an exponent as it is written, and what stands behind it
-pub record Exponent : Type 0 where
-  pub negative : Bool
-  pub digits : List ℕ
-  pub rest : List ℕ
-
-abbrev pub exponent_text : Bool → List ℕ → List ℕ → Exponent
-exponent_text negative ds rest = record { negative = negative; digits = ds; rest = rest }
-
-abbrev pub exponent_value : Bool → List ℕ → ℤ
-exponent_value negative ds = signed negative (value_of ds)
-
--- an exponent has digits
-abbrev pub exponent_of : Bool → List ℕ → List ℕ → Result Exponent LexCode
-exponent_of negative ds rest = if is_none ds then Err L4 else Ok (exponent_text negative ds rest)
-
--- the exponent behind its mark
-abbrev pub exponent_behind : List ℕ → Result Exponent LexCode
-exponent_behind bs =
-    exponent_of (head_is is_minus bs) (digits_at (behind_one is_sign bs)) (behind_digits (behind_one is_sign bs))
-
--- the exponent at the front, of no digits where no mark stands there
-abbrev pub exponent_at : List ℕ → Result Exponent LexCode
-exponent_at bs = if head_is is_mark bs then exponent_behind (behind_one is_mark bs) else Ok (exponent_text false [] bs)
-
--- the field of an exponent: within -9999 to 9999
-abbrev pub cut : ℤ → ℤ
-cut e = clamp (neg_ℤ (pos 9999)) (pos 9999) e
-
--- a decimal of these digits, so many of them behind the point, times ten to an exponent
-abbrev pub decimal_of : Bool → List ℕ → ℕ → ℤ → Decimal
-decimal_of negative ds places e = record {
-  negative = negative;
-  digits = kept_value ds;
-  exponent = cut ((e +ℤ pos (dropped_count ds)) -ℤ pos places);
-}
-
--- these parts make no number: there is no digit, or something stands directly behind it
-abbrev pub is_spoiled : List ℕ → List ℕ → List ℕ → Bool
-is_spoiled whole fraction rest = is_none whole && is_none fraction || head_is runs_on rest
-
--- a number of these parts, with what stands behind it
-abbrev pub number_of : Bool → List ℕ → List ℕ → Result Exponent LexCode → Result (Decimal × List ℕ) LexCode
-number_of negative whole fraction (Err code) = Err code
-number_of negative whole fraction (Ok e) =
-    if is_spoiled whole fraction e.rest then Err L4
-    else Ok (decimal_of negative (whole ++ fraction) (length fraction) (exponent_value e.negative e.digits), e.rest)
-
--- behind the sign, and behind the digits before the point and the point
-abbrev pub fraction_place : List ℕ → List ℕ
-fraction_place bs = behind_one is_point (behind_digits (behind_one is_sign bs))
+-- a number that was read, with what stands behind it
+abbrev pub closed : Option (Decimal × List ℕ) → Result (Decimal × List ℕ) LexCode
+closed None = Err L4
+closed (Some n) = if head_is runs_on n.1 then Err L4 else Ok n
 
 -- the number at the front, with what stands behind it
 abbrev pub number_at : List ℕ → Result (Decimal × List ℕ) LexCode
-number_at bs =
-    number_of (head_is is_minus bs) (digits_at (behind_one is_sign bs)) (digits_at (fraction_place bs))
-    (exponent_at (behind_digits (fraction_place bs)))
+number_at bs = closed (decimal_at bs)
 
 -- worked values
-point_first : number_at (codes ".8 ") ≡ Ok (record { negative = false; digits = 8; exponent = negsuc 0 }, codes " ")
-point_first = refl
-
 with_exponent : number_at (codes "-1.50e+3]") ≡ Ok (record { negative = true; digits = 150; exponent = pos 1 }, codes "]")
 with_exponent = refl
-
-twenty_digits : number_at (codes "0012345678901234567899.5") ≡ Ok (record { negative = false; digits = 123456789012345678; exponent = pos 2 }, [])
-twenty_digits = refl
-
-great_exponent : number_at (codes "1e-99999") ≡ Ok (record { negative = false; digits = 1; exponent = neg_ℤ (pos 9999) }, [])
-great_exponent = refl
 
 letter_behind : number_at (codes "2x") ≡ Err L4
 letter_behind = refl
 
 second_point : number_at (codes "1.2.3") ≡ Err L4
 second_point = refl
-
-sign_alone : number_at (codes "+ 1") ≡ Err L4
-sign_alone = refl
-
-point_alone : number_at (codes "-.") ≡ Err L4
-point_alone = refl
 
 mark_alone : number_at (codes "1e+") ≡ Err L4
 mark_alone = refl

@@ -3,7 +3,8 @@
 use Rattle.std.specs.Prelude.{◌≡◌, ℕ, ◌+◌, ◌<◌, Bool, true, false, List, [], ◌∷◌, ◌++◌, length, slice_index, Some, Ok, ◌==◌, ◌↔◌}
 use Rattle.rib_lex.specs.Bytes.{is_white, is_in_line, is_letter, is_name, is_plain, line_feeds}
 use Rattle.rib_lex.specs.Strings.{escaped}
-use Rattle.rib_lex.specs.Numbers.{head_is, number_at}
+use Rattle.fixed_math.specs.DecimalText.{head_is}
+use Rattle.rib_lex.specs.Numbers.{number_at}
 use Rattle.rib_lex.specs.Tokens.{tokens_of}
 use Rattle.rib_lex.specs.declared.token.Token.{Token}
 use Rattle.rib_lex.specs.declared.token.TokenKind.{TokenKind}

@@ -1,7 +1,8 @@
 //! The kinds of bytes, and how many of a kind stand at the front.
 ghost use Rattle.std.specs.Prelude.{◌≡◌, ◌≤◌, length};
 ghost use Rattle.std.specs.List.{prefix_len};
-ghost use Rattle.rib_lex.specs.Bytes.{is_white, is_digit, is_letter, is_name, is_in_line, is_plain, begins_number, runs_on, line_feeds};
+ghost use Rattle.fixed_math.specs.NumberBytes.{is_digit};
+ghost use Rattle.rib_lex.specs.Bytes.{is_white, is_letter, is_name, is_in_line, is_plain, begins_number, runs_on, line_feeds};
 
 pub fn white(b: u8) -> bool
     ensures { result ≡ is_white b }
@@ -53,13 +54,6 @@ pub fn white_len(bytes: &[u8]) -> usize
     ensures len { result ≡ prefix_len is_white bytes.now }
 {
     bytes.iter().take_while(|b| white(**b)).count()
-}
-
-pub fn digit_len(bytes: &[u8]) -> usize
-    ensures within { result ≤ length bytes.now }
-    ensures len { result ≡ prefix_len is_digit bytes.now }
-{
-    bytes.iter().take_while(|b| digit(**b)).count()
 }
 
 pub fn name_len(bytes: &[u8]) -> usize

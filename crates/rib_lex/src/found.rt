@@ -47,7 +47,6 @@ fn quoted(alloc: Global, buffer: &mut Vec<u8>, bytes: &[u8]) -> Result<Found, No
 
 // The number at the front.
 fn numbered(bytes: &[u8]) -> Found
-    requires { length bytes.now ≤ 16777216 }
     ensures found { result ≡ found_number (length bytes.now) (number_at bytes.now) }
     ensures within { IsWithin result (length bytes.now) }
 {

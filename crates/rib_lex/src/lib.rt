@@ -5,10 +5,6 @@
 #![tactic(auto)]
 
 mod bytes;
-mod decimal;
-mod digit_rows;
-mod digits;
-mod exponent;
 mod found;
 mod laws;
 mod lex;
@@ -16,7 +12,6 @@ mod number;
 mod strings;
 mod token;
 
-pub use decimal::Decimal;
 pub use laws::{texts_join, tokens_spell};
 pub use lex::tokens;
 pub use token::{LexCode, LexFault, Token, TokenKind};

@@ -2,8 +2,7 @@
 ghost use Rattle.std.specs.Prelude.{◌≡◌};
 ghost use Rattle.rib_lex.specs.declared.token.LexFault.TheVariants.{NoMemory as OutOfMemory};
 
-use crate::decimal::Decimal;
-use fixed_math::{NoMemory, Text};
+use fixed_math::{Decimal, NoMemory, Text};
 use std::alloc::{AllocError, AllocFailed};
 
 /// What a token is. A string's text has its escapes resolved.

@@ -3,7 +3,7 @@ use Rattle.std.proofs.Common.{◌≡◌, ℕ, ◌∷◌, [], ◌++◌, List, Boo
 use Rattle.std.proofs.lemmas.Bool.{and_parts}
 use Rattle.std.proofs.lemmas.Bool.Decides.{nat_tests}
 use Rattle.std.proofs.lemmas.List.{append-nil, map-append}
-use Rattle.rib_lex.specs.declared.decimal.Decimal.{Decimal}
+use Rattle.fixed_math.specs.declared.decimal.Decimal.{Decimal}
 use Rattle.rib_lex.specs.declared.token.Token.{Token}
 use Rattle.rib_lex.specs.declared.token.TokenKind.{TokenKind}
 use Rattle.rib_lex.specs.declared.token.TokenKind.TheVariants as kinds

@@ -1,8 +1,8 @@
 -- The list behind a request's arguments: pairs of a token and a value.
 use Rattle.std.specs.Prelude.{◌≡◌, refl, ℕ, ℤ, pos, Bool, true, false, not, ◌||◌, ◌&&◌, ◌==◌, List, [], ◌∷◌, Option, Some, None, is_none, option_map, Result, Ok, Err, if◌then◌else◌, length, codes, map, filter_map}
 use Rattle.std.specs.Str.{bytes_eq}
-use Rattle.rib_lex.specs.declared.decimal.Decimal.{Decimal}
-use Rattle.rib_lex.specs.Decimal.{num}
+use Rattle.fixed_math.specs.declared.decimal.Decimal.{Decimal}
+use Rattle.fixed_math.specs.Decimal.{num}
 use Rattle.rib_reader.specs.declared.args.Arg.{Arg}
 use Rattle.rib_reader.specs.declared.args.Arg.TheVariants.{Number, Str, Numbers, Strings}
 use Rattle.scene.specs.declared.params.Values.{Values}

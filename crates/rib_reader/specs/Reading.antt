@@ -13,8 +13,8 @@ use Rattle.rib_reader.specs.declared.args.Arg.TheVariants.{Str}
 use Rattle.scene.specs.declared.params.Class.TheVariants.{Uniform}
 use Rattle.scene.specs.declared.params.Kind.TheVariants.{Float}
 use Rattle.scene.specs.declared.params.Values.TheVariants.{Numbers}
-use Rattle.rib_lex.specs.declared.decimal.Decimal.{Decimal}
-use Rattle.rib_lex.specs.Decimal.{raw_magnitude, whole_magnitude}
+use Rattle.fixed_math.specs.declared.decimal.Decimal.{Decimal}
+use Rattle.fixed_math.specs.Decimal.{raw_magnitude, whole_magnitude}
 use Rattle.rib_reader.specs.declared.names.Named.{Named}
 use Rattle.rib_reader.specs.declared.names.Named.TheVariants.{Known, LeftOut}
 use Rattle.rib_reader.specs.declared.faults.RibCode.{RibCode}

@@ -3,8 +3,8 @@
 use Rattle.std.specs.Prelude.{ℕ, ℤ, pos, Bool, true, false, not, ◌||◌, ◌&&◌, ◌==◌, nat_le, int_lt, is_some, List, [], ◌∷◌, ◌++◌, Option, Some, None, Result, Ok, Err, if◌then◌else◌, length, option_map}
 use Rattle.std.specs.List.{slice_get, list_any, list_all}
 use Rattle.std.specs.Str.{bytes_eq}
-use Rattle.rib_lex.specs.declared.decimal.Decimal.{Decimal}
-use Rattle.rib_lex.specs.Decimal.{num, whole}
+use Rattle.fixed_math.specs.declared.decimal.Decimal.{Decimal}
+use Rattle.fixed_math.specs.Decimal.{num, whole}
 use Rattle.rib_reader.specs.declared.args.Arg.{Arg}
 use Rattle.rib_reader.specs.declared.args.Arg.TheVariants.{Number, Str, Numbers, Strings}
 use Rattle.rib_reader.specs.declared.req.Req.{Req}

@@ -1,6 +1,5 @@
 // The values behind a request's name.
-use fixed_math::{List, Text};
-use rib_lex::Decimal;
+use fixed_math::{Decimal, List, Text};
 
 /// A value behind a request's name.
 #[derive(Drop)]

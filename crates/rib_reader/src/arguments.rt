@@ -4,8 +4,7 @@ ghost use Rattle.rib_reader.specs.Rules.{are_whole, fits, fit, word_at, number_a
 
 use crate::args::Arg;
 use crate::table::Shape;
-use fixed_math::{Num, Text};
-use rib_lex::Decimal;
+use fixed_math::{Decimal, Num, Text};
 
 fn are_whole(numbers: &[Decimal]) -> bool
     ensures { result ≡ are_whole numbers.now }

@@ -23,8 +23,8 @@ use crate::request::Request;
 use crate::rows::row;
 use crate::rules::following;
 use crate::scans::scan;
-use fixed_math::{List, NoMemory, Text};
-use rib_lex::{Decimal, Token, TokenKind};
+use fixed_math::{Decimal, List, NoMemory, Text};
+use rib_lex::{Token, TokenKind};
 use scene::Param;
 use std::alloc::Global;
 

@@ -1,12 +1,11 @@
 // The values of a list's variables.
 ghost use Rattle.std.specs.Prelude.{◌≡◌, IfOk, ◌∷◌, [], Some, map, option_map};
-ghost use Rattle.rib_lex.specs.Decimal.{num};
+ghost use Rattle.fixed_math.specs.Decimal.{num};
 ghost use Rattle.rib_reader.specs.Lists.{numbers_of, strings_of, values_of};
 ghost use Rattle.scene.specs.Kinds.{is_string};
 
 use crate::args::Arg;
-use fixed_math::{List, NoMemory, Num, Text};
-use rib_lex::Decimal;
+use fixed_math::{Decimal, List, NoMemory, Num, Text};
 use scene::{Kind, Values};
 use std::alloc::Global;
 

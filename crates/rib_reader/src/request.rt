@@ -21,8 +21,7 @@ use crate::list_faults::last_points;
 use crate::req::Req;
 use crate::rules::is_one;
 use crate::table::Words;
-use fixed_math::{List, Num, Text};
-use rib_lex::Decimal;
+use fixed_math::{Decimal, List, Num, Text};
 use scene::Param;
 
 /// A request whose arguments and list fit its row of the table, so that no code stands in them.

@@ -2,8 +2,8 @@
 ghost use Rattle.std.specs.Prelude.{◌≡◌, ◌||◌, false, [], IfOk, OnOk};
 
 use crate::args::Arg;
-use fixed_math::{List, NoMemory, Text};
-use rib_lex::{Decimal, TokenKind};
+use fixed_math::{Decimal, List, NoMemory, Text};
+use rib_lex::TokenKind;
 use std::alloc::Global;
 use std::mem;
 

@@ -1,3 +1,4 @@
+// Frames, primitives and their variables.
 ghost use Rattle.std.specs.Prelude.{◌≤◌, length};
 ghost use Rattle.scene.specs.Scene.{PrimValue, FrameValue, SceneValue, IsPrim, IsScene, most_prims};
 

@@ -1,3 +1,4 @@
+// The options of a picture.
 ghost use Rattle.scene.specs.Settings.{OptionValues, AreOptions};
 
 use crate::filter::Filter;

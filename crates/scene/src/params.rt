@@ -1,3 +1,4 @@
+// The variables that a request is given.
 use fixed_math::{List, Num, Text};
 
 /// The storage class of a variable.

@@ -1,3 +1,4 @@
+// Shader requests, and copies of parameters.
 ghost use Rattle.std.specs.Prelude.{◌≡◌, IfOk};
 
 use crate::{Param, Values};

@@ -1,8 +1,8 @@
 -- The faces of polygons (RenderMan Interface 3.2, section 5.1, Polygon and PointsPolygons).
 use Rattle.std.specs.Prelude.{ℕ, ◌-◌, ◌^◌, ◌<◌, ◌==◌, nat_le, nat_lt, ℤ, pos, Bool, true, ◌&&◌, List, [], ◌∷◌, length, Option, Some, None, if◌then◌else◌, ◌≡◌, refl}
 use Rattle.std.specs.List.{list_all, range_with_len}
-use Rattle.rib_lex.specs.declared.decimal.Decimal.{Decimal}
-use Rattle.rib_lex.specs.Decimal.{whole}
+use Rattle.fixed_math.specs.declared.decimal.Decimal.{Decimal}
+use Rattle.fixed_math.specs.Decimal.{whole}
 use Rattle.rib_reader.specs.declared.args.Arg.{Arg}
 use Rattle.rib_reader.specs.Rules.{numbers_at}
 use Rattle.mesh_basis.specs.Ranges.{with_next}

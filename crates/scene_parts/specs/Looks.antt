@@ -2,8 +2,8 @@
 use Rattle.std.specs.Prelude.{◌==◌, ℤ, pos, ◌≤ℤ◌, Bool, false, not, List, [], ◌∷◌, Option, Some, None, if◌then◌else◌, codes}
 use Rattle.fixed_math.specs.Whole.{clamp}
 use Rattle.fixed_math.specs.declared.vec3.Vec3.{Vec3}
-use Rattle.rib_lex.specs.declared.decimal.Decimal.{Decimal}
-use Rattle.rib_lex.specs.Decimal.{num}
+use Rattle.fixed_math.specs.declared.decimal.Decimal.{Decimal}
+use Rattle.fixed_math.specs.Decimal.{num}
 use Rattle.rib_reader.specs.declared.args.Arg.{Arg}
 use Rattle.scene.specs.declared.params.Param.{Param}
 use Rattle.rib_reader.specs.declared.req.Req.{Req}

@@ -3,11 +3,10 @@ ghost use Rattle.std.specs.Prelude.{◌≡◌, ◌≤◌, ◌<◌, ◌^◌, true
 ghost use Rattle.std.specs.List.{sum_by, range_with_len};
 ghost use Rattle.rib_reader.specs.declared.req.Req.TheVariants as reqs;
 ghost use Rattle.mesh_basis.specs.Polygons.{piece_count};
-ghost use Rattle.rib_lex.specs.Decimal.{whole};
+ghost use Rattle.fixed_math.specs.Decimal.{whole};
 ghost use Rattle.scene_parts.specs.Faces.{FaceValues, AreFaces, natural, naturals, use_up, are_places, faces_over, one_face, faces_in};
 
-use fixed_math::{List, NoMemory};
-use rib_lex::Decimal;
+use fixed_math::{Decimal, List, NoMemory};
 use rib_reader::Request;
 use std::alloc::Global;
 use std::marker::Model;

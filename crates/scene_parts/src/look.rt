@@ -6,8 +6,7 @@ ghost use Rattle.rib_reader.specs.Holding.{last_named};
 ghost use Rattle.scene_parts.specs.Looks.{LookValues, IsLook, most_bound, first_look, colour_or, with_attribute, number_of, look_after};
 
 use crate::choices::first_number;
-use fixed_math::{Num, Vec3};
-use rib_lex::Decimal;
+use fixed_math::{Decimal, Num, Vec3};
 use rib_reader::{Req, Request, last_named};
 use scene::Param;
 use std::marker::Model;

@@ -1,8 +1,8 @@
 -- The state between two requests, and how each request changes it (RenderMan Interface 3.2, sections 3 to 5).
 use Rattle.std.specs.Prelude.{ℕ, ◌-◌, ◌==◌, nat_le, ℤ, List, [], ◌∷◌, ◌++◌, length, take, map, Option, Some, None, is_some, Result, Ok, Err, if◌then◌else◌, codes}
 use Rattle.std.specs.List.{slice_get}
-use Rattle.rib_lex.specs.declared.decimal.Decimal.{Decimal}
-use Rattle.rib_lex.specs.Decimal.{num}
+use Rattle.fixed_math.specs.declared.decimal.Decimal.{Decimal}
+use Rattle.fixed_math.specs.Decimal.{num}
 use Rattle.transforms.specs.Map.{Map, identity, translation, scale_map, before_of, differ}
 use Rattle.transforms.specs.Rotation.{rotate_map}
 use Rattle.transforms.specs.Concat.{concat_map}

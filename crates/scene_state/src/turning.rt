@@ -1,6 +1,6 @@
 // Transformations and spaces.
 ghost use Rattle.std.specs.Prelude.{◌≡◌, Some, map, length};
-ghost use Rattle.rib_lex.specs.Decimal.{num};
+ghost use Rattle.fixed_math.specs.Decimal.{num};
 ghost use Rattle.rib_reader.specs.Rules.{raw_at, numbers_at};
 ghost use Rattle.rib_reader.specs.declared.req.Req.TheVariants as reqs;
 ghost use Rattle.transforms.specs.Map.{identity};
@@ -9,8 +9,7 @@ ghost use Rattle.scene_state.specs.Answers.{Steps};
 
 use crate::fault::{StepFault, code_of};
 use crate::state::State;
-use fixed_math::{Num, Vec3};
-use rib_lex::Decimal;
+use fixed_math::{Decimal, Num, Vec3};
 use rib_reader::Request;
 use transforms::{Affine, FormFault};
 

@@ -1,12 +1,10 @@
 -- The typed tree that the rules relate to an expression, or the first fault in the order of the text
 -- (Shading Language, RenderMan Interface 3.2, sections 11 to 15).
-use Rattle.std.specs.Prelude.{ℕ, ℤ, pos, Bool, true, false, ◌&&◌, ◌||◌, not, List, [], ◌∷◌, Option, Some, None, Result, Ok, Err, codes, if◌then◌else◌, is_some}
+use Rattle.std.specs.Prelude.{ℕ, ℤ, pos, Bool, true, false, ◌&&◌, ◌||◌, not, List, [], ◌∷◌, Option, Some, None, Ok, Err, codes, if◌then◌else◌, is_some}
 use Rattle.std.specs.Str.{bytes_eq}
-use Rattle.rib_lex.specs.Tokens.{tokens_of}
-use Rattle.rib_lex.specs.Decimal.{num}
-use Rattle.rib_lex.specs.declared.token.Token.{Token}
-use Rattle.rib_lex.specs.declared.token.TokenKind.{TokenKind}
-use Rattle.rib_lex.specs.declared.token.TokenKind.TheVariants.{Number}
+use Rattle.fixed_math.specs.Decimal.{num}
+use Rattle.fixed_math.specs.DecimalText.{decimal_at}
+use Rattle.fixed_math.specs.declared.decimal.Decimal.{Decimal}
 use Rattle.sl_ast.specs.Syntax as U
 use Rattle.sl_ast.specs.WellTyped as W
 use Rattle.sl_ast.specs.Names.{name_type, has_operation, has_surface, is_constant, space_named}
@@ -36,21 +34,13 @@ use Rattle.sl_expressions.specs.Typed as T
 use Rattle.sl_expressions.specs.Typed.{kind_of}
 use Rattle.sl_expressions.specs.Scope.{Local, level_of, Callee, callee_named, Around, formals_in, body_in}
 
--- the value of a number, as a scene's text has it
-abbrev pub token_value : TokenKind → ℤ
-token_value (Number d) = num d
-token_value _ = pos 0
-
-abbrev pub first_of : List Token → ℤ
-first_of [] = pos 0
-first_of (t ∷ ts) = token_value t.kind
-
-abbrev pub first_value : {E : Type 0} → Result (List Token) E → ℤ
-first_value (Ok ts) = first_of ts
-first_value (Err e) = pos 0
+-- the value of a number; a text that is none has the value 0
+abbrev pub value_read : Option (Decimal × List ℕ) → ℤ
+value_read None = pos 0
+value_read (Some n) = num n.0
 
 abbrev pub number_value : List ℕ → ℤ
-number_value text = first_value (tokens_of text)
+number_value text = value_read (decimal_at text)
 
 -- a predefined variable that is read: unknown where this kind of shader has none of that name, else outside its place
 abbrev pub predefined_at : W.Around → ℕ → Option Predefined → Found T.Expr

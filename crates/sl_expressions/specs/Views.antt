@@ -14,6 +14,7 @@ use Rattle.sl_ast.specs.WellTyped as W
 use Rattle.sl_ast.specs.declared.kinds.NodeType.{NodeType}
 use Rattle.sl_ast.specs.declared.operations.Operation.{Operation}
 use Rattle.std.specs.Borrow.{Bor}
+use Rattle.sl_expressions.specs.declared.typed.TypedExpr.{TypedExpr}
 use Rattle.sl_expressions.specs.declared.typed.TypedLink.{TypedLink}
 use Rattle.sl_expressions.specs.Found.{Found, ◌>>=◌}
 use Rattle.sl_expressions.specs.Exprs.{applied}
@@ -53,6 +54,16 @@ abbrev pub GivesLinks : Result NodeType TypeFault → T.Expr → List TypedLink 
 GivesLinks (Ok kind) first links found = (found ≡ Ok (T.chained first (map tlink_of links))) × (T.kind_of (T.chained first (map tlink_of links)) ≡ kind)
 GivesLinks (Err (At code line)) first links found = found ≡ Err (code, line)
 GivesLinks (Err NoMemory) first links found = Unit {0}
+
+-- a node from what is found of its parts, which are held in a vector
+abbrev pub OfParts : Result (Vec TypedExpr Global) TypeFault → (Found (List T.Expr) → Found T.Expr) → Result TypedExpr TypeFault → Type 0
+OfParts parts node result = (found : Found (List T.Expr)) → GivesAll typed_of parts found → Gives typed_of result (node found)
+
+-- a link more behind those behind a first operand, by a step from what stands before and what is found of the operand behind it
+abbrev pub AddsLink : (T.Expr → Found T.Expr → Found T.Expr) → NodeType → Result TypedExpr TypeFault → List TypedLink → List TypedLink → Result NodeType TypeFault → Type 0
+AddsLink step before operand old new result =
+    (first : T.Expr) (found : Found T.Expr) → T.kind_of (T.chained first (map tlink_of old)) ≡ before → Gives typed_of operand found
+    → GivesLinks result first new (step (T.chained first (map tlink_of old)) found)
 
 abbrev pub found_of : ℕ × Local → ℕ × S.Local
 found_of l = (l.0, local_of l.1)

@@ -7,7 +7,7 @@ ghost use Rattle.sl_expressions.specs.Names.{entry_of};
 ghost use Rattle.sl_expressions.specs.Scope as scopes;
 ghost use Rattle.sl_expressions.specs.Typed as T;
 ghost use Rattle.sl_expressions.specs.TypedView.{typed_of};
-ghost use Rattle.sl_expressions.specs.Views.{Gives, GivesAll, spot_of, around_of, own_of, callee_of, local_of, literal_from};
+ghost use Rattle.sl_expressions.specs.Views.{Gives, GivesAll, OfParts, spot_of, around_of, own_of, callee_of, local_of, literal_from};
 
 use crate::faults::{TypeCode, TypeFault, fault};
 use crate::names::{find, same};
@@ -298,7 +298,7 @@ fn resolved(
     es: &[Expr],
     args: Result<Vec<TypedExpr>, TypeFault>,
 ) -> Result<TypedExpr, TypeFault>
-    ensures { (found : Found (List T.Expr)) → GivesAll typed_of args found → Gives typed_of result (spec.resolved (spot_of g.now.at) behind name.now line (map expr_of es.now) found (scopes.callee_named name.now (map callee_of g.now.known.now))) }
+    ensures { OfParts args (λ found. spec.resolved (spot_of g.now.at) behind name.now line (map expr_of es.now) found (scopes.callee_named name.now (map callee_of g.now.known.now))) result }
 {
     match g.known.find(name) {
         Some((k, known)) => called(g.at.default, k, known, line, args),

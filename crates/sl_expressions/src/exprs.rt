@@ -17,43 +17,27 @@ use crate::predefined::{is_own, is_read, predefined_names};
 use crate::rules::operation_of;
 use crate::scope::{Scope, place_of};
 use crate::typed::{TypedExpr, TypedLink};
-use fixed_math::{Num, Text};
-use rib_lex::{LexFault, Token, TokenKind, tokens};
+use fixed_math::{Decimal, Num, Text};
 use sl_ast::{Expr, Link, Predefined, Variable};
 use std::alloc::Global;
 
-fn first_value(tokens: &[Token]) -> Num
-    ensures { result ≡ spec.first_of tokens.now }
+// The value of a number; a text that is none has the value 0.
+fn number_value(text: &Text) -> Num
+    ensures { result ≡ spec.number_value text.now }
 {
-    match tokens.first() {
-        Some(token) => match &token.kind {
-            TokenKind::Number(decimal) => decimal.num(),
-            _ => Num::sat(0),
-        },
+    match Decimal::read(text.as_str().as_bytes()) {
+        Some((decimal, _)) => decimal.num(),
         None => Num::sat(0),
     }
 }
 
-// The value of a number, as a scene's text has it.
-fn number_value(alloc: Global, text: &Text) -> Result<Num, TypeFault>
-    ensures { Gives (λ n. n) result (Ok (spec.number_value text.now)) }
+fn number(text: &Text, line: u32) -> TypedExpr
+    ensures { typed_of result ≡ T.number (spec.number_value text.now) line }
 {
-    let bytes = text.as_str().as_bytes();
-    if bytes.len() > 16777216 {
-        return Err(TypeFault::NoMemory);
+    TypedExpr::Number {
+        value: number_value(text),
+        line,
     }
-    match tokens(alloc, bytes) {
-        Ok(tokens) => Ok(first_value(tokens.as_slice())),
-        Err(LexFault::NoMemory) => Err(TypeFault::NoMemory),
-        Err(LexFault::At { .. }) => Ok(Num::sat(0)),
-    }
-}
-
-fn number(alloc: Global, text: &Text, line: u32) -> Result<TypedExpr, TypeFault>
-    ensures { Gives typed_of result (Ok (T.number (spec.number_value text.now) line)) }
-{
-    let value = number_value(alloc, text)?;
-    Ok(TypedExpr::Number { value, line })
 }
 
 fn word(alloc: Global, text: &Text, line: u32) -> Result<TypedExpr, TypeFault>
@@ -115,7 +99,7 @@ pub fn expr(
     ensures { Gives typed_of result (spec.typed_expr (around_of g.now) behind (map local_of scope.now) (expr_of e.now)) }
 {
     match e {
-        Expr::Number { text, line } => number(alloc, text, *line),
+        Expr::Number { text, line } => Ok(number(text, *line)),
         Expr::Str { text, line } => word(alloc, text, *line),
         Expr::Name { name, line } => named(&g.at, name, *line, scope.level(name)),
         Expr::Paren { inner, .. } => expr(inner, alloc, g, false, scope),

@@ -6,7 +6,7 @@ ghost use Rattle.sl_expressions.specs.Exprs as spec;
 ghost use Rattle.sl_expressions.specs.Found.{Found, refuses};
 ghost use Rattle.sl_expressions.specs.Typed as T;
 ghost use Rattle.sl_expressions.specs.TypedView.{typed_of, tlink_of};
-ghost use Rattle.sl_expressions.specs.Views.{Gives, GivesAll, GivesLinks, operated, spot_of, chain_of};
+ghost use Rattle.sl_expressions.specs.Views.{Gives, GivesAll, AddsLink, operated, spot_of, chain_of};
 
 use crate::faults::{TypeCode, TypeFault, fault};
 use crate::names::is;
@@ -126,7 +126,7 @@ pub fn add_link(
     before: NodeType,
     operand: Result<TypedExpr, TypeFault>,
 ) -> Result<NodeType, TypeFault>
-    ensures { (first : T.Expr) (found : Found T.Expr) → T.kind_of (T.chained first (map tlink_of links.old.items)) ≡ before → Gives typed_of operand found → GivesLinks result first links.new.items (operated operation line (T.chained first (map tlink_of links.old.items)) found) }
+    ensures { AddsLink (operated operation line) before operand links.old.items links.new.items result }
 {
     let link = linked(operation, line, before, operand?)?;
     let kind = link.kind;

@@ -1,5 +1,5 @@
 use Rattle.std.proofs.Common.{◌≡◌, take, map}
-use Rattle.rib_lex.specs.Decimal.{num}
+use Rattle.fixed_math.specs.Decimal.{num}
 use Rattle.rib_reader.proofs.list_values.nums.Given as goal
 
 abbrev pub invariant-loop-number : goal.invariant-loop-number

@@ -40,7 +40,7 @@ pub expr-returns-in-Number : goal.expr-returns-in-Number
 expr-returns-in-Number t c =
     let g = around_of c.args.g.now in
     let ls = map local_of c.args.scope.now in
-    subst (λ r. Gives typed_of c.number.result r) (sym (ap (λ e. typed_expr g c.args.behind ls (expr_of e)) c.in-Number.is)) c.number.ensures
+    ap (λ e. typed_expr g c.args.behind ls (expr_of e)) c.in-Number.is ∙ ap (λ x. Ok x) (sym c.number.ensures)
 
 pub expr-returns-in-Str : goal.expr-returns-in-Str
 expr-returns-in-Str t c =
