@@ -3,15 +3,14 @@ use Rattle.std.proofs.Common.{◌≡◌, ℕ, zero, suc, ◌+◌, ◌<◌, ◌�
 use Rattle.std.proofs.lemmas.List.Elements.{filter-append}
 use Rattle.fixed_math.specs.Spots.{PixelRect}
 use Rattle.patches.specs.Parts.{Part, whole_of}
-use Rattle.patches.specs.Patches.{patch_box}
+use Rattle.std.specs.Prelude.{ℤ}
 use Rattle.bound_split.specs.declared.walk.Leaf.{Leaf}
 use Rattle.bound_split.specs.Leaves.{pending}
-use Rattle.bound_split.specs.Extents.{part_meets}
 use Rattle.bound_split.specs.Culling as culling
 use Rattle.scene.specs.Scene.{PrimValue, FrameValue}
 use Rattle.buckets.specs.Pictures.{decide, FrameLeaf, leaf_in, leaves_from, frame_leaves}
-use Rattle.buckets.specs.TileWalk.{meets_in}
-use Rattle.buckets.specs.Standing.{to_come, coming_from, IsLeafOf, Skips, GivesNext}
+use Rattle.buckets.specs.Culled.{part_shows}
+use Rattle.buckets.specs.Standing.{to_come, coming_from, IsLeafOf, Skips, GivesNext, shows_in}
 use Rattle.buckets.proofs.Counting.{by_bool}
 
 drop_at : {A : Type 0} (n : ℕ) (xs : List A) (x : A) → n < length xs → x ≡ get_or xs n x → drop n xs ≡ x ∷ drop (n + 1) xs
@@ -67,57 +66,57 @@ skips_then test a b c h k = record {
 failing : (test : Part → Bool) (p : Part) (ps : List Part) → filter test (p ∷ ps) ≡ [] → (test p ≡ false) × (filter test ps ≡ [])
 failing test p ps h = by_bool (test p) (λ t. absurd (let k : p ∷ filter test ps ≡ [] = rw t at h in cc)) (λ f. (f, rw f at h))
 
-none_meet : (f : FrameValue) (r : PixelRect) (prim : PrimValue) (ps : List Part) → filter (part_meets f.camera prim.bound (patch_box prim.patch) r) ps ≡ [] → filter (meets_in f r) (map (leaf_in prim) ps) ≡ []
-unfolding meets_in
-none_meet f r prim [] h = refl
-none_meet f r prim (p ∷ ps) h =
-    let k = failing (part_meets f.camera prim.bound (patch_box prim.patch) r) p ps h in
-    let rest = none_meet f r prim ps k.1 in
-    ap (λ b. cond b (leaf_in prim p ∷ filter (meets_in f r) (map (leaf_in prim) ps)) (filter (meets_in f r) (map (leaf_in prim) ps))) k.0 ∙ rest
+none_meet : (f : FrameValue) (r : PixelRect) (back : ℤ → Bool) (prim : PrimValue) (ps : List Part) → filter (part_shows f prim r back) ps ≡ [] → filter (shows_in f r back) (map (leaf_in prim) ps) ≡ []
+unfolding shows_in
+none_meet f r back prim [] h = refl
+none_meet f r back prim (p ∷ ps) h =
+    let k = failing (part_shows f prim r back) p ps h in
+    let rest = none_meet f r back prim ps k.1 in
+    ap (λ b. cond b (leaf_in prim p ∷ filter (shows_in f r back) (map (leaf_in prim) ps)) (filter (shows_in f r back) (map (leaf_in prim) ps))) k.0 ∙ rest
 
-pub meets_leaf : (f : FrameValue) (r : PixelRect) (prim : PrimValue) (part : Part) → part_meets f.camera prim.bound (patch_box prim.patch) r part ≡ true → meets_in f r (leaf_in prim part) ≡ true
-unfolding meets_in
-meets_leaf f r prim part h = h
+pub meets_leaf : (f : FrameValue) (r : PixelRect) (back : ℤ → Bool) (prim : PrimValue) (part : Part) → part_shows f prim r back part ≡ true → shows_in f r back (leaf_in prim part) ≡ true
+unfolding shows_in
+meets_leaf f r back prim part h = h
 
 map-append : {A B : Type 0} (g : A → B) (xs ys : List A) → map g (xs ++ ys) ≡ map g xs ++ map g ys
 map-append g [] ys = refl
 map-append g (x ∷ xs) ys = ap (λ r. g x ∷ r) (map-append g xs ys)
 
 -- parts of a primitive are skipped, before others of it and leaves behind them
-pub skips_in : (f : FrameValue) (r : PixelRect) (prim : PrimValue) (old new : List Part) (behind : List FrameLeaf) → culling.Skips (part_meets f.camera prim.bound (patch_box prim.patch) r) old new
-    → Skips (meets_in f r) (map (leaf_in prim) old ++ behind) (map (leaf_in prim) new ++ behind)
-skips_in f r prim old new behind k = record {
+pub skips_in : (f : FrameValue) (r : PixelRect) (back : ℤ → Bool) (prim : PrimValue) (old new : List Part) (behind : List FrameLeaf) → culling.Skips (part_shows f prim r back) old new
+    → Skips (shows_in f r back) (map (leaf_in prim) old ++ behind) (map (leaf_in prim) new ++ behind)
+skips_in f r back prim old new behind k = record {
   skipped = map (leaf_in prim) k.skipped;
   split = ap (λ ps. map (leaf_in prim) ps ++ behind) k.split ∙ ap (λ ls. ls ++ behind) (map-append (leaf_in prim) k.skipped new) ∙ append_assoc (map (leaf_in prim) k.skipped) (map (leaf_in prim) new) behind;
-  fail = none_meet f r prim k.skipped k.fail;
+  fail = none_meet f r back prim k.skipped k.fail;
 }
 
 -- ---- the next leaf
-pub gives_leaf : (f : FrameValue) (r : PixelRect) (n : ℕ) (prim : PrimValue) (first : List FrameLeaf) (old new : List Part) (leaf : Leaf) → n < length f.prims → prim ≡ get_or f.prims n prim
-    → Skips (meets_in f r) first (to_come f n old) → culling.Skips (part_meets f.camera prim.bound (patch_box prim.patch) r) (pending (decide f.camera prim) old) (leaf.piece ∷ pending (decide f.camera prim) new)
-    → part_meets f.camera prim.bound (patch_box prim.patch) r leaf.piece ≡ true → IsLeafOf f leaf (leaf_in prim leaf.piece)
-    → GivesNext f (meets_in f r) (Some leaf) first (to_come f n new)
-gives_leaf f r n prim first old new leaf l at' before skips meets is =
+pub gives_leaf : (f : FrameValue) (r : PixelRect) (back : ℤ → Bool) (n : ℕ) (prim : PrimValue) (first : List FrameLeaf) (old new : List Part) (leaf : Leaf) → n < length f.prims → prim ≡ get_or f.prims n prim
+    → Skips (shows_in f r back) first (to_come f n old) → culling.Skips (part_shows f prim r back) (pending (decide f.camera prim) old) (leaf.piece ∷ pending (decide f.camera prim) new)
+    → part_shows f prim r back leaf.piece ≡ true → IsLeafOf f leaf (leaf_in prim leaf.piece)
+    → GivesNext f (shows_in f r back) (Some leaf) first (to_come f n new)
+gives_leaf f r back n prim first old new leaf l at' before skips meets is =
     let behind = leaves_from f (n + 1) (drop (n + 1) f.prims) in
     let d = decide f.camera prim in
-    let here : Skips (meets_in f r) (to_come f n old) (leaf_in prim leaf.piece ∷ to_come f n new) =
-    subst (λ xs. Skips (meets_in f r) xs (leaf_in prim leaf.piece ∷ to_come f n new)) (sym (coming_at f n prim old l at'))
-    (subst (λ xs. Skips (meets_in f r) (map (leaf_in prim) (pending d old) ++ behind) (leaf_in prim leaf.piece ∷ xs)) (sym (coming_at f n prim new l at'))
-    (skips_in f r prim (pending d old) (leaf.piece ∷ pending d new) behind skips)) in
-    (leaf_in prim leaf.piece, is, meets_leaf f r prim leaf.piece meets, skips_then (meets_in f r) first (to_come f n old) (leaf_in prim leaf.piece ∷ to_come f n new) before here)
+    let here : Skips (shows_in f r back) (to_come f n old) (leaf_in prim leaf.piece ∷ to_come f n new) =
+    subst (λ xs. Skips (shows_in f r back) xs (leaf_in prim leaf.piece ∷ to_come f n new)) (sym (coming_at f n prim old l at'))
+    (subst (λ xs. Skips (shows_in f r back) (map (leaf_in prim) (pending d old) ++ behind) (leaf_in prim leaf.piece ∷ xs)) (sym (coming_at f n prim new l at'))
+    (skips_in f r back prim (pending d old) (leaf.piece ∷ pending d new) behind skips)) in
+    (leaf_in prim leaf.piece, is, meets_leaf f r back prim leaf.piece meets, skips_then (shows_in f r back) first (to_come f n old) (leaf_in prim leaf.piece ∷ to_come f n new) before here)
 
 -- no leaf of a primitive is left: on with the next one
-pub skips_prim : (f : FrameValue) (r : PixelRect) (n : ℕ) (prim : PrimValue) (first : List FrameLeaf) (old new : List Part) → n < length f.prims → prim ≡ get_or f.prims n prim
-    → Skips (meets_in f r) first (to_come f n old) → culling.Skips (part_meets f.camera prim.bound (patch_box prim.patch) r) (pending (decide f.camera prim) old) [] → new ≡ whole_of (n + 1) ∷ []
-    → Skips (meets_in f r) first (to_come f (n + 1) new)
-skips_prim f r n prim first old new l at' before skips is =
+pub skips_prim : (f : FrameValue) (r : PixelRect) (back : ℤ → Bool) (n : ℕ) (prim : PrimValue) (first : List FrameLeaf) (old new : List Part) → n < length f.prims → prim ≡ get_or f.prims n prim
+    → Skips (shows_in f r back) first (to_come f n old) → culling.Skips (part_shows f prim r back) (pending (decide f.camera prim) old) [] → new ≡ whole_of (n + 1) ∷ []
+    → Skips (shows_in f r back) first (to_come f (n + 1) new)
+skips_prim f r back n prim first old new l at' before skips is =
     let behind = leaves_from f (n + 1) (drop (n + 1) f.prims) in
     let d = decide f.camera prim in
-    let here : Skips (meets_in f r) (to_come f n old) (to_come f (n + 1) new) =
-    subst (λ xs. Skips (meets_in f r) xs (to_come f (n + 1) new)) (sym (coming_at f n prim old l at'))
-    (subst (λ xs. Skips (meets_in f r) (map (leaf_in prim) (pending d old) ++ behind) xs) (sym (ap (to_come f (n + 1)) is ∙ coming_whole f (n + 1)))
-    (skips_in f r prim (pending d old) [] behind skips)) in
-    skips_then (meets_in f r) first (to_come f n old) (to_come f (n + 1) new) before here
+    let here : Skips (shows_in f r back) (to_come f n old) (to_come f (n + 1) new) =
+    subst (λ xs. Skips (shows_in f r back) xs (to_come f (n + 1) new)) (sym (coming_at f n prim old l at'))
+    (subst (λ xs. Skips (shows_in f r back) (map (leaf_in prim) (pending d old) ++ behind) xs) (sym (ap (to_come f (n + 1)) is ∙ coming_whole f (n + 1)))
+    (skips_in f r back prim (pending d old) [] behind skips)) in
+    skips_then (shows_in f r back) first (to_come f n old) (to_come f (n + 1) new) before here
 
-pub gives_none : (f : FrameValue) (r : PixelRect) (n : ℕ) (first : List FrameLeaf) (stack : List Part) → length f.prims ≤ n → Skips (meets_in f r) first (to_come f n stack) → GivesNext f (meets_in f r) None first (to_come f n stack)
-gives_none f r n first stack l before = (subst (λ xs. Skips (meets_in f r) first xs) (coming_none f n stack l) before, coming_none f n stack l)
+pub gives_none : (f : FrameValue) (r : PixelRect) (back : ℤ → Bool) (n : ℕ) (first : List FrameLeaf) (stack : List Part) → length f.prims ≤ n → Skips (shows_in f r back) first (to_come f n stack) → GivesNext f (shows_in f r back) None first (to_come f n stack)
+gives_none f r back n first stack l before = (subst (λ xs. Skips (shows_in f r back) first xs) (coming_none f n stack l) before, coming_none f n stack l)

@@ -59,7 +59,7 @@ pub past_unshown : (d : Drawing) (n : ℕ) (w : Walked) (x : FrameLeaf) → is_s
 unfolding past_leaf
 past_unshown d n w x h = rw h refl
 
-leaf_rises : (d : Drawing) (n : ℕ) (w : Walked) (x : FrameLeaf) → Rise 1 w.counts (past_leaf d n w x).counts
+pub leaf_rises : (d : Drawing) (n : ℕ) (w : Walked) (x : FrameLeaf) → Rise 1 w.counts (past_leaf d n w x).counts
 leaf_rises d n w x =
     by_bool (is_shown d n w.shown x)
     (λ h. subst (λ v. Rise 1 w.counts v.counts) (sym (past_shown d n w x h)) (needed_rises d.limit x.part (leaf_points d x) w.counts))

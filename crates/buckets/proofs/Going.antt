@@ -1,7 +1,6 @@
 -- How the drawing of a tile goes on, leaf by leaf.
 use Rattle.std.proofs.Common.{◌≡◌, ℕ, zero, suc, ◌+◌, ◌-◌, ◌<◌, ◌≤◌, max, arith, refl, sym, ◌∙◌, ap, subst, Bool, true, false, ◌↔◌, List, [], ◌∷◌, ◌++◌, filter, append_assoc, Option, Some, None}
 use Rattle.std.specs.Prelude.{nat_le, ◌&&◌, not, IsTrue}
-use Rattle.std.specs.List.{list_all, range_with_len}
 use Rattle.std.proofs.lemmas.Bool.{and_parts}
 use Rattle.std.proofs.lemmas.List.{append-nil}
 use Rattle.patches.specs.Parts.{Part}
@@ -11,15 +10,17 @@ use Rattle.scene.specs.Scene.{FrameValue}
 use Rattle.hider.specs.declared.fragment.Fragment.{Fragment}
 use Rattle.hider.specs.declared.sample.Sample.{Sample}
 use Rattle.hider.specs.Fragments.{fragments}
-use Rattle.hider.specs.Kept.{blocks}
-use Rattle.hider.specs.Tiles.{TileValue, Shows, BlocksAll, sample_count, sample_of}
+use Rattle.hider.proofs.Showings.{blocked_all, blocked_each}
+use Rattle.hider.specs.Tiles.{TileValue, Shows, BlocksAll, rect_of as rect_of_grid}
 use Rattle.hider.proofs.Frames.{shows_nothing}
 use Rattle.grid_epoch.specs.Kept.{has, pieces_in, points_in}
 use Rattle.shader_binding.specs.Sets.{AcceptedValue}
+use Rattle.buckets.specs.Culled.{leaf_nearest}
 use Rattle.buckets.specs.Pictures.{FrameLeaf, leaf_micropolygons, frame_leaves, micropolygons_of}
 use Rattle.buckets.specs.Sampled.{ShowsMore}
-use Rattle.buckets.specs.TileWalk.{Drawing, Counts, in_new_epoch, has_room, with_needed, is_shown, is_behind, meets_tile, nearest, leaf_points, fragments_of, Walked, walked, past_leaf, past_leaves, past_tile, past_tiles, tile_count, tile_grid, tile_walk}
-use Rattle.buckets.specs.Standing.{InEpoch, next_epoch, Keeps, AreGrids, Goes, Going, Before, Skips, GivesNext, CountsGo, ShadesInPart}
+use Rattle.buckets.specs.TileWalk.{Drawing, Counts, in_new_epoch, has_room, with_needed, is_shown, is_behind, behind_in, meets_in, meets_tile, nearest, leaf_points, fragments_of, Walked, walked, past_leaf, past_leaves, past_tile, past_tiles, tile_count, tile_grid, tile_walk}
+use Rattle.buckets.specs.Standing.{InEpoch, next_epoch, Keeps, AreGrids, Goes, Going, Before, Skips, GivesNext, CountsGo, ShadesInPart, shows_in}
+use Rattle.buckets.proofs.Behind.{behind_as, blocked_as}
 use Rattle.buckets.proofs.Counting.{by_bool, needed_next, past_shown, past_unshown, leaves_rise, tiles_rise}
 
 -- ---- the laws of a leaf in a tile: a tile that it doesn't meet shows it by itself, and so does one in which it lies behind what shows
@@ -40,7 +41,7 @@ pub lawful_rest : (e : InEpoch) (n : ℕ) (tile : TileValue) (rest : List FrameL
 lawful_rest e n tile rest kept count g all = lawful_behind e.begun.drawing n g.past rest (subst (AreLawful e.begun.drawing n) (sym g.split) all)
 
 -- ---- lists of leaves
-micropolygons-more : (a : AcceptedValue) (f : FrameValue) (xs : List FrameLeaf) (x : FrameLeaf) → micropolygons_of a f (xs ++ x ∷ []) ≡ micropolygons_of a f xs ++ leaf_micropolygons a f x.prim x.part
+pub micropolygons-more : (a : AcceptedValue) (f : FrameValue) (xs : List FrameLeaf) (x : FrameLeaf) → micropolygons_of a f (xs ++ x ∷ []) ≡ micropolygons_of a f xs ++ leaf_micropolygons a f x.prim x.part
 micropolygons-more a f [] x = append-nil (leaf_micropolygons a f x.prim x.part)
 micropolygons-more a f (y ∷ ys) x =
     ap (λ r. leaf_micropolygons a f y.prim y.part ++ r) (micropolygons-more a f ys x)
@@ -54,62 +55,66 @@ split-more : (xs : List FrameLeaf) (x : FrameLeaf) (ys all : List FrameLeaf) →
 split-more xs x ys all e = append_assoc xs (x ∷ []) ys ∙ e
 
 -- ---- which leaves are shown
-unmet : (d : Drawing) (n : ℕ) (shown : List FrameLeaf) (x : FrameLeaf) → meets_tile d n x ≡ false → is_shown d n shown x ≡ false
-unfolding is_shown
-unmet d n shown x h = ap (λ b. b && not (is_behind d n shown x)) h
-
 met : (d : Drawing) (n : ℕ) (shown : List FrameLeaf) (x : FrameLeaf) (b : Bool) → meets_tile d n x ≡ true → is_behind d n shown x ≡ b → is_shown d n shown x ≡ not b
 unfolding is_shown
 met d n shown x b h k = ap (λ m. m && not (is_behind d n shown x)) h ∙ ap (λ m. true && not m) k
 
-all_from : (p : ℕ → Bool) (from n : ℕ) → ((i : ℕ) → from ≤ i → i < from + n → p i ≡ true) → list_all p (range_with_len from n) ≡ true
-all_from p from zero h = refl
-all_from p from (suc n) h =
-    let first : p from ≡ true = h from (omega arith) (omega arith) in
-    let rest = all_from p (from + 1) n (λ i a b. h i (omega (arith, a)) (omega (arith, b))) in
-    simp (first, rest)
-
-each_from : (p : ℕ → Bool) (from n : ℕ) → list_all p (range_with_len from n) ≡ true → (i : ℕ) → i < n → p (from + i) ≡ true
-each_from p from zero h i l = absurd (omega (arith, l))
-each_from p from (suc n) h zero l =
-    let e : from ≡ from + 0 = omega arith in
-    subst (λ k. p k ≡ true) e (and_parts (p from) (list_all p (range_with_len (from + 1) n)) h).0
-each_from p from (suc n) h (suc i) l =
-    let e : (from + 1) + i ≡ from + suc i = omega arith in
-    subst (λ k. p k ≡ true) e (each_from p (from + 1) n (and_parts (p from) (list_all p (range_with_len (from + 1) n)) h).1 i (omega (arith, l)))
-
 pub blocked_behind : (d : Drawing) (n : ℕ) (shown : List FrameLeaf) (x : FrameLeaf) (t : TileValue) → t.grid ≡ tile_grid d n → BlocksAll (nearest d x) t.grid (fragments_of d shown) → is_behind d n shown x ≡ true
 unfolding is_behind
-blocked_behind d n shown x t same h =
-    let b : BlocksAll (nearest d x) (tile_grid d n) (fragments_of d shown) = subst (λ g. BlocksAll (nearest d x) g (fragments_of d shown)) same h in
-    all_from (λ i. blocks (nearest d x) (fragments_of d shown (sample_of (tile_grid d n) i))) 0 (sample_count (tile_grid d n)) (λ i low high. b i (omega (arith, high)))
+blocked_behind d n shown x t same h = behind_as d n shown (nearest d x) t same h
 
 behind_blocked : (d : Drawing) (n : ℕ) (shown : List FrameLeaf) (x : FrameLeaf) (t : TileValue) → t.grid ≡ tile_grid d n → is_behind d n shown x ≡ true → BlocksAll (nearest d x) t.grid (fragments_of d shown)
 unfolding is_behind
-behind_blocked d n shown x t same h =
-    subst (λ g. BlocksAll (nearest d x) g (fragments_of d shown)) (sym same)
-    (λ i l. let p : ℕ → Bool = λ i. blocks (nearest d x) (fragments_of d shown (sample_of (tile_grid d n) i)) in
-    let e : 0 + i ≡ i = omega arith in
-    subst (λ k. p k ≡ true) e (each_from p 0 (sample_count (tile_grid d n)) h i l))
+behind_blocked d n shown x t same h = blocked_as d n shown (nearest d x) t same h
 
--- ---- a leaf that doesn't meet the tile
-pub goes_outside : (e : InEpoch) (n : ℕ) (tile : TileValue) (x : FrameLeaf) (rest : List FrameLeaf) (kept : List (Part × GridRef)) (count : ℕ)
-    → IsLawful e.begun.drawing n x → meets_tile e.begun.drawing n x ≡ false → Goes e n tile (x ∷ rest) kept count → Goes e n tile rest kept count
-goes_outside e n tile x rest kept count law unmeets g =
+-- ---- a leaf that isn't shown: it doesn't meet the tile, or lies behind what shows there
+-- the test of the code is that of the walk
+shown_as : (d : Drawing) (n : ℕ) (shown : List FrameLeaf) (x : FrameLeaf) → is_shown d n shown x ≡ shows_in d.frame (rect_of_grid (tile_grid d n)) (behind_in d n shown) x
+unfolding is_shown is_behind nearest shows_in meets_in
+shown_as d n shown x = refl
+
+shows_meets : (d : Drawing) (n : ℕ) (shown : List FrameLeaf) (x : FrameLeaf) → shows_in d.frame (rect_of_grid (tile_grid d n)) (behind_in d n shown) x ≡ true → meets_tile d n x ≡ true
+unfolding shows_in meets_in
+shows_meets d n shown x h = (and_parts (meets_tile d n x) (not (behind_in d n shown (leaf_nearest d.frame x.prim x.part))) h).0
+
+hidden_from : (d : Drawing) (n : ℕ) (shown : List FrameLeaf) (x : FrameLeaf) → is_shown d n shown x ≡ false → meets_tile d n x ≡ true → is_behind d n shown x ≡ true
+hidden_from d n shown x unshown meets =
+    by_bool (is_behind d n shown x) (λ h. h) (λ h. absurd (let k : is_shown d n shown x ≡ true = met d n shown x false meets h in cc))
+
+unshown_shows : (d : Drawing) (n : ℕ) (shown : List FrameLeaf) (x : FrameLeaf) (t : TileValue) → IsLawful d n x → t.grid ≡ tile_grid d n → Shows t (fragments_of d shown) → is_shown d n shown x ≡ false
+    → ShowsMore d.frame.camera (leaf_micropolygons d.accepted d.frame x.prim x.part) t t
+unshown_shows d n shown x t law same shows unshown =
+    by_bool (meets_tile d n x)
+    (λ m.
+    let blocked = behind_blocked d n shown x t same (hidden_from d n shown x unshown m) in
+    law.behind t same (λ f s. blocked_all t f (nearest d x) s (blocked_each t (fragments_of d shown) (nearest d x) shows blocked)))
+    (λ m. law.outside t same m)
+
+-- the drawing is past such a leaf, and shows what it showed
+pub record GoesStill (e : InEpoch) (n : ℕ) (tile : TileValue) (shown rest : List FrameLeaf) (kept : List (Part × GridRef)) (count : ℕ) : Type 0 where
+  pub goes : Goes e n tile rest kept count
+  pub same : goes.shown ≡ shown
+
+goes_unshown : (e : InEpoch) (n : ℕ) (tile : TileValue) (x : FrameLeaf) (rest : List FrameLeaf) (kept : List (Part × GridRef)) (count : ℕ)
+    → IsLawful e.begun.drawing n x → (g : Goes e n tile (x ∷ rest) kept count) → is_shown e.begun.drawing n g.shown x ≡ false → GoesStill e n tile g.shown rest kept count
+goes_unshown e n tile x rest kept count law g unshown =
     let d = e.begun.drawing in
     let w = walked g.shown g.counts in
     record {
-      shown = g.shown;
-      past = g.past ++ x ∷ [];
-      counts = g.counts;
-      grid = g.grid;
-      split = split-more g.past x rest (frame_leaves d.frame) g.split;
-      shows = g.shows;
-      shows_past = with_leaf d g.past x tile (law.outside tile g.grid unmeets (micropolygons_of d.accepted d.frame g.past) g.shows_past);
-      grids = g.grids;
-      keeps = g.keeps;
-      counted = g.counted;
-      walk = ap (λ v. past_tiles d (tile_count d - (n + 1)) (n + 1) (past_leaves d n v rest).counts) (sym (past_unshown d n w x (unmet d n g.shown x unmeets))) ∙ g.walk;
+      goes = record {
+        shown = g.shown;
+        past = g.past ++ x ∷ [];
+        counts = g.counts;
+        grid = g.grid;
+        split = split-more g.past x rest (frame_leaves d.frame) g.split;
+        shows = g.shows;
+        shows_past = with_leaf d g.past x tile (unshown_shows d n g.shown x tile law g.grid g.shows unshown (micropolygons_of d.accepted d.frame g.past) g.shows_past);
+        grids = g.grids;
+        keeps = g.keeps;
+        counted = g.counted;
+        walk = ap (λ v. past_tiles d (tile_count d - (n + 1)) (n + 1) (past_leaves d n v rest).counts) (sym (past_unshown d n w x unshown)) ∙ g.walk;
+      };
+      same = refl;
     }
 
 -- ---- a leaf behind what shows
@@ -243,25 +248,34 @@ goes_used_part e n old x rest kept count count' meets least most g front =
 failing : (test : FrameLeaf → Bool) (x : FrameLeaf) (xs : List FrameLeaf) → filter test (x ∷ xs) ≡ [] → (test x ≡ false) × (filter test xs ≡ [])
 failing test x xs h = by_bool (test x) (λ t. absurd (let k : x ∷ filter test xs ≡ [] = rw t at h in cc)) (λ f. (f, rw f at h))
 
-goes_past : (e : InEpoch) (n : ℕ) (tile : TileValue) (skipped rest : List FrameLeaf) (kept : List (Part × GridRef)) (count : ℕ)
-    → AreLawful e.begun.drawing n (skipped ++ rest) → filter (meets_tile e.begun.drawing n) skipped ≡ [] → Goes e n tile (skipped ++ rest) kept count → Goes e n tile rest kept count
-goes_past e n tile [] rest kept count laws none g = g
-goes_past e n tile (x ∷ xs) rest kept count laws none g =
-    let f = failing (meets_tile e.begun.drawing n) x xs none in
-    goes_past e n tile xs rest kept count laws.1 f.1 (goes_outside e n tile x (xs ++ rest) kept count laws.0 f.0 g)
+goes_past : (e : InEpoch) (n : ℕ) (tile : TileValue) (shown skipped rest : List FrameLeaf) (kept : List (Part × GridRef)) (count : ℕ)
+    → AreLawful e.begun.drawing n (skipped ++ rest) → filter (shows_in e.begun.drawing.frame (rect_of_grid (tile_grid e.begun.drawing n)) (behind_in e.begun.drawing n shown)) skipped ≡ []
+    → GoesStill e n tile shown (skipped ++ rest) kept count → GoesStill e n tile shown rest kept count
+goes_past e n tile shown [] rest kept count laws none g = g
+goes_past e n tile shown (x ∷ xs) rest kept count laws none g =
+    let d = e.begun.drawing in
+    let f = failing (shows_in d.frame (rect_of_grid (tile_grid d n)) (behind_in d n shown)) x xs none in
+    let unshown : is_shown d n g.goes.shown x ≡ false = ap (λ ys. is_shown d n ys x) g.same ∙ shown_as d n shown x ∙ f.0 in
+    let next = goes_unshown e n tile x (xs ++ rest) kept count laws.0 g.goes unshown in
+    goes_past e n tile shown xs rest kept count laws.1 f.1 (record { goes = next.goes; same = next.same ∙ g.same })
 
-pub goes_skipping : (e : InEpoch) (n : ℕ) (tile : TileValue) (old new : List FrameLeaf) (kept : List (Part × GridRef)) (count : ℕ)
-    → AreLawful e.begun.drawing n (frame_leaves e.begun.drawing.frame) → Skips (meets_tile e.begun.drawing n) old new → Goes e n tile old kept count → Goes e n tile new kept count
-goes_skipping e n tile old new kept count laws skips g =
-    let here : Goes e n tile (skips.skipped ++ new) kept count = subst (λ xs. Goes e n tile xs kept count) skips.split g in
-    goes_past e n tile skips.skipped new kept count (lawful_rest e n tile (skips.skipped ++ new) kept count here laws) skips.fail here
+goes_skipping : (e : InEpoch) (n : ℕ) (tile : TileValue) (old new : List FrameLeaf) (kept : List (Part × GridRef)) (count : ℕ)
+    → AreLawful e.begun.drawing n (frame_leaves e.begun.drawing.frame) → (g : Goes e n tile old kept count)
+    → Skips (shows_in e.begun.drawing.frame (rect_of_grid (tile_grid e.begun.drawing n)) (behind_in e.begun.drawing n g.shown)) old new → Goes e n tile new kept count
+goes_skipping e n tile old new kept count laws g skips =
+    let first : GoesStill e n tile g.shown old kept count = record { goes = g; same = refl } in
+    let here : GoesStill e n tile g.shown (skips.skipped ++ new) kept count = subst (λ xs. GoesStill e n tile g.shown xs kept count) skips.split first in
+    (goes_past e n tile g.shown skips.skipped new kept count (lawful_rest e n tile (skips.skipped ++ new) kept count here.goes laws) skips.fail here).goes
+
+-- the next leaf, as a tile tells it that shows what the drawing shows
+abbrev pub GivesShown : (e : InEpoch) → ℕ → List FrameLeaf → Option Leaf → List FrameLeaf → List FrameLeaf → Type 0
+GivesShown e n shown next old new = GivesNext e.begun.drawing.frame (shows_in e.begun.drawing.frame (rect_of_grid (tile_grid e.begun.drawing n)) (behind_in e.begun.drawing n shown)) next old new
 
 pub goes_next : (next : Option Leaf) (e : InEpoch) (n : ℕ) (tile : TileValue) (old new : List FrameLeaf) (kept : List (Part × GridRef)) (count : ℕ)
-    → AreLawful e.begun.drawing n (frame_leaves e.begun.drawing.frame) → GivesNext e.begun.drawing.frame (meets_tile e.begun.drawing n) next old new
-    → Goes e n tile old kept count → Going e n tile next new kept count
-goes_next None e n tile old new kept count laws gives g = record { rest = []; comes = refl; goes = goes_skipping e n tile old [] kept count laws gives.0 g }
-goes_next (Some leaf) e n tile old new kept count laws gives g =
-    record { rest = gives.0 ∷ new; comes = (gives.0, gives.1, gives.2, refl); goes = goes_skipping e n tile old (gives.0 ∷ new) kept count laws gives.3 g }
+    → AreLawful e.begun.drawing n (frame_leaves e.begun.drawing.frame) → (g : Goes e n tile old kept count) → GivesShown e n g.shown next old new → Going e n tile next new kept count
+goes_next None e n tile old new kept count laws g gives = record { rest = []; comes = refl; goes = goes_skipping e n tile old [] kept count laws g gives.0 }
+goes_next (Some leaf) e n tile old new kept count laws g gives =
+    record { rest = gives.0 ∷ new; comes = (gives.0, gives.1, shows_meets e.begun.drawing n g.shown gives.0 gives.2, refl); goes = goes_skipping e n tile old (gives.0 ∷ new) kept count laws g gives.3 }
 
 pub going_none : (next : Option Leaf) (e : InEpoch) (n : ℕ) (tile : TileValue) (behind : List FrameLeaf) (kept : List (Part × GridRef)) (count : ℕ)
     → next ≡ None → Going e n tile next behind kept count → Goes e n tile [] kept count

@@ -28,7 +28,7 @@ use Rattle.buckets.specs.Sampled.{ShowsMore}
 use Rattle.buckets.proofs.Culling.{left_out, no_nearer}
 
 -- what shows of further micropolygons goes behind what shows
-further : (v : View) (ms ns : List Micropolygon) (s : Sample) → fragments v (ms ++ ns) s ≡ put_all (fragments v ms s) (covering v ns s)
+pub further : (v : View) (ms ns : List Micropolygon) (s : Sample) → fragments v (ms ++ ns) s ≡ put_all (fragments v ms s) (covering v ns s)
 unfolding by_depth
 further v ms ns s = ap (put_all []) (filter_map-append (fragment_of v s) ms ns) ∙ fold-append (λ k f. put_in f k) [] (covering v ms s) (covering v ns s)
 

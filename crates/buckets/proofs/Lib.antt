@@ -2,11 +2,14 @@ pub mod LeafParts
 pub mod ShadedPlaces
 pub mod Culling
 pub mod LeftOut
+pub mod PassedOver
+pub mod Behind
 pub mod HiddenGrids
 pub mod Cover
 pub mod BucketRows
 pub mod Counting
 pub mod Coming
+pub mod Sighted
 pub mod Going
 pub mod Using
 pub mod Laws
@@ -16,3 +19,5 @@ pub mod Passing
 pub mod RowBytes
 pub mod StepsOn
 pub mod WholeEntry
+pub mod NothingLost
+pub mod FewGrids

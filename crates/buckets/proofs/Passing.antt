@@ -1,6 +1,6 @@
 -- A leaf that is next in a tile, and what becomes of it.
 use Rattle.std.proofs.Common.{◌≡◌, ℕ, ◌+◌, ◌^◌, ◌<◌, ◌≤◌, arith, refl, sym, ◌∙◌, ap, subst, Bool, true, false, ◌↔◌, List, [], ◌∷◌, ◌++◌, Option, Some, None, length, length-append}
-use Rattle.std.specs.Prelude.{slice_get, IsTrue}
+use Rattle.std.specs.Prelude.{ℤ, slice_get, IsTrue}
 use Rattle.patches.specs.Parts.{Part}
 use Rattle.dice.specs.declared.diced.GridRef.{GridRef}
 use Rattle.bound_split.specs.declared.walk.Leaf.{Leaf}
@@ -12,9 +12,11 @@ use Rattle.hider.specs.Tiles.{TileValue, Shows, BlocksAll}
 use Rattle.grid_epoch.specs.Kept.{points_in}
 use Rattle.buckets.specs.Pictures.{decide, FrameLeaf, leaf_in, frame_leaves}
 use Rattle.fixed_math.specs.Spots.{PixelRect}
-use Rattle.buckets.specs.TileWalk.{Drawing, nearest, meets_in, meets_tile, leaf_points, tile_rect}
-use Rattle.buckets.specs.Standing.{InEpoch, IsDrawable, Goes, Going, IsLeafOf, GivesNext, Uses, UsesInPart, PassesLeaf, PassesInPart, next_epoch}
-use Rattle.buckets.proofs.Going.{goes_behind, goes_used, goes_full, goes_used_part, goes_shaded, not_behind}
+use Rattle.buckets.specs.TileWalk.{Drawing, nearest, meets_tile, behind_in, fragments_of, leaf_points, tile_grid, tile_rect}
+use Rattle.buckets.specs.Standing.{InEpoch, IsDrawable, Goes, Going, IsLeafOf, GivesNext, Uses, UsesInPart, PassesLeaf, PassesInPart, next_epoch, shows_in}
+use Rattle.buckets.proofs.Going.{GivesShown, goes_behind, goes_used, goes_full, goes_used_part, goes_shaded, not_behind}
+use Rattle.buckets.specs.Sampled.{TellsBehind}
+use Rattle.buckets.proofs.Behind.{tells}
 use Rattle.buckets.proofs.Laws.{leaf_is_in, leaf_lawful}
 use Rattle.buckets.proofs.Bounds.{few_shadings}
 use Rattle.buckets.proofs.BucketPixels.{rect_is}
@@ -83,10 +85,29 @@ passes_in_part e x old kept count count' behind is blocked u = λ n rest meets g
     goes_used_part e n old x rest kept count count' meets u.0 u.2 g (not_behind e n old x rest kept count behind is blocked g)
 
 -- ---- the next one
--- by the frame and the rectangle that the code has
-pub gives_as : (next : Option Leaf) (d : Drawing) (n : ℕ) (f : FrameValue) (r : PixelRect) (old new : List FrameLeaf) → f ≡ d.frame → r ≡ tile_rect d n → GivesNext f (meets_in f r) next old new → GivesNext d.frame (meets_tile d n) next old new
-gives_as next d n f r old new frame rect gives =
-    subst (λ q. GivesNext d.frame (meets_in d.frame q) next old new) (rect ∙ sym (rect_is d n)) (subst (λ (g : FrameValue). GivesNext g (meets_in g r) next old new) frame gives)
+-- by the frame and the rectangle that the code has, where the tile shows what the drawing shows
+pub gives_as : (next : Option Leaf) (e : InEpoch) (n : ℕ) (f : FrameValue) (r : PixelRect) (t : TileValue) (shown : List FrameLeaf) (old new : FrameValue → List FrameLeaf)
+    → f ≡ e.begun.drawing.frame → r ≡ tile_rect e.begun.drawing n → t.grid ≡ tile_grid e.begun.drawing n → Shows t (fragments_of e.begun.drawing shown)
+    → ((back : ℤ → Bool) → TellsBehind t back → GivesNext f (shows_in f r back) next (old f) (new f)) → GivesShown e n shown next (old e.begun.drawing.frame) (new e.begun.drawing.frame)
+gives_as next e n f r t shown old new frame rect grid shows gives =
+    let d = e.begun.drawing in
+    let back = behind_in d n shown in
+    subst (λ q. GivesNext d.frame (shows_in d.frame q back) next (old d.frame) (new d.frame)) (rect ∙ sym (rect_is d n))
+    (subst (λ (g : FrameValue). GivesNext g (shows_in g r back) next (old g) (new g)) frame (gives back (tells d n shown t grid shows)))
+
+-- by the frame that the walk's sights have
+pub gives_again : (next : Option Leaf) (e : InEpoch) (n : ℕ) (g f : FrameValue) (r : PixelRect) (t : TileValue) (shown : List FrameLeaf) (old new : FrameValue → List FrameLeaf)
+    → g ≡ f → f ≡ e.begun.drawing.frame → r ≡ tile_rect e.begun.drawing n → t.grid ≡ tile_grid e.begun.drawing n → Shows t (fragments_of e.begun.drawing shown)
+    → ((back : ℤ → Bool) → TellsBehind t back → GivesNext g (shows_in g r back) next (old g) (new g)) → GivesShown e n shown next (old f) (new f)
+gives_again next e n g f r t shown old new same frame rect grid shows gives =
+    subst (λ (v : FrameValue). GivesShown e n shown next (old v) (new v)) (sym frame) (gives_as next e n g r t shown old new (same ∙ frame) rect grid shows gives)
+
+-- the first leaf of a frame in a tile
+pub gives_first : (next : Option Leaf) (f g : FrameValue) (r q : PixelRect) (back : ℤ → Bool) (first new : FrameValue → List FrameLeaf) → f ≡ g → r ≡ q → ((v : FrameValue) → first v ≡ frame_leaves v)
+    → GivesNext f (shows_in f r back) next (first f) (new f) → GivesNext g (shows_in g q back) next (frame_leaves g) (new g)
+gives_first next f g r q back first new same rect all gives =
+    subst (λ (v : FrameValue). GivesNext v (shows_in v q back) next (frame_leaves v) (new v)) same
+    (subst (λ p. GivesNext f (shows_in f p back) next (frame_leaves f) (new f)) rect (subst (λ xs. GivesNext f (shows_in f r back) next xs (new f)) (all f) gives))
 
 abbrev pub some_leaf : Option Leaf → ℕ
 some_leaf None = 0

@@ -1,19 +1,19 @@
 -- How a drawing goes from tile to tile.
-use Rattle.std.proofs.Common.{◌≡◌, ℕ, zero, suc, ◌+◌, ◌-◌, ◌*◌, ◌<◌, ◌≤◌, max, arith, refl, sym, ◌∙◌, ap, subst, List, [], ◌∷◌, length, take, ◌++◌, Option, Some, None, true, false}
+use Rattle.std.proofs.Common.{◌≡◌, Bool, ℕ, zero, suc, ◌+◌, ◌-◌, ◌*◌, ◌<◌, ◌≤◌, max, arith, refl, sym, ◌∙◌, ap, subst, List, [], ◌∷◌, length, take, ◌++◌, Option, Some, None, true, false}
 use Rattle.std.specs.Prelude.{is_some}
-use Rattle.fixed_math.specs.Spots.{PixelRect}
 use Rattle.patches.specs.Parts.{Part}
 use Rattle.dice.specs.declared.diced.GridRef.{GridRef}
 use Rattle.bound_split.specs.declared.walk.Leaf.{Leaf}
 use Rattle.bound_split.specs.Lengths.{most_below}
-use Rattle.scene.specs.Scene.{FrameValue}
 use Rattle.hider.specs.declared.sample_grid.SampleGrid.{SampleGrid}
 use Rattle.hider.specs.Tiles.{Shows, sample_count}
 use Rattle.filter_ppm.specs.Bands.{rect_with}
 use Rattle.buckets.specs.declared.frame.Progress.{Progress}
-use Rattle.buckets.specs.Pictures.{FrameLeaf, frame_leaves}
-use Rattle.buckets.specs.TileWalk.{Drawing, nothing, in_new_epoch, format_in, bucket_of, tile_count, tile_rect, tile_grid, meets_in, meets_tile, samples_at, past_tiles, tile_walk}
-use Rattle.buckets.specs.Standing.{Begun, InEpoch, IsDrawable, Before, GivesNext, to_come}
+use Rattle.std.specs.Prelude.{ℤ}
+use Rattle.buckets.specs.Sampled.{TellsBehind}
+use Rattle.buckets.specs.Pictures.{frame_leaves}
+use Rattle.buckets.specs.TileWalk.{Drawing, nothing, in_new_epoch, format_in, bucket_of, tile_count, tile_rect, tile_grid, samples_at, past_tiles, tile_walk}
+use Rattle.buckets.specs.Standing.{Begun, InEpoch, IsDrawable, Before, GivesNext, to_come, shows_in}
 use Rattle.buckets.specs.Rows.{film, IsRowTo, TellsSamples}
 use Rattle.buckets.specs.Progress.{Stands, next_of, report_before}
 use Rattle.filter_ppm.specs.Bands.{ArePixels}
@@ -22,35 +22,31 @@ use Rattle.buckets.proofs.Going.{goes_begun, goes_next, goes_epochs}
 use Rattle.buckets.proofs.Laws.{lawful}
 use Rattle.buckets.proofs.Passing.{gives_as}
 
--- the first leaf of a frame in a tile, as the code has it
-pub gives_all : (next : Option Leaf) (d : Drawing) (n : ℕ) (f : FrameValue) (r : PixelRect) (first : List FrameLeaf) (behind : FrameValue → List FrameLeaf) → f ≡ d.frame → r ≡ tile_rect d n → first ≡ frame_leaves f
-    → GivesNext f (meets_in f r) next first (behind f) → GivesNext d.frame (meets_tile d n) next (frame_leaves d.frame) (behind d.frame)
-gives_all next d n f r first behind frame rect all gives =
-    subst (λ (g : FrameValue). GivesNext d.frame (meets_tile d n) next (frame_leaves g) (behind g)) frame
-    (gives_as next d n f r (frame_leaves f) (behind f) frame rect (subst (λ xs. GivesNext f (meets_in f r) next xs (behind f)) all gives))
-
 -- in a tile that has just begun
 pub stands_in : (e : InEpoch) (p : Progress) (kept : List (Part × GridRef)) (count : ℕ) → IsDrawable e.begun.drawing → Before e p.drawing.at kept count → p.drawing.at < tile_count e.begun.drawing
-    → p.filter ≡ format_in e.begun.drawing.frame → rect_with p.drawing.rect ≡ tile_rect e.begun.drawing p.drawing.at → p.drawing.tile.grid ≡ tile_grid e.begun.drawing p.drawing.at → Shows p.drawing.tile (λ s. [])
-    → GivesNext e.begun.drawing.frame (meets_tile e.begun.drawing p.drawing.at) p.drawing.next (frame_leaves e.begun.drawing.frame) (to_come e.begun.drawing.frame p.drawing.leaves.number p.drawing.leaves.pieces)
+    → p.filter ≡ format_in e.begun.drawing.frame → p.drawing.leaves.sights ≡ e.begun.drawing.frame → rect_with p.drawing.rect ≡ tile_rect e.begun.drawing p.drawing.at → p.drawing.tile.grid ≡ tile_grid e.begun.drawing p.drawing.at → Shows p.drawing.tile (λ s. [])
+    → ((back : ℤ → Bool) → TellsBehind p.drawing.tile back → GivesNext e.begun.drawing.frame (shows_in e.begun.drawing.frame (tile_rect e.begun.drawing p.drawing.at) back) p.drawing.next (frame_leaves e.begun.drawing.frame) (to_come e.begun.drawing.frame p.drawing.leaves.number p.drawing.leaves.pieces))
     → IsRowTo e.begun.drawing p.drawing.at (bucket_of e.begun.drawing p.drawing.at).left p.row.items → Stands e p kept count
-stands_in e p kept count h before low format rect grid empty gives row =
+stands_in e p kept count h before low format sights rect grid empty gives row =
     let d = e.begun.drawing in
     record {
       within = omega (arith, low);
       format = format;
+      sights = sights;
       going = λ l. record {
         rect = rect;
         row = row;
-        going = goes_next p.drawing.next e p.drawing.at p.drawing.tile (frame_leaves d.frame) (to_come d.frame p.drawing.leaves.number p.drawing.leaves.pieces) kept count (lawful d p.drawing.at h) gives
-            (goes_begun e p.drawing.at p.drawing.tile kept count before low grid empty);
+        going =
+            let g = goes_begun e p.drawing.at p.drawing.tile kept count before low grid empty in
+            goes_next p.drawing.next e p.drawing.at p.drawing.tile (frame_leaves d.frame) (to_come d.frame p.drawing.leaves.number p.drawing.leaves.pieces) kept count (lawful d p.drawing.at h) g
+            (gives_as p.drawing.next e p.drawing.at d.frame (tile_rect d p.drawing.at) p.drawing.tile g.shown (λ v. frame_leaves v) (λ v. to_come v p.drawing.leaves.number p.drawing.leaves.pieces) refl refl g.grid g.shows gives);
       };
       ended = λ is. absurd (omega (arith, is, low));
     }
 
 -- behind the last tile
-pub stands_behind : (e : InEpoch) (p : Progress) (kept : List (Part × GridRef)) (count : ℕ) → Before e p.drawing.at kept count → p.drawing.at ≡ tile_count e.begun.drawing → p.filter ≡ format_in e.begun.drawing.frame → Stands e p kept count
-stands_behind e p kept count before is format = record { within = omega (arith, is); format = format; going = λ l. absurd (omega (arith, is, l)); ended = λ _. before }
+pub stands_behind : (e : InEpoch) (p : Progress) (kept : List (Part × GridRef)) (count : ℕ) → Before e p.drawing.at kept count → p.drawing.at ≡ tile_count e.begun.drawing → p.filter ≡ format_in e.begun.drawing.frame → p.drawing.leaves.sights ≡ e.begun.drawing.frame → Stands e p kept count
+stands_behind e p kept count before is format sights = record { within = omega (arith, is); format = format; sights = sights; going = λ l. absurd (omega (arith, is, l)); ended = λ _. before }
 
 -- before the first one
 pub before_first : (b : Begun) → Before (next_of b (report_before b)) 0 [] b.count

@@ -1,5 +1,5 @@
 -- Which leaves of a primitive can show in a rectangle of pixels, and how near a leaf can come.
-use Rattle.std.specs.Prelude.{ℤ, pos, ◌≤ℤ◌, Bool}
+use Rattle.std.specs.Prelude.{◌≡◌, ℤ, pos, ◌≤ℤ◌, Bool, true, ◌&&◌, not}
 use Rattle.fixed_math.specs.Spots.{PixelRect}
 use Rattle.patches.specs.Parts.{Part, rect_of}
 use Rattle.patches.specs.Patches.{patch_box}
@@ -15,6 +15,14 @@ leaf_meets f prim r part = part_meets f.camera prim.bound (patch_box prim.patch)
 -- no point of the leaf is less deep
 abbrev pub leaf_nearest : FrameValue → PrimValue → Part → ℤ
 leaf_nearest f prim part = (extent_of f.camera prim.bound (patch_box prim.patch (rect_of part))).nearest
+
+-- it can, and no part of it lies at a depth that is told to be behind
+abbrev pub part_shows : FrameValue → PrimValue → PixelRect → (ℤ → Bool) → Part → Bool
+part_shows f prim r behind p = leaf_meets f prim r p && not (behind (leaf_nearest f prim p))
+
+-- what holds of a depth holds of each that is no nearer
+abbrev pub HoldsBehind : (ℤ → Bool) → Type 0
+HoldsBehind behind = (y z : ℤ) → y ≤ℤ z → behind y ≡ true → behind z ≡ true
 
 -- what holds of each primitive of a frame of an accepted scene: the camera is one, the bound is no less than 0, and the shaders have
 -- the kinds that are asked for

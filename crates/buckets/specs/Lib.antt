@@ -1,8 +1,11 @@
 pub mod Pictures
 pub mod Sampled
+pub mod Sights
 pub mod Culled
 pub mod TileWalk
 pub mod Standing
 pub mod Rows
 pub mod Progress
 pub mod Shopped
+pub mod Meeting
+pub mod TileLaws

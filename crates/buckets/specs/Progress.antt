@@ -23,6 +23,7 @@ pub record IsIn (e : InEpoch) (p : Progress) (kept : List (Part × GridRef)) (co
 pub record Stands (e : InEpoch) (p : Progress) (kept : List (Part × GridRef)) (count : ℕ) : Type 0 where
   pub within : p.drawing.at ≤ tile_count e.begun.drawing
   pub format : p.filter ≡ format_in e.begun.drawing.frame
+  pub sights : p.drawing.leaves.sights ≡ e.begun.drawing.frame
   pub going : p.drawing.at < tile_count e.begun.drawing → IsIn e p kept count
   pub ended : p.drawing.at ≡ tile_count e.begun.drawing → Before e p.drawing.at kept count
 

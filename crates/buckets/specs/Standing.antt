@@ -1,5 +1,5 @@
 -- Where the drawing of a frame stands: what its tile shows, and what is left of the walk through its tiles.
-use Rattle.std.specs.Prelude.{◌≡◌, ℕ, ◌+◌, ◌-◌, ◌^◌, ◌≤◌, max, Bool, true, false, nat_le, filter, List, [], ◌∷◌, ◌++◌, length, map, drop, All, Option, Some, None, slice_get}
+use Rattle.std.specs.Prelude.{◌≡◌, ℤ, ℕ, ◌+◌, ◌-◌, ◌^◌, ◌≤◌, max, Bool, true, false, nat_le, filter, List, [], ◌∷◌, ◌++◌, length, map, drop, All, Option, Some, None, slice_get}
 use Rattle.patches.specs.Parts.{Part}
 use Rattle.bound_split.specs.declared.walk.Leaf.{Leaf}
 use Rattle.bound_split.specs.declared.splits.Decision.TheVariants.{Dice}
@@ -17,7 +17,8 @@ use Rattle.filter_ppm.specs.Sampled.{IsFormat}
 use Rattle.grid_epoch.specs.Kept.{has, pieces_in, points_in}
 use Rattle.outside.specs.Sink.{Written}
 use Rattle.buckets.specs.declared.shown.Shown.{Shown}
-use Rattle.buckets.specs.Culled.{IsShadedPrim}
+use Rattle.fixed_math.specs.Spots.{PixelRect}
+use Rattle.buckets.specs.Culled.{IsShadedPrim, part_shows}
 use Rattle.buckets.specs.Pictures.{decide, FrameLeaf, leaf_in, leaves_from, frame_leaves, leaf_micropolygons}
 use Rattle.buckets.specs.Sampled.{ShowsMore}
 use Rattle.buckets.specs.TileWalk.{Drawing, Counts, walked, format_in, tile_count, tile_grid, meets_tile, fragments_of, leaf_points, with_needed, past_leaves, past_tiles, tile_walk}
@@ -147,6 +148,10 @@ pub record Skips (test : FrameLeaf → Bool) (old new : List FrameLeaf) : Type 0
 abbrev pub GivesNext : FrameValue → (FrameLeaf → Bool) → Option Leaf → List FrameLeaf → List FrameLeaf → Type 0
 GivesNext f test None old new = Skips test old [] × (new ≡ [])
 GivesNext f test (Some leaf) old new = (x : FrameLeaf) × IsLeafOf f leaf x × (test x ≡ true) × Skips test old (x ∷ new)
+
+-- the leaf meets a rectangle of pixels, and doesn't lie at a depth that is told to be behind
+unfoldable pub shows_in : FrameValue → PixelRect → (ℤ → Bool) → FrameLeaf → Bool
+shows_in f r behind x = part_shows f x.prim r behind x.part
 
 -- with so many shadings more, the counts are these, which have what the table has
 pub record CountsGo (old new : Counts) (kept : List (Part × GridRef)) (count count' : ℕ) : Type 0 where

@@ -65,9 +65,13 @@ nearest d x = leaf_nearest d.frame x.prim x.part
 abbrev pub fragments_of : Drawing → List FrameLeaf → Sample → List Fragment
 fragments_of d xs = fragments d.frame.camera (micropolygons_of d.accepted d.frame xs)
 
+-- a depth at each sample of tile n behind an opaque fragment of these leaves
+abbrev pub behind_in : Drawing → ℕ → List FrameLeaf → ℤ → Bool
+behind_in d n shown z = list_all (λ i. blocks z (fragments_of d shown (sample_of (tile_grid d n) i))) (range_with_len 0 (sample_count (tile_grid d n)))
+
 -- at each sample of tile n an opaque fragment of these leaves lies before all of the leaf
 unfoldable pub is_behind : Drawing → ℕ → List FrameLeaf → FrameLeaf → Bool
-is_behind d n shown x = list_all (λ i. blocks (nearest d x) (fragments_of d shown (sample_of (tile_grid d n) i))) (range_with_len 0 (sample_count (tile_grid d n)))
+is_behind d n shown x = behind_in d n shown (nearest d x)
 
 -- behind these leaves the leaf is shown in tile n: it is neither left out nor passed over
 unfoldable pub is_shown : Drawing → ℕ → List FrameLeaf → FrameLeaf → Bool

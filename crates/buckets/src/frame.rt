@@ -41,20 +41,21 @@ use std::alloc::Global;
 
 /// Where the drawing of a frame stands: in a tile, with the pixels of its row of buckets so far.
 #[derive(Drop)]
-pub(crate) struct Progress {
-    pub(crate) drawing: TileDrawing,
+pub(crate) struct Progress<'a> {
+    pub(crate) drawing: TileDrawing<'a>,
     pub(crate) filter: PixelFilter,
     pub(crate) row: Vec<[u32; 3]>,
 }
 
 // Goes to the next tile, where there is one.
-fn next_tile(alloc: Global, shown: &Shown<'_>, progress: &mut Progress) -> Result<(), NoMemory>
+fn next_tile(alloc: Global, shown: &Shown<'_>, progress: &mut Progress<'_>) -> Result<(), NoMemory>
     ghost at_epoch: { InEpoch }
     requires drawn { IsDrawn at_epoch.begun shown.now }
     requires at { progress.old.drawing.at < tile_count at_epoch.begun.drawing }
     requires format { progress.old.filter ≡ format_in at_epoch.begun.drawing.frame }
     requires grid { progress.old.drawing.tile.grid ≡ tile_grid at_epoch.begun.drawing progress.old.drawing.at }
     requires row { IsRowTo at_epoch.begun.drawing progress.old.drawing.at (bucket_of at_epoch.begun.drawing progress.old.drawing.at).right progress.old.row.items }
+    requires sights { progress.old.drawing.leaves.sights ≡ at_epoch.begun.drawing.frame }
     ensures at { OnOk result (progress.new.drawing.at ≡ progress.old.drawing.at + 1) }
     ensures stands { OnOk result ((kept : List (Part × GridRef)) (count : ℕ) → Before at_epoch (progress.old.drawing.at + 1) kept count → Stands at_epoch progress.new kept count) }
 {
@@ -72,7 +73,7 @@ fn next_tile(alloc: Global, shown: &Shown<'_>, progress: &mut Progress) -> Resul
 fn finish_tile<O: FrameSink>(
     alloc: Global,
     shown: &Shown<'_>,
-    progress: &mut Progress,
+    progress: &mut Progress<'_>,
     report: &mut Report,
     sink: &mut O,
 ) -> Result<(), DrawFault>
@@ -86,6 +87,7 @@ fn finish_tile<O: FrameSink>(
     requires open { O.is_open sink.old ≡ true }
     requires put { PutsTo at_epoch.begun progress.old.drawing.at (O.written sink.old) }
     requires samples { TellsSamples at_epoch.begun progress.old.drawing.at report.old.most_samples }
+    requires sights { progress.old.drawing.leaves.sights ≡ at_epoch.begun.drawing.frame }
     ensures at { OnOk result (progress.new.drawing.at ≡ progress.old.drawing.at + 1) }
     ensures stands { OnOk result ((kept : List (Part × GridRef)) (count : ℕ) → Before at_epoch (progress.old.drawing.at + 1) kept count → Stands at_epoch progress.new kept count) }
     ensures epochs { report.new.epochs ≡ report.old.epochs }
@@ -117,7 +119,7 @@ fn finish_tile<O: FrameSink>(
 fn go_on<'a, O: FrameSink>(
     alloc: Global,
     shown: &Shown<'_>,
-    progress: &mut Progress,
+    progress: &mut Progress<'_>,
     arena: &'a Bump,
     epoch: &mut Epoch<'a>,
     shop: &mut Shop,
@@ -160,7 +162,7 @@ fn go_on<'a, O: FrameSink>(
 fn run_epoch<O: FrameSink>(
     alloc: Global,
     shown: &Shown<'_>,
-    progress: &mut Progress,
+    progress: &mut Progress<'_>,
     shop: &mut Shop,
     report: &mut Report,
     sink: &mut O,
@@ -197,7 +199,7 @@ fn run_epoch<O: FrameSink>(
 }
 
 // A drawing that is to begin with the first tile.
-fn started(alloc: Global, shown: &Shown<'_>) -> Result<Progress, NoMemory>
+fn started<'a>(alloc: Global, shown: &Shown<'a>) -> Result<Progress<'a>, NoMemory>
     ghost begun: { Begun }
     requires drawn { IsDrawn begun shown.now }
     requires epochs { begun.epochs < 2 ^ 63 }
@@ -216,8 +218,8 @@ fn started(alloc: Global, shown: &Shown<'_>) -> Result<Progress, NoMemory>
     };
     let rect = tile_at(shown, 0);
     let tile = Tile::new(alloc, rect, options.xs as u32, options.ys as u32)?;
-    let mut leaves = LeafWalk::new();
-    let next = leaves.next(shown.frame, rect);
+    let mut leaves = LeafWalk::new(alloc, shown.frame)?;
+    let next = leaves.next(rect, &tile);
     Ok(Progress {
         drawing: TileDrawing {
             at: 0,

@@ -18,7 +18,8 @@ ghost use Rattle.buckets.specs.TileWalk.{Drawing, nearest};
 ghost use Rattle.buckets.specs.Standing.{Begun, InEpoch, IsDrawn, IsGridOf, AreGrids, Uses, UsesInPart, PassesLeaf, PassesInPart};
 
 use crate::shown::Shown;
-use bound_split::{Leaf, extent_of};
+use crate::sights::Sights;
+use bound_split::Leaf;
 use bumpalo::Bump;
 use dice::GridRef;
 use displace_shade::Shop;
@@ -144,17 +145,20 @@ fn use_leaf<'a>(
 }
 
 // Whether a leaf lies behind what shows at each sample of a tile.
-fn is_behind(frame: &Frame, prim: &Prim, leaf: &Leaf, tile: &Tile) -> bool
-    ensures { (d : Drawing) (f : Sample → List Fragment) → d.frame ≡ frame.now → Shows tile.now f → IsTrue result ↔ BlocksAll (nearest d (leaf_in prim.now leaf.now.piece)) tile.now.grid f }
+fn is_behind(sights: &mut Sights<'_>, prim: &Prim, leaf: &Leaf, tile: &Tile) -> bool
+    requires { slice_get sights.old.prims leaf.now.piece.prim ≡ Some prim.now }
+    ensures same { sights.new ≡ sights.old }
+    ensures behind { (d : Drawing) (f : Sample → List Fragment) → d.frame ≡ sights.old → Shows tile.now f → IsTrue result ↔ BlocksAll (nearest d (leaf_in prim.now leaf.now.piece)) tile.now.grid f }
 {
-    let extent = extent_of(&prim.patch, &leaf.piece, &frame.camera, prim.bound);
-    tile.all_behind(extent.nearest)
+    let sight = sights.of(leaf.piece.prim as usize, prim, &leaf.piece);
+    tile.all_behind(sight.extent.nearest)
 }
 
 /// Goes past a leaf that meets a tile: it is passed over where it lies behind what shows there, else it is hidden. Where there is
 /// no room for its grid, the answer is `false`, and nothing has changed.
 pub(crate) fn pass_leaf<'a>(
     shown: &Shown<'_>,
+    sights: &mut Sights<'_>,
     prim: &Prim,
     leaf: &Leaf,
     tile: &mut Tile,
@@ -172,12 +176,14 @@ pub(crate) fn pass_leaf<'a>(
     requires count { shop.old.count < 18446744073709551615 }
     requires limit { epoch.old.limit ≡ at_epoch.begun.drawing.limit }
     requires grids { AreGrids at_epoch.begun.drawing epoch.old.kept }
+    requires sights { sights.old ≡ at_epoch.begun.drawing.frame }
+    ensures sights { sights.new ≡ sights.old }
     ensures limit { epoch.new.limit ≡ epoch.old.limit }
     ensures set { shop.new.set ≡ shop.old.set }
     ensures passed { IfOk result (λ b. PassesLeaf b at_epoch (leaf_in prim.now leaf.now.piece) tile.old epoch.old.kept shop.old.count tile.new epoch.new.kept shop.new.count) }
     ensures part { OnErr result (PassesInPart at_epoch (leaf_in prim.now leaf.now.piece) tile.old epoch.old.kept shop.old.count shop.new.count) }
 {
-    if is_behind(shown.frame, prim, leaf, tile) {
+    if is_behind(sights, prim, leaf, tile) {
         return Ok(true);
     }
     let used = use_leaf(shown, prim, leaf, tile, arena, epoch, shop)?;

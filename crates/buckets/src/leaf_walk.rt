@@ -1,34 +1,32 @@
 // The leaves of a frame, one primitive after another.
-ghost use Rattle.std.specs.Prelude.{◌≡◌, ◌≤◌, ◌<◌, ◌∷◌, [], true, Some, pos, ◌≤ℤ◌, length, MatchOption, IfSome, slice_get};
+ghost use Rattle.std.specs.Prelude.{◌≡◌, ◌≤◌, ◌<◌, ◌∷◌, [], true, Some, Bool, ℤ, ◌&&◌, not, pos, ◌≤ℤ◌, length, MatchOption, IfSome, IfOk, slice_get};
 ghost use Rattle.patches.specs.Parts.{IsPart};
-ghost use Rattle.patches.specs.Patches.{patch_box};
 ghost use Rattle.scene.specs.Scene.{FrameValue};
 ghost use Rattle.transforms.specs.Field.{IsView};
 ghost use Rattle.bound_split.specs.Leaves.{pending};
 ghost use Rattle.bound_split.specs.Culling.{Skips};
-ghost use Rattle.bound_split.specs.Extents.{part_meets, pixels_of};
+ghost use Rattle.bound_split.specs.Extents.{reaches, pixels_of};
 ghost use Rattle.bound_split.specs.declared.splits.Decision.TheVariants.{Dice};
 ghost use Rattle.buckets.specs.Pictures.{decide, frame_leaves};
-ghost use Rattle.buckets.specs.TileWalk.{meets_in};
-ghost use Rattle.buckets.specs.Standing.{to_come, GivesNext};
+ghost use Rattle.buckets.specs.Culled.{part_shows};
+ghost use Rattle.buckets.specs.Sampled.{TellsBehind};
+ghost use Rattle.buckets.specs.Standing.{to_come, GivesNext, shows_in};
 
-use bound_split::{Leaf, Walk, meets};
+use crate::sights::Sights;
+use bound_split::{Leaf, Sight, Walk};
+use fixed_math::NoMemory;
+use hider::Tile;
 use patches::Piece;
 use scene::{Frame, Prim};
+use std::alloc::Global;
 
 /// The leaves of a frame that are still to come: those below the pieces of a walk through primitive `number`, and those of the
 /// primitives behind it.
 #[derive(Drop)]
-pub(crate) struct LeafWalk {
+pub(crate) struct LeafWalk<'a> {
+    pub(crate) sights: Sights<'a>,
     pub(crate) number: usize,
     pub(crate) pieces: Walk,
-}
-
-/// Whether a piece of a primitive can show in a tile.
-fn can_show(frame: &Frame, prim: &Prim, piece: &Piece, tile: [u32; 4]) -> bool
-    ensures { result ≡ part_meets frame.now.camera prim.now.bound (patch_box prim.now.patch) (pixels_of tile) piece.now }
-{
-    meets(&prim.patch, piece, &frame.camera, prim.bound, tile)
 }
 
 /// Does nothing: a call tells a proof what holds of a frame's camera and of a primitive.
@@ -40,23 +38,46 @@ fn recall(frame: &Frame, prim: &Prim)
     let _bound = prim.bound;
 }
 
-/// The next leaf of a primitive that meets a tile. A piece that doesn't meet it isn't split.
-fn next_of(walk: &mut Walk, frame: &Frame, prim: &Prim, tile: [u32; 4]) -> Option<Leaf>
-    ensures skipped { let decides = decide frame.now.camera prim.now in
-        let test = part_meets frame.now.camera prim.now.bound (patch_box prim.now.patch) (pixels_of tile) in
+/// Whether a piece can show in a tile of these pixels: it meets them, and doesn't lie behind what shows at each sample.
+fn can_show(sight: &Sight, rect: [u32; 4], tile: &Tile) -> bool
+    ensures { (back : ℤ → Bool) → TellsBehind tile.now back → result ≡ (reaches sight.now.extent.reach (pixels_of rect) && not (back sight.now.extent.nearest)) }
+{
+    let extent = sight.extent;
+    if !extent.meets(rect) {
+        return false;
+    }
+    let behind = tile.all_behind(extent.nearest);
+    !behind
+}
+
+/// The next leaf of the primitive of a number that can show in a tile of these pixels. A piece that can't isn't split.
+fn next_of(
+    walk: &mut Walk,
+    sights: &mut Sights<'_>,
+    number: usize,
+    prim: &Prim,
+    rect: [u32; 4],
+    tile: &Tile,
+) -> Option<Leaf>
+    requires { slice_get sights.old.prims number ≡ Some prim.now }
+    ensures frame { sights.new ≡ sights.old }
+    ensures skipped { (back : ℤ → Bool) → TellsBehind tile.now back → let decides = decide sights.old.camera prim.now in
+        let test = part_shows sights.old prim.now (pixels_of rect) back in
         MatchOption result (Skips test (pending decides walk.old) []) (λ leaf. Skips test (pending decides walk.old) (leaf.piece ∷ pending decides walk.new)) }
-    ensures passed { IfSome result (λ leaf. part_meets frame.now.camera prim.now.bound (patch_box prim.now.patch) (pixels_of tile) leaf.piece ≡ true) }
-    ensures sizes { IfSome result (λ leaf. decide frame.now.camera prim.now leaf.piece ≡ Dice leaf.p leaf.q) }
+    ensures passed { (back : ℤ → Bool) → TellsBehind tile.now back → IfSome result (λ leaf. part_shows sights.old prim.now (pixels_of rect) back leaf.piece ≡ true) }
+    ensures sizes { IfSome result (λ leaf. decide sights.old.camera prim.now leaf.piece ≡ Dice leaf.p leaf.q) }
     ensures small { IfSome result (λ leaf. IsPart leaf.piece × (leaf.p ≤ 4) × (leaf.q ≤ 4)) }
 {
-    recall(frame, prim);
-    walk.next_kept(
-        &prim.patch,
-        &frame.camera,
-        prim.rate,
-        prim.bound,
-        |piece| can_show(frame, prim, &piece, tile),
-    )
+    recall(sights.frame(), prim);
+    while let Some(piece) = walk.take() {
+        let sight = sights.of(number, prim, &piece);
+        if can_show(&sight, rect, tile) {
+            if let Some(leaf) = walk.visit(piece, sight.decision) {
+                return Some(leaf);
+            }
+        }
+    }
+    None
 }
 
 /// The primitives of a frame.
@@ -67,24 +88,46 @@ pub(crate) fn prims_of(frame: &Frame) -> &[Prim]
     frame.prims.as_slice()
 }
 
-impl LeafWalk {
+impl<'a> LeafWalk<'a> {
     /// All leaves of a frame.
-    pub(crate) fn new() -> LeafWalk
-        ensures { (f : FrameValue) → to_come f result.number result.pieces ≡ frame_leaves f }
+    pub(crate) fn new(alloc: Global, frame: &'a Frame) -> Result<LeafWalk<'a>, NoMemory>
+        ensures frame { IfOk result (λ w. w.sights ≡ frame.now) }
+        ensures all { IfOk result (λ w. (f : FrameValue) → to_come f w.number w.pieces ≡ frame_leaves f) }
     {
-        LeafWalk {
+        let sights = Sights::new(alloc, frame)?;
+        let pieces = Walk::new(Piece::whole(0));
+        Ok(LeafWalk {
+            sights,
             number: 0,
-            pieces: Walk::new(Piece::whole(0)),
-        }
+            pieces,
+        })
     }
 
-    /// The next leaf that meets a tile, none where no other does.
-    pub(crate) fn next(&mut self, frame: &Frame, tile: [u32; 4]) -> Option<Leaf>
-        ensures { GivesNext frame.now (meets_in frame.now (pixels_of tile)) result (to_come frame.now self.old.number self.old.pieces) (to_come frame.now self.new.number self.new.pieces) }
+    /// All leaves again.
+    pub(crate) fn restart(&mut self)
+        ensures frame { self.new.sights ≡ self.old.sights }
+        ensures all { (f : FrameValue) → to_come f self.new.number self.new.pieces ≡ frame_leaves f }
     {
-        let prims = prims_of(frame);
+        self.number = 0;
+        self.pieces = Walk::new(Piece::whole(0));
+    }
+
+    /// The next leaf that can show in a tile of these pixels, none where no other can.
+    pub(crate) fn next(&mut self, rect: [u32; 4], tile: &Tile) -> Option<Leaf>
+        ensures frame { self.new.sights ≡ self.old.sights }
+        ensures next { (back : ℤ → Bool) → TellsBehind tile.now back → GivesNext self.old.sights (shows_in self.old.sights (pixels_of rect) back) result (to_come self.old.sights self.old.number self.old.pieces) (to_come self.old.sights self.new.number self.new.pieces) }
+    {
+        let prims = prims_of(self.sights.frame());
         while self.number < prims.len() {
-            if let Some(leaf) = next_of(&mut self.pieces, frame, &prims[self.number], tile) {
+            let number = self.number;
+            if let Some(leaf) = next_of(
+                &mut self.pieces,
+                &mut self.sights,
+                number,
+                &prims[number],
+                rect,
+                tile,
+            ) {
                 return Some(leaf);
             }
             self.number += 1;

@@ -1,13 +1,14 @@
 // One tile of a frame, leaf after leaf.
-ghost use Rattle.std.specs.Prelude.{◌≡◌, ◌≢◌, ◌≤◌, ◌<◌, [], None, Some, ℕ, List, OnOk, OnErr, IfOk, slice_get};
+ghost use Rattle.std.specs.Prelude.{◌≡◌, ◌≢◌, ◌≤◌, ◌<◌, [], None, Some, ℕ, ℤ, Bool, List, OnOk, OnErr, IfOk, slice_get};
 ghost use Rattle.displace_shade.specs.Shop.{set_value};
 ghost use Rattle.grid_epoch.specs.Kept.{points_in};
 ghost use Rattle.filter_ppm.specs.Bands.{rect_with};
 ghost use Rattle.scene.specs.Scene.{FrameValue, PrimValue};
 ghost use Rattle.buckets.specs.Pictures.{frame_leaves};
+ghost use Rattle.buckets.specs.Sampled.{TellsBehind};
 ghost use Rattle.hider.specs.Tiles.{Shows};
-ghost use Rattle.buckets.specs.TileWalk.{meets_tile, tile_count, tile_rect, tile_grid};
-ghost use Rattle.buckets.specs.Standing.{Begun, GivesNext, InEpoch, IsDrawn, ShadesInPart, next_epoch, to_come, Goes, Going};
+ghost use Rattle.buckets.specs.TileWalk.{tile_count, tile_rect, tile_grid};
+ghost use Rattle.buckets.specs.Standing.{Begun, GivesNext, InEpoch, IsDrawn, ShadesInPart, next_epoch, shows_in, to_come, Goes, Going};
 
 use crate::leaf_use::pass_leaf;
 use crate::leaf_walk::{LeafWalk, prims_of};
@@ -23,11 +24,11 @@ use scene::{Frame, Prim};
 
 /// Where the drawing of tile `at` stands: what it shows, the next leaf, and those behind it.
 #[derive(Drop)]
-pub(crate) struct TileDrawing {
+pub(crate) struct TileDrawing<'a> {
     pub(crate) at: usize,
     pub(crate) rect: [u32; 4],
     pub(crate) tile: Tile,
-    pub(crate) leaves: LeafWalk,
+    pub(crate) leaves: LeafWalk<'a>,
     pub(crate) next: Option<Leaf>,
 }
 
@@ -39,7 +40,7 @@ fn prim_at(frame: &Frame, number: u32) -> &Prim
     &prims_of(frame)[number as usize]
 }
 
-impl TileDrawing {
+impl<'s> TileDrawing<'s> {
     /// Goes past the next leaves, to the end of the tile or to one for whose grid there is no room. In the next epoch the drawing
     /// goes on from there.
     pub(crate) fn fill<'a>(
@@ -55,8 +56,10 @@ impl TileDrawing {
         requires limit { epoch.old.limit ≡ at_epoch.begun.drawing.limit }
         requires rect { rect_with self.old.rect ≡ tile_rect at_epoch.begun.drawing self.old.at }
         requires going { Going at_epoch self.old.at self.old.tile self.old.next (to_come shown.now.frame.now self.old.leaves.number self.old.leaves.pieces) epoch.old.kept shop.old.count }
+        requires leaves { self.old.leaves.sights ≡ shown.now.frame.now }
         ensures at { self.new.at ≡ self.old.at }
         ensures rect { self.new.rect ≡ self.old.rect }
+        ensures leaves { self.new.leaves.sights ≡ shown.now.frame.now }
         ensures limit { epoch.new.limit ≡ epoch.old.limit }
         ensures set { shop.new.set ≡ shop.old.set }
         ensures ended { OnOk result (self.new.next ≡ None → Goes at_epoch self.new.at self.new.tile [] epoch.new.kept shop.new.count) }
@@ -65,10 +68,19 @@ impl TileDrawing {
     {
         while let Some(leaf) = self.next {
             let prim = prim_at(shown.frame, leaf.piece.prim);
-            if !pass_leaf(shown, prim, &leaf, &mut self.tile, arena, epoch, shop)? {
+            if !pass_leaf(
+                shown,
+                &mut self.leaves.sights,
+                prim,
+                &leaf,
+                &mut self.tile,
+                arena,
+                epoch,
+                shop,
+            )? {
                 return Ok(());
             }
-            self.next = self.leaves.next(shown.frame, self.rect);
+            self.next = self.leaves.next(self.rect, &self.tile);
         }
         Ok(())
     }
@@ -79,16 +91,18 @@ impl TileDrawing {
         requires drawn { IsDrawn begun shown.now }
         requires at { self.old.at < tile_count begun.drawing }
         requires samples { (self.old.tile.grid.xs ≡ begun.drawing.frame.options.xs) × (self.old.tile.grid.ys ≡ begun.drawing.frame.options.ys) }
+        requires leaves { self.old.leaves.sights ≡ begun.drawing.frame }
         ensures at { self.new.at ≡ self.old.at }
+        ensures leaves { self.new.leaves.sights ≡ self.old.leaves.sights }
         ensures rect { OnOk result (rect_with self.new.rect ≡ tile_rect begun.drawing self.new.at) }
         ensures grid { OnOk result (self.new.tile.grid ≡ tile_grid begun.drawing self.new.at) }
         ensures empty { OnOk result (Shows self.new.tile (λ s. [])) }
-        ensures next { OnOk result (GivesNext begun.drawing.frame (meets_tile begun.drawing self.new.at) self.new.next (frame_leaves begun.drawing.frame) (to_come begun.drawing.frame self.new.leaves.number self.new.leaves.pieces)) }
+        ensures next { OnOk result ((back : ℤ → Bool) → TellsBehind self.new.tile back → GivesNext begun.drawing.frame (shows_in begun.drawing.frame (tile_rect begun.drawing self.new.at) back) self.new.next (frame_leaves begun.drawing.frame) (to_come begun.drawing.frame self.new.leaves.number self.new.leaves.pieces)) }
     {
         self.rect = tile_at(shown, self.at);
         self.tile.renew(self.rect)?;
-        self.leaves = LeafWalk::new();
-        self.next = self.leaves.next(shown.frame, self.rect);
+        self.leaves.restart();
+        self.next = self.leaves.next(self.rect, &self.tile);
         Ok(())
     }
 }

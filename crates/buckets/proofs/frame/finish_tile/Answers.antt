@@ -18,4 +18,4 @@ pub returns-clause-samples : goal.returns-clause-samples
 returns-clause-samples g c =
     let q = c.requires.1 in
     tells_more g.at_epoch.begun c.args.progress.now.drawing.at c.next_tile.new.progress.drawing.at c.args.report.now.most_samples c.samples.result c.max-report.result c.args.progress.now.drawing.tile.grid
-    q.1.1.1.1.1.1.1.1 c.samples.ensures q.1.1.1.0 c.in_ok-next_tile.ensures.at c.max-report.ensures
+    q.1.1.1.1.1.1.1.1.0 c.samples.ensures q.1.1.1.0 c.in_ok-next_tile.ensures.at c.max-report.ensures

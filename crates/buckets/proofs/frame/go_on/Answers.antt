@@ -30,6 +30,7 @@ returns-then-is_some-clause-full g c = λ low.
     record {
       within = omega (arith, low);
       format = stands.format;
+      sights = c.fill.ensures.leaves ∙ q.frame;
       going = λ _. record {
         rect = ap (λ (r : List ℕ). rect_with r) c.fill.ensures.rect ∙ inside.rect ∙ ap (tile_rect d) (sym at');
         row = subst (λ (k : ℕ). IsRowTo d k (bucket_of d k).left old.row.items) (sym at') inside.row;
@@ -67,7 +68,10 @@ finish_tile-requires g c = λ κs h.
                     c.loop-progress.invariant.open',
                     (
                       subst (λ (k : ℕ). PutsTo e.begun k (g.O.FrameSink.written c.loop-progress.sink)) (sym at') c.loop-progress.invariant.put,
-                      subst (λ (k : ℕ). TellsSamples e.begun k c.loop-progress.report.most_samples) (sym at') c.loop-progress.invariant.samples,
+                      (
+                        subst (λ (k : ℕ). TellsSamples e.begun k c.loop-progress.report.most_samples) (sym at') c.loop-progress.invariant.samples,
+                        c.fill.ensures.leaves ∙ q.frame,
+                      ),
                     ),
                   ),
                 ),

@@ -4,13 +4,14 @@ use Rattle.scene.specs.Settings.{OptionValues}
 use Rattle.transforms.specs.declared.view.View.{View}
 use Rattle.bound_split.specs.Extents.{pixels_of}
 use Rattle.buckets.specs.declared.frame.Progress.{Progress}
-use Rattle.buckets.specs.TileWalk.{format_in}
+use Rattle.buckets.specs.TileWalk.{format_in, tile_rect}
 use Rattle.buckets.specs.Standing.{InEpoch, to_come}
 use Rattle.buckets.specs.Rows.{IsRowTo}
 use Rattle.buckets.specs.Progress.{Stands, next_of, report_before}
 use Rattle.buckets.proofs.BucketRows.{some_tiles, first_left}
 use Rattle.buckets.proofs.BucketPixels.{grid_from}
-use Rattle.buckets.proofs.StepsOn.{gives_all, stands_in, before_first}
+use Rattle.buckets.proofs.Passing.{gives_first}
+use Rattle.buckets.proofs.StepsOn.{stands_in, before_first}
 use Rattle.buckets.proofs.frame.started.Goals as goal
 
 pub new_row-requires : goal.new_row-requires
@@ -30,8 +31,12 @@ returns-clause-stands g c = λ e is.
     let xs = ap (λ (o : OptionValues). o.xs) (c.options.view_is ∙ options) in
     let ys = ap (λ (o : OptionValues). o.ys) (c.options.view_is ∙ options) in
     let format : p.filter ≡ format_in d.frame = c.in_ok-new.ensures ∙ ap (λ (v : View). record { width = v.width; height = v.height; options = chosen }) camera ∙ ap (λ (o : OptionValues). record { width = d.frame.camera.width; height = d.frame.camera.height; options = o }) options in
+    let first = c.in_ok-leaves.leaves in
+    let same = c.in_ok-leaves.ensures.frame ∙ frame in
+    let leaves : p.drawing.leaves.sights ≡ d.frame = c.next-next.ensures.frame ∙ same in
     subst (λ (k : InEpoch). Stands k p [] b.count) (sym is)
-    (stands_in (next_of b (report_before b)) p [] b.count q.drawable (before_first b) (some_tiles d q.drawable) format c.tile_at-rect.ensures
+    (stands_in (next_of b (report_before b)) p [] b.count q.drawable (before_first b) (some_tiles d q.drawable) format leaves c.tile_at-rect.ensures
     (c.in_ok-tile.ensures.grid ∙ grid_from d 0 c.tile_at-rect.result c.options.inside.xs c.options.inside.ys c.tile_at-rect.ensures xs ys) c.in_ok-tile.ensures.empty
-    (gives_all c.next-next.result d 0 f (pixels_of c.tile_at-rect.result) (to_come f c.new-leaves.result.number c.new-leaves.result.pieces) (λ v. to_come v c.next-next.new.self.number c.next-next.new.self.pieces) frame c.tile_at-rect.ensures (c.new-leaves.ensures f) c.next-next.ensures)
+    (λ back tells. gives_first c.next-next.result first.sights d.frame (pixels_of c.tile_at-rect.result) (tile_rect d 0) back (λ v. to_come v first.number first.pieces) (λ v. to_come v c.next-next.new.self.number c.next-next.new.self.pieces)
+    same c.tile_at-rect.ensures c.in_ok-leaves.ensures.all (c.next-next.ensures.next back tells))
     (subst (λ (l : ℕ). IsRowTo d 0 l p.row.items) (sym (first_left d q.drawable)) c.in_ok-new_row.ensures))

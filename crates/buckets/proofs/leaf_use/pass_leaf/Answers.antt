@@ -1,19 +1,25 @@
-use Rattle.std.proofs.Common.{sym}
+use Rattle.std.proofs.Common.{◌∙◌, ap, sym}
+use Rattle.std.specs.Prelude.{slice_get}
+use Rattle.scene.specs.Scene.{FrameValue}
 use Rattle.outside.proofs.Puts.{on_err}
 use Rattle.buckets.specs.Pictures.{leaf_in}
 use Rattle.buckets.proofs.Using.{fits_empty}
 use Rattle.buckets.proofs.Passing.{passes_behind, passes_used, passes_in_part}
 use Rattle.buckets.proofs.leaf_use.pass_leaf.Goals as goal
 
+pub is_behind-requires : goal.is_behind-requires
+is_behind-requires g c =
+    ap (λ (f : FrameValue). slice_get f.prims c.args.leaf.now.piece.prim) c.requires.1.1.1.1.1.1.1.1.1 ∙ c.requires.1.1.0
+
 pub returns-then-is_behind-clause-passed : goal.returns-then-is_behind-clause-passed
 returns-then-is_behind-clause-passed g c =
     passes_behind g.at_epoch (leaf_in c.args.prim.now c.args.leaf.now.piece) c.args.tile.now c.args.epoch.now.kept c.args.shop.now.count c.requires.0.drawable
-    (λ f s. (c.is_behind.ensures g.at_epoch.begun.drawing f (sym c.requires.0.frame) s).0 c.if-is_behind.true)
+    (λ f s. (c.is_behind.ensures.behind g.at_epoch.begun.drawing f (sym c.requires.1.1.1.1.1.1.1.1.1) s).0 c.if-is_behind.true)
 
 pub returns-in_err-used-clause-part : goal.returns-in_err-used-clause-part
 returns-in_err-used-clause-part g c =
     on_err _ _ (passes_in_part g.at_epoch (leaf_in c.args.prim.now c.args.leaf.now.piece) c.args.tile.now c.args.epoch.now.kept c.args.shop.now.count c.use_leaf.new.shop.count c.is_behind.result c.if-is_behind.false
-    (λ f s. c.is_behind.ensures g.at_epoch.begun.drawing f (sym c.requires.0.frame) s) c.in_err-used.ensures.part)
+    (λ f s. c.is_behind.ensures.behind g.at_epoch.begun.drawing f (sym c.requires.1.1.1.1.1.1.1.1.1) s) c.in_err-used.ensures.part)
 
 pub returns-clause-passed : goal.returns-clause-passed
 returns-clause-passed g c =
@@ -21,4 +27,4 @@ returns-clause-passed g c =
     let leaf = c.args.leaf.now in
     let x = leaf_in c.args.prim.now leaf.piece in
     passes_used c.in_ok-used.used g.at_epoch x c.args.tile.now c.use_leaf.new.tile c.args.epoch.now.kept c.use_leaf.new.epoch.kept c.args.shop.now.count c.use_leaf.new.shop.count c.is_behind.result c.if-is_behind.false
-    (λ f s. c.is_behind.ensures d f (sym c.requires.0.frame) s) (fits_empty d x leaf.p leaf.q c.requires.0.drawable c.requires.1.1.1.0 c.requires.1.1.1.1.0 c.requires.1.1.1.1.1.0) c.use_leaf.ensures.grid c.in_ok-used.ensures.used
+    (λ f s. c.is_behind.ensures.behind d f (sym c.requires.1.1.1.1.1.1.1.1.1) s) (fits_empty d x leaf.p leaf.q c.requires.0.drawable c.requires.1.1.1.0 c.requires.1.1.1.1.0 c.requires.1.1.1.1.1.0) c.use_leaf.ensures.grid c.in_ok-used.ensures.used

@@ -1,34 +1,48 @@
 use Rattle.std.proofs.Common.{◌≡◌, ◌∙◌, ap, arith, ◌<◌, refl, ◌∷◌, [], length, get_or, List}
 use Rattle.patches.specs.Parts.{Part}
 use Rattle.bound_split.specs.Extents.{pixels_of}
-use Rattle.scene.specs.Scene.{PrimValue}
-use Rattle.buckets.proofs.Coming.{gives_leaf, skips_prim, gives_none, skips_none}
+use Rattle.scene.specs.Scene.{PrimValue, FrameValue}
+use Rattle.buckets.proofs.Coming.{gives_none, skips_none}
+use Rattle.buckets.proofs.Sighted.{next_there, gives_as_seen, skips_as_seen}
 use Rattle.buckets.proofs.leaf_walk.LeafWalk.next.Goals as goal
 
 pub loop-self-init : goal.loop-self-init
-loop-self-init c = skips_none _ _
+loop-self-init c = record { frame = refl; skipped = λ back tells. skips_none _ _ }
 
-pub returns-in-Some : goal.returns-in-Some
-returns-in-Some c =
-    let f = c.args.frame.now in
-    let prim = c.index-prims-self.result in
+pub next_of-requires : goal.next_of-requires
+next_of-requires c =
+    let f = c.args.self.now.sights in
+    let prims = c.prims_of-prims.ensures.prims ∙ ap (λ (g : FrameValue). g.prims) c.frame.ensures in
+    let low : c.loop-self.self.number < length f.prims = (let same = ap (λ (ps : List PrimValue). length ps) prims in omega (arith, same, c.loop-self-test.true)) in
+    next_there f c.loop-self.self.sights c.loop-self.self.number c.index-prims-number.result low (c.index-prims-number.is ∙ ap (λ (ps : List PrimValue). get_or ps c.loop-self.self.number c.index-prims-number.result) prims) c.loop-self.invariant.frame
+
+pub returns-in-Some-clause-next : goal.returns-in-Some-clause-next
+returns-in-Some-clause-next c = λ back tells.
+    let f = c.args.self.now.sights in
+    let prim = c.index-prims-number.result in
     let leaf = c.in-Some.leaf in
-    let low : c.loop-self.self.number < length f.prims = (let same = ap (λ (ps : List PrimValue). length ps) c.prims_of-prims.ensures.prims in omega (arith, same, c.loop-self-test.true)) in
-    let at' : prim ≡ get_or f.prims c.loop-self.self.number prim = c.index-prims-self.is ∙ ap (λ (ps : List PrimValue). get_or ps c.loop-self.self.number prim) c.prims_of-prims.ensures.prims in
-    gives_leaf f (pixels_of c.args.tile) c.loop-self.self.number prim _ c.loop-self.self.pieces c.next_of.new.walk leaf low at' c.loop-self.invariant c.in-Some.ensures.skipped c.in-Some.ensures.passed
-    (record { part = refl; sizes = c.in-Some.ensures.sizes; p = c.in-Some.ensures.small.1; q = c.in-Some.ensures.small.2 })
+    let prims = c.prims_of-prims.ensures.prims ∙ ap (λ (g : FrameValue). g.prims) c.frame.ensures in
+    let low : c.loop-self.self.number < length f.prims = (let same = ap (λ (ps : List PrimValue). length ps) prims in omega (arith, same, c.loop-self-test.true)) in
+    let at' : prim ≡ get_or f.prims c.loop-self.self.number prim = c.index-prims-number.is ∙ ap (λ (ps : List PrimValue). get_or ps c.loop-self.self.number prim) prims in
+    gives_as_seen f c.loop-self.self.sights (pixels_of c.args.rect) back c.loop-self.self.number prim _ c.loop-self.self.pieces c.next_of.new.walk leaf low at' c.loop-self.invariant.frame (c.loop-self.invariant.skipped back tells) (c.in-Some.ensures.skipped back tells) (c.in-Some.ensures.passed back tells)
+    c.in-Some.ensures.sizes c.in-Some.ensures.small.1 c.in-Some.ensures.small.2
 
 pub loop-self-preserved : goal.loop-self-preserved
 loop-self-preserved c =
-    let f = c.args.frame.now in
-    let prim = c.index-prims-self.result in
-    let low : c.loop-self.self.number < length f.prims = (let same = ap (λ (ps : List PrimValue). length ps) c.prims_of-prims.ensures.prims in omega (arith, same, c.loop-self-test.true)) in
-    let at' : prim ≡ get_or f.prims c.loop-self.self.number prim = c.index-prims-self.is ∙ ap (λ (ps : List PrimValue). get_or ps c.loop-self.self.number prim) c.prims_of-prims.ensures.prims in
-    skips_prim f (pixels_of c.args.tile) c.loop-self.self.number prim _ c.loop-self.self.pieces c.new-self.result low at' c.loop-self.invariant c.in_default.ensures.skipped
-    (c.new-self.ensures.value ∙ ap (λ (p : Part). p ∷ []) c.whole.ensures)
+    let f = c.args.self.now.sights in
+    let prim = c.index-prims-number.result in
+    let prims = c.prims_of-prims.ensures.prims ∙ ap (λ (g : FrameValue). g.prims) c.frame.ensures in
+    let low : c.loop-self.self.number < length f.prims = (let same = ap (λ (ps : List PrimValue). length ps) prims in omega (arith, same, c.loop-self-test.true)) in
+    let at' : prim ≡ get_or f.prims c.loop-self.self.number prim = c.index-prims-number.is ∙ ap (λ (ps : List PrimValue). get_or ps c.loop-self.self.number prim) prims in
+    record {
+      frame = c.next_of.ensures.frame ∙ c.loop-self.invariant.frame;
+      skipped = λ back tells. skips_as_seen f c.loop-self.self.sights (pixels_of c.args.rect) back c.loop-self.self.number prim _ c.loop-self.self.pieces c.new-self.result low at' c.loop-self.invariant.frame (c.loop-self.invariant.skipped back tells) (c.in_default.ensures.skipped back tells)
+          (c.new-self.ensures.value ∙ ap (λ (p : Part). p ∷ []) c.whole.ensures);
+    }
 
-pub returns : goal.returns
-returns c =
-    let f = c.args.frame.now in
-    let same = ap (λ (ps : List PrimValue). length ps) c.prims_of-prims.ensures.prims in
-    gives_none f (pixels_of c.args.tile) c.loop-self.self.number _ c.loop-self.self.pieces (omega (arith, same, c.loop-self-test.false)) c.loop-self.invariant
+pub returns-clause-next : goal.returns-clause-next
+returns-clause-next c = λ back tells.
+    let f = c.args.self.now.sights in
+    let prims = c.prims_of-prims.ensures.prims ∙ ap (λ (g : FrameValue). g.prims) c.frame.ensures in
+    let same = ap (λ (ps : List PrimValue). length ps) prims in
+    gives_none f (pixels_of c.args.rect) back c.loop-self.self.number _ c.loop-self.self.pieces (omega (arith, same, c.loop-self-test.false)) (c.loop-self.invariant.skipped back tells)

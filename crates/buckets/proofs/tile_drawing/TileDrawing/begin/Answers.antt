@@ -4,7 +4,8 @@ use Rattle.hider.specs.Tiles.{IsSampleGrid}
 use Rattle.bound_split.specs.Extents.{pixels_of}
 use Rattle.buckets.specs.Standing.{to_come}
 use Rattle.buckets.proofs.BucketPixels.{grid_from, is_sample_grid}
-use Rattle.buckets.proofs.StepsOn.{gives_all}
+use Rattle.buckets.specs.TileWalk.{tile_rect}
+use Rattle.buckets.proofs.Passing.{gives_first}
 use Rattle.buckets.proofs.tile_drawing.TileDrawing.begin.Goals as goal
 
 pub renew-requires : goal.renew-requires
@@ -12,15 +13,16 @@ renew-requires g c =
     let d = g.begun.drawing in
     let at' = c.args.self.now.at in
     let old = c.args.self.now.tile.grid in
-    subst (λ (s : SampleGrid). IsSampleGrid s) (sym (grid_from d at' c.tile_at-self.result old.xs old.ys c.tile_at-self.ensures c.requires.1.1.0 c.requires.1.1.1)) (is_sample_grid d at' c.requires.0.drawable c.requires.1.0)
+    subst (λ (s : SampleGrid). IsSampleGrid s) (sym (grid_from d at' c.tile_at-self.result old.xs old.ys c.tile_at-self.ensures c.requires.1.1.0.0 c.requires.1.1.0.1)) (is_sample_grid d at' c.requires.0.drawable c.requires.1.0)
 
 pub returns-clause-grid : goal.returns-clause-grid
 returns-clause-grid g c =
     let old = c.args.self.now.tile.grid in
-    c.in_ok-renew.ensures.grid ∙ grid_from g.begun.drawing c.args.self.now.at c.tile_at-self.result old.xs old.ys c.tile_at-self.ensures c.requires.1.1.0 c.requires.1.1.1
+    c.in_ok-renew.ensures.grid ∙ grid_from g.begun.drawing c.args.self.now.at c.tile_at-self.result old.xs old.ys c.tile_at-self.ensures c.requires.1.1.0.0 c.requires.1.1.0.1
 
 pub returns-clause-next : goal.returns-clause-next
-returns-clause-next g c =
-    let f = c.args.shown.now.frame.now in
-    gives_all c.next-self.result g.begun.drawing c.args.self.now.at f (pixels_of c.tile_at-self.result) (to_come f c.new-self.result.number c.new-self.result.pieces)
-    (λ v. to_come v c.next-self.new.self.number c.next-self.new.self.pieces) c.requires.0.frame c.tile_at-self.ensures (c.new-self.ensures f) c.next-self.ensures
+returns-clause-next g c = λ back tells.
+    let d = g.begun.drawing in
+    let leaves = c.restart.new.self in
+    gives_first c.next-self.result leaves.sights d.frame (pixels_of c.tile_at-self.result) (tile_rect d c.args.self.now.at) back (λ v. to_come v leaves.number leaves.pieces) (λ v. to_come v c.next-self.new.self.number c.next-self.new.self.pieces)
+    (c.restart.ensures.frame ∙ c.requires.1.1.1) c.tile_at-self.ensures c.restart.ensures.all (c.next-self.ensures.next back tells)

@@ -1,0 +1,8 @@
+use Rattle.std.proofs.Common.{◌∙◌, ap, ◌∷◌, []}
+use Rattle.patches.specs.Parts.{Part}
+use Rattle.buckets.specs.Standing.{to_come}
+use Rattle.buckets.proofs.Coming.{coming_all}
+use Rattle.buckets.proofs.leaf_walk.LeafWalk.restart.Goals as goal
+
+pub returns-clause-all : goal.returns-clause-all
+returns-clause-all c = λ f. ap (to_come f 0) (c.new-self.ensures.value ∙ ap (λ (p : Part). p ∷ []) c.whole.ensures) ∙ coming_all f

@@ -1,0 +1,24 @@
+// Laws of the walk through a frame's tiles, as contracts.
+ghost use Rattle.buckets.specs.TileLaws.{ShadesWhereMet, ShadesOnce, LosesNothing, PassesOverWhole};
+
+/// The law of shadings: no leaf is shaded for a tile that it doesn't meet, and for each that it meets at most once.
+pub fn shadings_law()
+    ensures { ShadesWhereMet }
+{}
+
+/// The law of one epoch: where the grids of all leaves that meet some tile have no more points than are kept, they are kept in one
+/// epoch, and each leaf is shaded at most once.
+pub fn one_epoch_law()
+    ensures { ShadesOnce }
+{}
+
+/// The law of what is left out: the leaves that a tile shows give each of its samples the colour that all leaves give it.
+pub fn nothing_lost_law()
+    ensures { LosesNothing }
+{}
+
+/// The law of pieces that are passed over whole: where a piece doesn't meet a tile, or lies behind what shows there, no leaf below it
+/// would be shown.
+pub fn passed_over_law()
+    ensures { PassesOverWhole }
+{}
