@@ -1,15 +1,15 @@
 -- How many grids a drawing shades: at most one for each leaf in each tile that it meets, and where there is room for all, each once.
 use Rattle.std.proofs.Common.{◌≡◌, ◌⊎◌, inl, inr, ℕ, zero, suc, ◌+◌, ◌<◌, ◌≤◌, arith, refl, sym, ◌∙◌, ap, subst, Bool, true, false, not, ◌&&◌, ◌||◌, List, [], ◌∷◌, ◌++◌, length, length-append}
-use Rattle.std.specs.Prelude.{filter, nat_le}
+use Rattle.std.specs.Prelude.{filter}
 use Rattle.std.specs.List.{list_any, range_with_len}
 use Rattle.std.proofs.lemmas.Bool.{le-leb}
 use Rattle.std.proofs.lemmas.List.Folds.{list_any-append}
 use Rattle.patches.specs.Parts.{Part}
-use Rattle.grid_epoch.specs.Kept.{has, same_part, AreDistinct}
+use Rattle.grid_epoch.specs.Kept.{has, same_part}
 use Rattle.grid_epoch.proofs.Keeping.{AreDistinct-push}
 use Rattle.buckets.specs.Pictures.{FrameLeaf, frame_leaves}
 use Rattle.buckets.specs.TileWalk.{Drawing, Counts, nothing, in_new_epoch, with_shaded, with_needed, has_room, Walked, walked, tile_count, meets_tile, is_behind, is_shown, leaf_points, past_leaf, past_leaves, past_tile, past_tiles, tile_walk}
-use Rattle.buckets.specs.Meeting.{meeting, meetings, meets_some, meeting_some, points_of, InOneEpoch}
+use Rattle.buckets.specs.Meeting.{meetings, meets_some, meeting_some, points_of, InOneEpoch}
 use Rattle.buckets.proofs.Counting.{by_bool, leaf_rises, needed_kept, needed_new, past_shown, past_unshown}
 
 -- ---- leaves that meet

@@ -1,5 +1,5 @@
 -- How the drawing of a tile goes on, leaf by leaf.
-use Rattle.std.proofs.Common.{◌≡◌, ℕ, zero, suc, ◌+◌, ◌-◌, ◌<◌, ◌≤◌, max, arith, refl, sym, ◌∙◌, ap, subst, Bool, true, false, ◌↔◌, List, [], ◌∷◌, ◌++◌, filter, append_assoc, Option, Some, None}
+use Rattle.std.proofs.Common.{◌≡◌, ℕ, suc, ◌+◌, ◌-◌, ◌<◌, ◌≤◌, max, arith, refl, sym, ◌∙◌, ap, subst, Bool, true, false, ◌↔◌, List, [], ◌∷◌, ◌++◌, filter, append_assoc, Option, Some, None}
 use Rattle.std.specs.Prelude.{nat_le, ◌&&◌, not, IsTrue}
 use Rattle.std.proofs.lemmas.Bool.{and_parts}
 use Rattle.std.proofs.lemmas.List.{append-nil}

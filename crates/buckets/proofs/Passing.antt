@@ -12,7 +12,7 @@ use Rattle.hider.specs.Tiles.{TileValue, Shows, BlocksAll}
 use Rattle.grid_epoch.specs.Kept.{points_in}
 use Rattle.buckets.specs.Pictures.{decide, FrameLeaf, leaf_in, frame_leaves}
 use Rattle.fixed_math.specs.Spots.{PixelRect}
-use Rattle.buckets.specs.TileWalk.{Drawing, nearest, meets_tile, behind_in, fragments_of, leaf_points, tile_grid, tile_rect}
+use Rattle.buckets.specs.TileWalk.{nearest, meets_tile, behind_in, fragments_of, leaf_points, tile_grid, tile_rect}
 use Rattle.buckets.specs.Standing.{InEpoch, IsDrawable, Goes, Going, IsLeafOf, GivesNext, Uses, UsesInPart, PassesLeaf, PassesInPart, next_epoch, shows_in}
 use Rattle.buckets.proofs.Going.{GivesShown, goes_behind, goes_used, goes_full, goes_used_part, goes_shaded, not_behind}
 use Rattle.buckets.specs.Sampled.{TellsBehind}

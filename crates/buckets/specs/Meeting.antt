@@ -1,5 +1,5 @@
 -- The leaves that meet a tile, and those that meet some tile of their frame: how much a drawing has to shade.
-use Rattle.std.specs.Prelude.{◌≡◌, ◌⊎◌, ℕ, zero, suc, ◌+◌, Bool, filter, length, List, [], ◌∷◌}
+use Rattle.std.specs.Prelude.{◌≡◌, ℕ, zero, suc, ◌+◌, Bool, filter, length, List, [], ◌∷◌}
 use Rattle.std.specs.List.{list_any, range_with_len}
 use Rattle.grid_epoch.specs.Kept.{AreDistinct}
 use Rattle.buckets.specs.Pictures.{FrameLeaf, frame_leaves}

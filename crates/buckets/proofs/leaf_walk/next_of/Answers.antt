@@ -1,4 +1,4 @@
-use Rattle.std.proofs.Common.{◌≡◌, ◌∙◌, refl, ap, sym, subst, Bool, true, false, ◌<◌, ◌∷◌, [], ◌++◌}
+use Rattle.std.proofs.Common.{◌≡◌, ◌∙◌, refl, ap, sym, subst, Bool, true, false, ◌<◌}
 use Rattle.std.specs.Prelude.{slice_get}
 use Rattle.patches.specs.Parts.{Part}
 use Rattle.transforms.specs.Field.{IsView}

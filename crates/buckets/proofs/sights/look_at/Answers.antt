@@ -1,6 +1,6 @@
-use Rattle.std.proofs.Common.{◌≡◌, ◌∙◌, ap}
+use Rattle.std.proofs.Common.{◌∙◌, ap}
 use Rattle.std.specs.Prelude.{ℤ}
-use Rattle.patches.specs.Parts.{Part, rect_of}
+use Rattle.patches.specs.Parts.{rect_of}
 use Rattle.patches.specs.Patches.{patch_box, patch_net, patch_width}
 use Rattle.patches.specs.declared.patch.Patch.{Patch}
 use Rattle.transforms.specs.declared.view.View.{View}
