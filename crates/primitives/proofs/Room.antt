@@ -9,9 +9,12 @@ use Rattle.std.proofs.lemmas.List.Sums.{sum_by-cons}
 use Rattle.fixed_math.specs.declared.vec3.Vec3.{Vec3}
 use Rattle.patches.specs.declared.patch.Patch.{Patch}
 use Rattle.quadrics.specs.declared.any_patch.AnyPatch.{AnyPatch}
-use Rattle.quadrics.specs.declared.any_patch.AnyPatch.TheVariants.{Plain}
+use Rattle.quadrics.specs.declared.any_patch.AnyPatch.TheVariants.{Plain, Quadric}
 use Rattle.scene.specs.declared.params.Param.{Param}
+use Rattle.transforms.specs.Map.{Map}
 use Rattle.rib_reader.specs.declared.args.Arg.{Arg}
+use Rattle.rib_reader.specs.Table.{row_of}
+use Rattle.rib_reader.specs.Lists.{is_geometry, has_points}
 use Rattle.rib_reader.specs.declared.req.Req.{Req}
 use Rattle.rib_reader.specs.declared.req.Req.TheVariants as reqs
 use Rattle.mesh_basis.specs.declared.shape.Shape.{Shape}
@@ -27,9 +30,12 @@ use Rattle.scene_parts.specs.declared.code.StateCode.TheVariants.{G5, M3, M7}
 use Rattle.scene.specs.declared.seat.Seat.{Seat}
 use Rattle.primitives.specs.declared.fault.PrimitiveFault.{PrimitiveFault}
 use Rattle.primitives.specs.declared.fault.PrimitiveFault.TheVariants as faults
-use Rattle.primitives.specs.Variables.{are_counted, mesh_extent, mesh_seat, faces_extent, face_seat}
+use Rattle.primitives.specs.Variables.{are_counted, mesh_extent, mesh_seat, quadric_extent, quadric_seat, faces_extent, face_seat}
 use Rattle.primitives.specs.Points.{face_points}
-use Rattle.primitives.specs.Patches.{PatchValue, Made, seated, all_seated, mesh_counted, face_patches, faces_from, faces_patches, patches_over}
+use Rattle.primitives.specs.Patches.{PatchValue, Made, seated, all_seated, mesh_counted, face_patches, faces_from, faces_patches, quadric_patches, patches_over}
+use Rattle.primitives.specs.declared.forms.Form.{Form}
+use Rattle.primitives.specs.Quadrics.{form_of, halves, patch_at}
+use Rattle.primitives.specs.Spread.{spread}
 use Rattle.primitives.specs.Answers.{GivesMade}
 
 abbrev refused : StateCode → Made
@@ -138,3 +144,30 @@ pub few_made : (result : Result (List PatchValue) PrimitiveFault) (name : Req) (
 few_made (Ok qs) name args bases params room ps is = few_over name args bases params room ps qs is
 few_made (Err (faults.Refused code)) name args bases params room ps is = tt
 few_made (Err faults.NoMemory) name args bases params room ps is = tt
+
+few_quadric : (params : List Param) (form : Form) (object : Map) (room : ℕ) (qs : List PatchValue) → quadric_patches params form object room ≡ made qs → length qs ≤ room
+few_quadric params form object room qs e = by_tests (are_counted quadric_extent params) (nat_lt room (4 * halves form)) refl e
+  where
+    by_tests : (a b : Bool) → nat_lt room (4 * halves form) ≡ b
+        → cond (not a) (refused G5) (cond b (refused M3) (all_seated Quadric (spread (halves form) params) (quadric_seat (halves form)) (all_from (patch_at object form) 0 (4 * halves form)))) ≡ made qs → length qs ≤ room
+    by_tests false b low e = absurd cc
+    by_tests true true low e = absurd cc
+    by_tests true false low e =
+        few_seated Quadric (spread (halves form) params) (quadric_seat (halves form)) (all_from (patch_at object form) 0 (4 * halves form)) (4 * halves form) room qs
+        (λ rs is. all_length (patch_at object form) 0 (4 * halves form) rs is) (grind (arith, nat_tests, low)) e
+
+pub few_quadric_made : (result : Result (List PatchValue) PrimitiveFault) (params : List Param) (form : Form) (object : Map) (room : ℕ) →
+    GivesMade result (quadric_patches params form object room) → IfOk result (λ qs. length qs ≤ room)
+few_quadric_made (Ok qs) params form object room is = few_quadric params form object room qs is
+few_quadric_made (Err (faults.Refused code)) params form object room is = tt
+few_quadric_made (Err faults.NoMemory) params form object room is = tt
+
+-- ---- requests with points
+
+-- a primitive that is no quadric has points
+pub others_have_points : (name : Req) (args : List Arg) → is_geometry (row_of name).tail ≡ true → form_of name args ≡ None → has_points (row_of name).tail ≡ true
+others_have_points reqs.Sphere args g n = absurd cc
+others_have_points reqs.Cylinder args g n = absurd cc
+others_have_points reqs.Cone args g n = absurd cc
+others_have_points reqs.Disk args g n = absurd cc
+others_have_points _ args g n = g

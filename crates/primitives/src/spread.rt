@@ -21,15 +21,36 @@ fn mix(s: u16, a: i128, b: i128) -> i128
     (4096 - s) as i128 * a + s as i128 * b
 }
 
+fn wide(number: Num) -> i128
+    ensures value { result ≡ number }
+    ensures bound { unsigned_abs result ≤ 2147483647 }
+{
+    number.raw() as i128
+}
+
+// The bilinear value of four numbers at `u` and `v`, times 4096 twice.
+fn exact(u: u16, v: u16, a: Num, b: Num, c: Num, d: Num) -> i128
+    requires across { u ≤ 4096 }
+    requires up { v ≤ 4096 }
+    ensures value { result ≡ mix_of v (mix_of u a b) (mix_of u c d) }
+    ensures bound { unsigned_abs result ≤ 2 ^ 24 * 2147483647 }
+{
+    let left = wide(a);
+    let right = wide(b);
+    let bottom = mix(u, left, right);
+    let left_above = wide(c);
+    let right_above = wide(d);
+    let top = mix(u, left_above, right_above);
+    mix(v, bottom, top)
+}
+
 // The bilinear value of four numbers at `u` and `v`, rounded down once.
 fn blended(u: u16, v: u16, a: Num, b: Num, c: Num, d: Num) -> Num
     requires across { u ≤ 4096 }
     requires up { v ≤ 4096 }
     ensures { result ≡ blended u v a b c d }
 {
-    let bottom = mix(u, a.raw() as i128, b.raw() as i128);
-    let top = mix(u, c.raw() as i128, d.raw() as i128);
-    Num::sat(floor_by(mix(v, bottom, top), 1 << 24))
+    Num::sat(floor_by(exact(u, v, a, b, c, d), 1 << 24))
 }
 
 fn item(numbers: &[Num], k: usize) -> Num
