@@ -1,5 +1,5 @@
 -- What is seen of a light within cones.
-use Rattle.std.proofs.Common.{◌≡◌, ℕ, Bool, true, false, cond, pos, get_or, refl, sym, ap, ◌∙◌, true≢false}
+use Rattle.std.proofs.Common.{◌≡◌, ℕ, Bool, true, false, cond, refl, sym, ap, ◌∙◌, true≢false}
 use Rattle.std.specs.Prelude.{Option, Some, None, is_some}
 use Rattle.fixed_math.specs.declared.vec3.Vec3.{Vec3}
 use Rattle.builtins.specs.Lights.{Light}
