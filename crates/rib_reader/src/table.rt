@@ -51,6 +51,8 @@ pub enum Rule {
     NoArray(usize),
     /// What `Quantize` says of its numbers.
     Levels,
+    /// What `Sphere` says of its radius and of the heights at which it ends: none of it is cut off, or S2.
+    WholeSphere,
     /// What `Declare` says of its second word.
     Declaration,
 }
@@ -72,6 +74,8 @@ pub enum Tail {
     Variables,
     /// Those of a patch or a mesh: where it is bicubic, no variable other than P is a vertex variable.
     PatchVariables,
+    /// Those of a quadric, without P.
+    QuadricVariables,
 }
 
 /// A row of the table: the kinds of the arguments, what is said of their values, and what follows them.
