@@ -24,7 +24,7 @@ use crate::unloading::clear;
 use bumpalo::Bump;
 use fixed_math::NoMemory;
 use grid_code::Code;
-use place_rows::{Dark, Illumination};
+use light_rows::{Dark, Illumination};
 use sl_ast::SlKind;
 
 // The elements of a row that holds so many points.
@@ -87,7 +87,7 @@ fn execute_lit<'a, L: Lights>(
 {
     if lights.count() == 0 {
         let places = prepared.frame.places;
-        let mut dark = Dark { places, many: 0 };
+        let mut dark = Dark { places };
         execute(machine, &mut dark, prepared, code, inputs);
     } else {
         let mut lamps = Lamps::new(arena, prepared.frame, lights)?;
