@@ -15,7 +15,7 @@ use Rattle.builtins.specs.declared.shape.Shape.TheVariants as shapes
 use Rattle.builtins.specs.Shapes.{shape}
 use Rattle.place_rows.specs.Layout.{row_length, height}
 use Rattle.place_rows.proofs.Sets.{all_default}
-use Rattle.grid_rows.specs.Rows.{value_in, HoldList, heights, AreRows, row_of, triple_rows, value_rows, HoldsRow}
+use Rattle.grid_rows.specs.Rows.{value_in, HoldList, heights, AreRows, row_of, triple_rows, value_rows, BeginsWith}
 
 -- ---- one row
 pub row_fits : (n : ℕ) → n ≤ row_length n
@@ -42,7 +42,7 @@ row_value xs k =
     (cases_lt k (length xs))
 
 -- the first elements of a row that holds those numbers and then zeros
-pub row_by : (xs row : List ℤ) (n : ℕ) → n ≡ row_length (length xs) → n ≤ length row → HoldsRow row xs → take n row ≡ row_of xs
+pub row_by : (xs row : List ℤ) (n : ℕ) → n ≡ row_length (length xs) → n ≤ length row → BeginsWith row xs → take n row ≡ row_of xs
 row_by xs row n e fits h =
     let long = length-take-le n row fits in
     let same = row_long xs in

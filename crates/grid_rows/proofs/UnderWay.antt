@@ -16,7 +16,7 @@ use Rattle.grid_variables.specs.Places.{point_count, over}
 use Rattle.grid_variables.proofs.Over.{over_long, over_all, over_map}
 use Rattle.place_rows.specs.Layout.{row_length}
 use Rattle.place_rows.proofs.Sets.{all_default}
-use Rattle.grid_rows.specs.Rows.{row_of, triple_rows, value_rows, AreRaws, IsRoom, HoldsRow}
+use Rattle.grid_rows.specs.Rows.{row_of, triple_rows, value_rows, AreRaws, IsRoom, BeginsWith}
 use Rattle.grid_rows.proofs.Raws.{raws_none}
 use Rattle.grid_rows.proofs.Filled.{row_by, apart}
 
@@ -58,7 +58,7 @@ written_raw xs row n k z l few raw e h = subst (λ v. IsWritten xs n (k + 1) (se
 row_small : (n : ℕ) → n ≤ 289 → row_length n ≤ 296
 row_small n h = let e = div-add-mod' (n + 7) 8 in omega (arith, e, h)
 
-pub row_pushed : (row xs : List ℤ) (n : ℕ) → n ≡ length xs → n ≤ 289 → length row ≡ 296 → HoldsRow row xs → take (row_length n) row ≡ row_of xs
+pub row_pushed : (row xs : List ℤ) (n : ℕ) → n ≡ length xs → n ≤ 289 → length row ≡ 296 → BeginsWith row xs → take (row_length n) row ≡ row_of xs
 row_pushed row xs n e few long h = let most = row_small n few in row_by xs row (row_length n) (ap row_length e) (omega (arith, most, long)) h
 
 pub zeros_pushed : (row : List ℤ) (n : ℕ) → n ≤ 289 → row ≡ replicate 296 (pos 0) → take (row_length n) row ≡ row_of (replicate n (pos 0))

@@ -70,5 +70,5 @@ abbrev pub IsRoom : List ℤ → Type 0
 IsRoom row = (length row ≡ 296) × AreRaws row
 
 -- a row begins with the row of these numbers
-abbrev pub HoldsRow : List ℤ → List ℤ → Type 0
-HoldsRow row xs = (k : ℕ) → k < row_length (length xs) → get_or row k (pos 0) ≡ get_or xs k (pos 0)
+abbrev pub BeginsWith : List ℤ → List ℤ → Type 0
+BeginsWith row xs = (k : ℕ) → k < row_length (length xs) → get_or row k (pos 0) ≡ get_or xs k (pos 0)

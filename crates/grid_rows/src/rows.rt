@@ -4,7 +4,7 @@ ghost use Rattle.fixed_math.specs.declared.vec3.Axis.TheVariants as axes;
 ghost use Rattle.fixed_math.specs.Axes.{part_of};
 ghost use Rattle.sl_ast.specs.declared.typed.Value.TheVariants as values;
 ghost use Rattle.place_rows.specs.Layout.{row_length};
-ghost use Rattle.grid_rows.specs.Rows.{row_of, triple_rows, value_rows, AreRaws, IsRoom, HoldsRow};
+ghost use Rattle.grid_rows.specs.Rows.{row_of, triple_rows, value_rows, AreRaws, IsRoom, BeginsWith};
 
 use bumpalo::Bump;
 use bumpalo::collections::into_bump_slice;
@@ -95,7 +95,7 @@ fn clear_rest(points: usize, row: &mut [i64])
 fn write_numbers(numbers: &[Num], row: &mut [i64])
     requires few { length numbers.now ≤ 289 }
     requires room { IsRoom row.old }
-    ensures row { HoldsRow row.new numbers.now }
+    ensures row { BeginsWith row.new numbers.now }
     ensures room { IsRoom row.new }
 {
     clear_rest(numbers.len(), row);
@@ -108,7 +108,7 @@ fn write_numbers(numbers: &[Num], row: &mut [i64])
 fn write_firsts(triples: &[Vec3], row: &mut [i64])
     requires few { length triples.now ≤ 289 }
     requires room { IsRoom row.old }
-    ensures row { HoldsRow row.new (map (part_of axes.X) triples.now) }
+    ensures row { BeginsWith row.new (map (part_of axes.X) triples.now) }
     ensures room { IsRoom row.new }
 {
     clear_rest(triples.len(), row);
@@ -123,9 +123,9 @@ fn write_triples(triples: &[Vec3], x: &mut [i64], y: &mut [i64], z: &mut [i64])
     requires x { IsRoom x.old }
     requires y { IsRoom y.old }
     requires z { IsRoom z.old }
-    ensures x { HoldsRow x.new (map (part_of axes.X) triples.now) }
-    ensures y { HoldsRow y.new (map (part_of axes.Y) triples.now) }
-    ensures z { HoldsRow z.new (map (part_of axes.Z) triples.now) }
+    ensures x { BeginsWith x.new (map (part_of axes.X) triples.now) }
+    ensures y { BeginsWith y.new (map (part_of axes.Y) triples.now) }
+    ensures z { BeginsWith z.new (map (part_of axes.Z) triples.now) }
     ensures room_x { IsRoom x.new }
     ensures room_y { IsRoom y.new }
     ensures room_z { IsRoom z.new }
@@ -145,7 +145,7 @@ fn write_triples(triples: &[Vec3], x: &mut [i64], y: &mut [i64], z: &mut [i64])
 fn write_same(number: Num, points: usize, row: &mut [i64])
     requires few { points ≤ 289 }
     requires room { IsRoom row.old }
-    ensures row { HoldsRow row.new (replicate points number) }
+    ensures row { BeginsWith row.new (replicate points number) }
     ensures room { IsRoom row.new }
 {
     clear_rest(points, row);

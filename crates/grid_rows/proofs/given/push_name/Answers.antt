@@ -1,7 +1,5 @@
-use Rattle.std.proofs.Common.{◌≡◌, ℕ, ◌≤◌, List, length, ap, ◌∙◌, arith}
-use Rattle.grid_variables.specs.Points.{Leaf, normal_of, u_at, v_at, dpdu, dpdv}
+use Rattle.grid_variables.specs.Points.{normal_of, u_at, v_at, dpdu, dpdv}
 use Rattle.grid_variables.specs.Variables.{s_at, t_at}
-use Rattle.grid_variables.specs.Places.{point_count, over}
 use Rattle.grid_rows.proofs.UnderWay.{few}
 use Rattle.grid_rows.proofs.given.push_name.Goals as goal
 

@@ -1,5 +1,4 @@
-use Rattle.std.proofs.Common.{◌≡◌, ℕ, ◌<◌, ◌≤◌, pos, length, get_or}
-use Rattle.place_rows.specs.Layout.{row_length}
+use Rattle.std.proofs.Common.{◌≡◌, ℕ, ◌<◌, ◌≤◌, pos, get_or}
 use Rattle.grid_rows.specs.Rows.{IsRoom}
 use Rattle.grid_rows.proofs.rows.clear_rest.Given as goal
 

@@ -1,6 +1,5 @@
-use Rattle.std.proofs.Common.{◌≡◌, ◌++◌, length, pos, take, map, replicate, refl, sym, ap, subst, ◌∙◌}
-use Rattle.std.specs.Prelude.{IfOk}
-use Rattle.std.proofs.lemmas.List.{with_items_is, length-map, length-replicate}
+use Rattle.std.proofs.Common.{length, take, map, sym, ap, ◌∙◌}
+use Rattle.std.proofs.lemmas.List.{with_items_is, length-map}
 use Rattle.fixed_math.specs.declared.vec3.Axis.TheVariants as axes
 use Rattle.fixed_math.specs.Axes.{part_of}
 use Rattle.place_rows.specs.Layout.{row_length}

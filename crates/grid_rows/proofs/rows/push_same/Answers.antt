@@ -1,8 +1,5 @@
-use Rattle.std.proofs.Common.{◌≡◌, ◌++◌, length, pos, take, map, replicate, refl, sym, ap, subst, ◌∙◌}
-use Rattle.std.specs.Prelude.{IfOk}
-use Rattle.std.proofs.lemmas.List.{with_items_is, length-map, length-replicate}
-use Rattle.fixed_math.specs.declared.vec3.Axis.TheVariants as axes
-use Rattle.fixed_math.specs.Axes.{part_of}
+use Rattle.std.proofs.Common.{take, replicate, sym, ap, ◌∙◌}
+use Rattle.std.proofs.lemmas.List.{with_items_is, length-replicate}
 use Rattle.place_rows.specs.Layout.{row_length}
 use Rattle.grid_rows.specs.Rows.{row_of}
 use Rattle.grid_variables.proofs.Results.{if_ok}

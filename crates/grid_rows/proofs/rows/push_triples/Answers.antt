@@ -1,4 +1,4 @@
-use Rattle.std.proofs.Common.{◌≡◌, ◌++◌, length, take, map, refl, sym, ap, ◌∙◌}
+use Rattle.std.proofs.Common.{length, take, map, refl, sym, ap, ◌∙◌}
 use Rattle.std.proofs.lemmas.List.{with_items_is, length-map}
 use Rattle.fixed_math.specs.declared.vec3.Axis.TheVariants as axes
 use Rattle.fixed_math.specs.Axes.{part_of}
