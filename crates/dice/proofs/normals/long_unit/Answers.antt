@@ -2,7 +2,7 @@ use Rattle.std.proofs.Common.{arith, ◌∙◌, w32, w64, FitsSigned}
 use Rattle.std.proofs.lemmas.Int.{ints, to_z-of_z, fits_signed_from_abs}
 use Rattle.dice.specs.Normals.{item}
 use Rattle.dice.proofs.Directions.{unit_is}
-use Rattle.dice.proofs.normals.short_unit.Goals as goal
+use Rattle.dice.proofs.normals.long_unit.Goals as goal
 
 pub returns : goal.returns
 returns c =
