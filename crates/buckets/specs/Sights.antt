@@ -1,7 +1,7 @@
 -- What is known of pieces of a frame's primitives.
 use Rattle.std.specs.Prelude.{◌≡◌, ℕ, List, All, length, Option, Some, None, slice_get}
 use Rattle.patches.specs.Parts.{Part, rect_of}
-use Rattle.patches.specs.Patches.{patch_box}
+use Rattle.quadrics.specs.AnyPatches.{patch_box}
 use Rattle.bound_split.specs.Decisions.{FitsPart}
 use Rattle.bound_split.specs.Extents.{extent_of}
 use Rattle.bound_split.specs.declared.extents.Extent.{Extent}
