@@ -1,25 +1,19 @@
 -- For private contracts alone: what the parts of the machine write, where the machine's state stands for states of the code's meaning that are the
 -- same on the grid.
 use Rattle.std.specs.Prelude.{◌≡◌, ℕ, ◌<◌, ℤ, Bool, true, false, List, Option, Some, get_or}
-use Rattle.std.specs.Borrow.{Bor}
 use Rattle.fixed_math.specs.declared.vec3.Vec3.{Vec3}
 use Rattle.sl_ast.specs.declared.kinds.SlKind.{SlKind}
 use Rattle.sl_ast.specs.declared.typed.Value.{Value}
-use Rattle.sl_ast.specs.declared.typed.Value.TheVariants.{Triple}
-use Rattle.builtins.specs.Shapes.{shape}
-use Rattle.builtins.specs.declared.shape.Shape.{Shape}
 use Rattle.grid_code.specs.declared.code.Register.{Register}
 use Rattle.grid_code.specs.declared.shader_code.Code.{Code}
 use Rattle.grid_code.specs.declared.slot.Slot.{Slot}
 use Rattle.grid_code.specs.Code.{Block}
 use Rattle.grid_code.specs.Masked.{Asked, State, write, take_turn, entered, kindled, illuminated, masked}
-use Rattle.place_rows.specs.Banks.{held}
 use Rattle.light_rows.specs.Seen.{AtPlaces, IsAnswer}
 use Rattle.light_rows.specs.declared.answers.Answers.{Answers}
 use Rattle.light_rows.specs.declared.viewing.View.{View}
 use Rattle.number_rows.specs.Planes.{triple_at, triple_in}
 use Rattle.place_rows.specs.declared.bank.Bank.{Bank}
-use Rattle.place_values.specs.Cells.{value_of}
 pub use Rattle.grid_registers.specs.Held.{HoldsRow, HoldsEach}
 use Rattle.grid_machine.specs.declared.machine.Machine.{Machine}
 use Rattle.grid_machine.specs.Asked.{asked}

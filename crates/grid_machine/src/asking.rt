@@ -66,7 +66,7 @@ impl Machine<'_> {
         self.assign_all(registers, values);
         self.set_triples(named::PS, points);
         let places = self.registers.frame.places;
-        let mut dark = Dark { places };
+        let mut dark = Dark { places, many: 0 };
         run_block(code.nodes.as_slice(), self, &mut dark, 65536);
         self.answer(answers);
     }

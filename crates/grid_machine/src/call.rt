@@ -87,7 +87,7 @@ fn execute_lit<'a, L: Lights>(
 {
     if lights.count() == 0 {
         let places = prepared.frame.places;
-        let mut dark = Dark { places };
+        let mut dark = Dark { places, many: 0 };
         execute(machine, &mut dark, prepared, code, inputs);
     } else {
         let mut lamps = Lamps::new(arena, prepared.frame, lights)?;

@@ -1,9 +1,9 @@
 // Lights as code asks them.
-ghost use Rattle.std.specs.Prelude.{◌≡◌, ℕ, ◌<◌, Bool, true, false, [], length};
+ghost use Rattle.std.specs.Prelude.{◌≡◌, ℕ, ◌<◌, Bool, true, length, replicate};
 ghost use Rattle.number_rows.specs.Planes.{triple_at, triple_in, ArePlanes};
 ghost use Rattle.fixed_math.specs.Axes.{origin};
 ghost use Rattle.fixed_math.specs.declared.vec3.Vec3.{Vec3 as AnyVec3};
-ghost use Rattle.light_rows.specs.Seen.{Lighting, IsAnswerOf, IsSum, IsSumOf};
+ghost use Rattle.light_rows.specs.Seen.{Lighting, unasked, IsAnswerOf, IsSum, IsSumOf};
 
 use crate::sums::Sum;
 use crate::viewing::View;
@@ -49,27 +49,29 @@ pub trait Illumination {
         ensures each { IsSumOf sum.now (lighting self.old) (triple_at points.now) (triple_in x.new y.new z.new) };
 }
 
-/// No light at so many places.
+/// Lights that are lit nowhere: none at all, or any number where there is no place.
 #[derive(Drop)]
 pub struct Dark {
     pub places: usize,
+    pub many: usize,
+    pub ghost nowhere: { 0 < many → places ≡ 0 },
 }
 
 impl Illumination for Dark {
-    ghost lighting = { λ d. record { places = d.places; lights = [] } };
+    ghost lighting = { λ d. record { places = d.places; lights = replicate d.many unasked } };
 
     ghost turned = { λ d i. origin };
 
-    ghost asked = { λ d n. false };
+    ghost asked = { λ d n. true };
 
     fn count(&self) -> usize {
-        0
+        self.many
     }
 
     fn ask(&mut self, _n: usize, _points: &Planes) {}
 
     fn answers(&self, _n: usize) -> View<'_> {
-        unreachable!()
+        View::dark()
     }
 
     fn totals(

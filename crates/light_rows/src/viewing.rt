@@ -30,6 +30,17 @@ pub struct View<'a> {
     pub colours: Planes<'a>,
 }
 
+// Zeros everywhere.
+fn zeros() -> Planes<'static>
+    ensures { (c : ℕ) → ArePlanes c result }
+{
+    Planes {
+        x: Plane::Value(Raw::zero()),
+        y: Plane::Value(Raw::zero()),
+        z: Plane::Value(Raw::zero()),
+    }
+}
+
 impl Cone<'_> {
     /// No cone.
     pub fn none() -> Cone<'static>
@@ -38,11 +49,7 @@ impl Cone<'_> {
     {
         Cone {
             given: false,
-            axis: Planes {
-                x: Plane::Value(Raw::zero()),
-                y: Plane::Value(Raw::zero()),
-                z: Plane::Value(Raw::zero()),
-            },
+            axis: zeros(),
             angle: Plane::Value(Raw::zero()),
         }
     }
@@ -92,6 +99,19 @@ impl Answers<'_> {
 }
 
 impl View<'_> {
+    /// What a light answers that is lit nowhere.
+    pub fn dark() -> View<'static>
+        ensures { (c : ℕ) → HasPlanes c result }
+    {
+        View {
+            ambient: false,
+            lit: Plane::Value(Raw::zero()),
+            towards: zeros(),
+            units: zeros(),
+            colours: zeros(),
+        }
+    }
+
     // Whether a light is seen at a place.
     fn is_seen(&self, cone: &Cone, place: usize) -> bool
         requires planes { HasPlanes (place + 1) self.now }

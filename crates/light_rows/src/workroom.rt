@@ -1,11 +1,8 @@
 // What sums over lights are worked out in.
 ghost use Rattle.std.specs.Prelude.{◌≡◌, ℕ, ◌<◌, pos, true, false, length, get_or, IfOk};
-ghost use Rattle.builtins.specs.Lights.{Light};
 ghost use Rattle.number_rows.specs.Planes.{plane_at, triple_at, triple_in, IsPlane, ArePlanes};
-ghost use Rattle.light_rows.specs.Loops.{half_way, weight, is_before, with_shares};
-ghost use Rattle.number_rows.specs.Truths.{truth};
-ghost use Rattle.fixed_math.specs.Power.{pow};
-ghost use Rattle.light_rows.specs.Seen.{size, at_place, with_gain, gain_at, counts_in, HasPlaces, HasRows, HasBegun, AreNormals, AreExponents, IsSum, IsAnswer};
+ghost use Rattle.light_rows.specs.Shares.{matte_at, highlight_at, shining_at, HaveGained};
+ghost use Rattle.light_rows.specs.Seen.{size, at_place, counts_in, HasPlaces, HasRows, HasBegun, AreNormals, AreExponents, IsSum};
 
 use crate::answers::Answers;
 use crate::loops::{HalfWay, add_shares, add_whole, mark, weigh};
@@ -87,7 +84,7 @@ impl Workroom<'_> {
         ensures x { length x.new ≡ length x.old }
         ensures y { length y.new ≡ length y.old }
         ensures z { length z.new ≡ length z.old }
-        ensures each { (i : ℕ) → i < size answers.now.colours → triple_in x.new y.new z.new i ≡ with_shares (get_or answers.now.lit.items i (pos 0)) (triple_in x.old y.old z.old i) (at_place answers.now.colours i) (weight (at_place answers.now.units i) (at_place self.old.normals i)) }
+        ensures each { (i : ℕ) → i < size answers.now.colours → triple_in x.new y.new z.new i ≡ matte_at answers.now self.old (triple_in x.old y.old z.old i) i }
     {
         weigh(&answers.units, &self.normals, &mut self.weights);
         add_shares(&answers.lit, &self.weights, &answers.colours.x, x);
@@ -104,7 +101,7 @@ impl Workroom<'_> {
         ensures normals { self.new.normals ≡ self.old.normals }
         ensures exponents { self.new.exponents ≡ self.old.exponents }
         ensures shown { self.new.shown ≡ self.old.shown }
-        ensures each { (i : ℕ) → i < size answers.now.colours → get_or self.new.weights.items i (pos 0) ≡ pow (weight (at_place self.old.normals i) (half_way (at_place answers.now.units i) (triple_at v.now i))) (get_or self.old.exponents.items i (pos 0)) }
+        ensures each { (i : ℕ) → i < size answers.now.colours → get_or self.new.weights.items i (pos 0) ≡ highlight_at answers.now self.old v.now i }
     {
         let half = &mut self.half_ways;
         triple_of_triples::<HalfWay>(
@@ -143,7 +140,7 @@ impl Workroom<'_> {
         ensures x { length x.new ≡ length x.old }
         ensures y { length y.new ≡ length y.old }
         ensures z { length z.new ≡ length z.old }
-        ensures each { (i : ℕ) → i < size answers.now.colours → triple_in x.new y.new z.new i ≡ with_shares (truth (is_before (get_or answers.now.lit.items i (pos 0)) (at_place answers.now.units i) (at_place self.old.normals i))) (triple_in x.old y.old z.old i) (at_place answers.now.colours i) (pow (weight (at_place self.old.normals i) (half_way (at_place answers.now.units i) (triple_at v.now i))) (get_or self.old.exponents.items i (pos 0))) }
+        ensures each { (i : ℕ) → i < size answers.now.colours → triple_in x.new y.new z.new i ≡ shining_at answers.now self.old v.now (triple_in x.old y.old z.old i) i }
     {
         mark(&answers.lit, &answers.units, &self.normals, &mut self.shown);
         self.shine(answers, v);
@@ -167,7 +164,7 @@ impl Workroom<'_> {
         ensures x { length x.new ≡ length x.old }
         ensures y { length y.new ≡ length y.old }
         ensures z { length z.new ≡ length z.old }
-        ensures each { (l : ℕ → Light) → ((i : ℕ) → i < size answers.now.colours → IsAnswer answers.now i (l i)) → (i : ℕ) → i < size answers.now.colours → triple_in x.new y.new z.new i ≡ with_gain (triple_in x.old y.old z.old i) (gain_at sum.now i (l i)) }
+        ensures each { HaveGained sum.now answers.now (triple_in x.old y.old z.old) (triple_in x.new y.new z.new) }
     {
         match sum {
             Sum::Ambient => {

@@ -11,8 +11,8 @@ use Rattle.bound_split.specs.Extents.{extent_of}
 use Rattle.scene.specs.Scene.{FrameValue, PrimValue}
 use Rattle.buckets.proofs.sights.look_at.Goals as goal
 
-pub returns : goal.returns
-returns c =
+pub returns-clause-sight : goal.returns-clause-sight
+returns-clause-sight c =
     let i = c.prim.inside in
     let part = c.args.piece.now in
     let camera = ap (λ (f : FrameValue). f.camera) c.frame.view_is in

@@ -1,5 +1,4 @@
 use Rattle.std.proofs.Common.{◌<◌, List, All, length, ap, sym, subst, ◌∙◌}
-use Rattle.grid_machine.specs.Asked.{asked_all}
 use Rattle.grid_machine.specs.Lamps.{IsLevel}
 use Rattle.grid_machine.specs.State.{lines_of}
 use Rattle.grid_machine.specs.declared.lamps.Lantern.{Lantern}

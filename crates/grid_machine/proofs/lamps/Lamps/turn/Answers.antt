@@ -1,7 +1,6 @@
-use Rattle.std.proofs.Common.{List, All, length, sym, ap, ◌∙◌, subst}
+use Rattle.std.proofs.Common.{All, length, sym, ap, ◌∙◌, subst}
 use Rattle.std.proofs.lemmas.List.{with_items_is}
-use Rattle.grid_machine.specs.Lamps.{IsLevel, IsKept, asked_by}
-use Rattle.grid_machine.specs.declared.lamps.Lantern.{Lantern}
+use Rattle.grid_machine.specs.Lamps.{IsLevel, IsKept}
 use Rattle.grid_machine.proofs.lamps.Lamps.turn.Goals as goal
 
 pub invariant_of-self : goal.invariant_of-self

@@ -1,6 +1,5 @@
-use Rattle.std.proofs.Common.{◌≡◌, ◌<◌, List, drop, map, length, get_or, refl, sym, ap, ◌∙◌, subst, arith}
+use Rattle.std.proofs.Common.{◌≡◌, ◌<◌, map, length, get_or, refl, sym, ap, ◌∙◌, subst, arith}
 use Rattle.std.proofs.lemmas.List.{length-map}
-use Rattle.grid_code.specs.Masked.{Asked}
 use Rattle.fixed_math.specs.Axes.{origin}
 use Rattle.number_rows.specs.Planes.{triple_in}
 use Rattle.light_rows.specs.Seen.{at_place, unasked, gain_at, with_gain, gained, answers_at, HasBegun}

@@ -4,7 +4,7 @@ use Rattle.std.specs.Prelude.{not}
 use Rattle.sl_ast.specs.declared.kinds.Predefined.TheVariants as names
 use Rattle.sl_ast.specs.declared.typed.Value.{Value}
 use Rattle.sl_ast.specs.declared.typed.Value.TheVariants.{Triple}
-use Rattle.grid_code.specs.Masked.{State, write, masked}
+use Rattle.grid_code.specs.Masked.{State, masked}
 use Rattle.grid_code.specs.Names.{name_at, lit_at, first_free}
 use Rattle.grid_code.specs.Shapes.{register_shape}
 use Rattle.grid_code.specs.Uses.{has, registers_from}

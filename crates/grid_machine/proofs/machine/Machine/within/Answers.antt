@@ -2,7 +2,6 @@ use Rattle.std.proofs.Common.{ap, ◌∙◌}
 use Rattle.builtins.specs.Lights.{is_in_cone}
 use Rattle.grid_machine.specs.Writes.{aimed_at}
 use Rattle.grid_machine.proofs.HeldReads.{reads_held}
-use Rattle.number_rows.specs.Planes.{triple_at}
 use Rattle.light_rows.specs.Seen.{cone_at}
 use Rattle.grid_machine.proofs.machine.Machine.within.Goals as goal
 
