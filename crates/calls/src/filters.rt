@@ -24,6 +24,7 @@ fn filtered(filter: Filter) -> Options
         one: 255,
         min: 0,
         max: 255,
+        crop: [0, 0, 4, 4],
     }
 }
 

@@ -16,7 +16,7 @@ use Rattle.rib_reader.specs.declared.table.Shape.{Shape}
 use Rattle.rib_reader.specs.declared.table.Shape.TheVariants as shapes
 use Rattle.rib_reader.specs.declared.table.Words.{Words}
 use Rattle.rib_reader.specs.declared.table.Rule.{Rule}
-use Rattle.rib_reader.specs.declared.table.Rule.TheVariants.{Within, AtLeast, Rising, OneOf, NoneOf, Levels}
+use Rattle.rib_reader.specs.declared.table.Rule.TheVariants.{Within, AtLeast, Rising, Between, OneOf, NoneOf, Levels}
 use Rattle.rib_reader.specs.declared.table.Words.TheVariants.{Modes, Bicubic}
 use Rattle.rib_reader.specs.declared.table.Tail.{Tail}
 use Rattle.rib_reader.specs.declared.table.Tail.TheVariants as tails
@@ -207,6 +207,15 @@ rising name args params place x e there k other y h behind =
     let here : not (int_lt x y) ≡ false = sym (ap (λ o. is_not_less o (Some y)) there) ∙ sym (ap (is_not_less (raw_at args place)) behind) ∙ less in
     is_less_than x y (not_false (int_lt x y) here)
 
+-- a number lies between those that its row says
+pub between : (name : Req) (args : List Arg) (params : List Param) (place : ℕ) (x : ℤ) → request_code name args params ≡ None → raw_at args place ≡ Some x
+    → (k : ℕ) (least most : ℤ) → slice_get (rules_of name) k ≡ Some (Between place least most) → (least ≤ℤ x) × (x ≤ℤ most)
+between name args params place x e there k least most h =
+    let holds = rule_holds name args params e k (Between place least most) h in
+    let inside = when_none (is_outside (raw_at args place) least most) S3 holds in
+    let here : (int_lt x least || int_lt most x) ≡ false = sym (ap (λ o. is_outside o least most) there) ∙ inside in
+    (not_less x least (or_left (int_lt x least) (int_lt most x) here), not_less most x (or_right (int_lt x least) (int_lt most x) here))
+
 -- a string is one of the words that its row has
 pub one_of : (name : Req) (args : List Arg) (params : List Param) (place : ℕ) (t : List ℕ) → request_code name args params ≡ None → word_at args place ≡ Some t
     → (k : ℕ) (words : Words) (code : RibCode) → slice_get (rules_of name) k ≡ Some (OneOf place words code) → is_among (words_in words) t ≡ true
@@ -239,20 +248,20 @@ param_holds follows p e =
 -- the levels of a request
 pub record InRange (one least most : ℤ) : Type 0 where
   pub some : pos 1 ≤ℤ one
-  pub small : one ≤ℤ pos 255
+  pub small : one ≤ℤ pos 65535
   pub low : pos 0 ≤ℤ least
   pub ordered : least ≤ℤ most
   pub within : most ≤ℤ one
 
 in_range : (a b c : ℤ) → levels_code (Some a) (Some b) (Some c) ≡ None → InRange a b c
 in_range a b c e =
-    let both = lower_none (when (int_lt (pos 255) a) S2) (when (int_lt a (pos 1) || int_lt b (pos 0) || int_lt c b || int_lt a c) S3) e in
+    let both = lower_none (when (int_lt (pos 65535) a) S2) (when (int_lt a (pos 1) || int_lt b (pos 0) || int_lt c b || int_lt a c) S3) e in
     let wrong = when_none (int_lt a (pos 1) || int_lt b (pos 0) || int_lt c b || int_lt a c) S3 both.1 in
     let three = or_left (int_lt a (pos 1) || int_lt b (pos 0) || int_lt c b) (int_lt a c) wrong in
     let two = or_left (int_lt a (pos 1) || int_lt b (pos 0)) (int_lt c b) three in
     record {
       some = not_less a (pos 1) (or_left (int_lt a (pos 1)) (int_lt b (pos 0)) two);
-      small = not_less (pos 255) a (when_none (int_lt (pos 255) a) S2 both.0);
+      small = not_less (pos 65535) a (when_none (int_lt (pos 65535) a) S2 both.0);
       low = not_less b (pos 0) (or_right (int_lt a (pos 1)) (int_lt b (pos 0)) two);
       ordered = not_less c b (or_right (int_lt a (pos 1) || int_lt b (pos 0)) (int_lt c b) three);
       within = not_less a c (or_right (int_lt a (pos 1) || int_lt b (pos 0) || int_lt c b) (int_lt a c) wrong);

@@ -14,7 +14,7 @@ use Rattle.rib_reader.specs.declared.table.Shape.TheVariants as shapes
 use Rattle.rib_reader.specs.declared.table.Words.{Words}
 use Rattle.rib_reader.specs.declared.table.Words.TheVariants.{Modes, Bicubic, Bounds}
 use Rattle.rib_reader.specs.declared.table.Rule.{Rule}
-use Rattle.rib_reader.specs.declared.table.Rule.TheVariants.{Within, AtLeast, Rising, Only, OneOf, NoneOf, NoArray, Levels, Declaration}
+use Rattle.rib_reader.specs.declared.table.Rule.TheVariants.{Within, AtLeast, Rising, Between, OneOf, NoneOf, NoArray, Levels, Declaration}
 use Rattle.rib_reader.specs.declared.table.Tail.{Tail}
 use Rattle.rib_reader.specs.declared.table.Tail.TheVariants as tails
 use Rattle.rib_reader.specs.declared.follows.Follows.{Follows}
@@ -148,7 +148,7 @@ is_array_at args n = is_array (slice_get args n)
 -- the greatest level, and the range that is written
 abbrev pub levels_code : Option ℤ → Option ℤ → Option ℤ → Option RibCode
 levels_code one low high = lower
-    (when (is_less (Some (pos 255)) one) S2)
+    (when (is_less (Some (pos 65535)) one) S2)
     (when (is_below one (pos 1) || is_below low (pos 0) || is_less high low || is_less one high) S3)
 
 abbrev pub code_in : Result (Class × Kind) RibCode → Option RibCode
@@ -165,7 +165,7 @@ abbrev pub rule_code : Rule → List Arg → Option RibCode
 rule_code (Within place least most) args = when (is_outside (whole_at args place) least most) S3
 rule_code (AtLeast place raw) args = when (is_below (raw_at args place) raw) S3
 rule_code (Rising first second) args = when (is_not_less (raw_at args first) (raw_at args second)) S3
-rule_code (Only place raw) args = when (is_outside (raw_at args place) raw raw) S2
+rule_code (Between place least most) args = when (is_outside (raw_at args place) least most) S3
 rule_code (OneOf place words code) args = when (is_none_of words (word_at args place)) code
 rule_code (NoneOf place words) args = when (is_one words (word_at args place)) S2
 rule_code (NoArray place) args = when (is_array_at args place) S2

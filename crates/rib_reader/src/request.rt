@@ -10,7 +10,7 @@ ghost use Rattle.rib_reader.specs.Levels.{GivesLevels};
 ghost use Rattle.rib_reader.specs.declared.req.Req.TheVariants.{Quantize};
 ghost use Rattle.rib_reader.specs.declared.table.Words.{Words as WordSet};
 ghost use Rattle.rib_reader.specs.declared.table.Rule.{Rule};
-ghost use Rattle.rib_reader.specs.declared.table.Rule.TheVariants.{Within, AtLeast, Rising, OneOf, NoneOf};
+ghost use Rattle.rib_reader.specs.declared.table.Rule.TheVariants.{Within, AtLeast, Rising, Between, OneOf, NoneOf};
 ghost use Rattle.rib_reader.specs.declared.table.Shape.TheVariants.{Whole, Number, Word, Array, Wholes};
 ghost use Rattle.rib_reader.specs.declared.faults.RibCode.{RibCode};
 
@@ -50,11 +50,13 @@ impl Request {
         }
     }
 
-    /// The number that the row has at that place, at least as great as the row says, and less than the one that it says.
+    /// The number that the row has at that place, at least as great as the row says or within its limits, and less than the one that
+    /// it says.
     pub fn number(&self, place: usize) -> Num
         requires { slice_get (shapes_of self.now.name) place ≡ Some Number }
         ensures value { raw_at self.now.args place ≡ Some result }
         ensures limits { (k : ℕ) (least : ℤ) → slice_get (rules_of self.now.name) k ≡ Some (AtLeast place least) → least ≤ℤ result }
+        ensures between { (k : ℕ) (least most : ℤ) → slice_get (rules_of self.now.name) k ≡ Some (Between place least most) → (least ≤ℤ result) × (result ≤ℤ most) }
         ensures rising { (k other : ℕ) (y : ℤ) → slice_get (rules_of self.now.name) k ≡ Some (Rising place other) → raw_at self.now.args other ≡ Some y → result <ℤ y }
     {
         match num(self.args.as_slice(), place) {

@@ -57,10 +57,12 @@ pub fn row(name: Req) -> Row
         Req::CropWindow => Row {
             shapes: &[Shape::Number, Shape::Number, Shape::Number, Shape::Number],
             rules: &[
-                Rule::Only(0, 0),
-                Rule::Only(1, 65_536),
-                Rule::Only(2, 0),
-                Rule::Only(3, 65_536),
+                Rule::Between(0, 0, 65_536),
+                Rule::Between(1, 0, 65_536),
+                Rule::Rising(0, 1),
+                Rule::Between(2, 0, 65_536),
+                Rule::Between(3, 0, 65_536),
+                Rule::Rising(2, 3),
             ],
             tail: Tail::Empty,
         },

@@ -75,7 +75,7 @@ fn levels(one: Option<i64>, low: Option<i64>, high: Option<i64>) -> Option<RibCo
     ensures { result ≡ levels_code one low high }
 {
     lower_of(
-        code_when(is_less(Some(255), one), RibCode::S2),
+        code_when(is_less(Some(65_535), one), RibCode::S2),
         code_when(
             is_below(one, 1) || is_below(low, 0) || is_less(high, low) || is_less(one, high),
             RibCode::S3,
@@ -107,8 +107,8 @@ fn rule_fault(alloc: Global, rule: Rule, args: &[Arg]) -> Result<Option<RibCode>
                 RibCode::S3,
             )
         }
-        Rule::Only(place, same) => {
-            code_when(is_outside(raw(args, place), same, same), RibCode::S2)
+        Rule::Between(place, least, most) => {
+            code_when(is_outside(raw(args, place), least, most), RibCode::S3)
         }
         Rule::OneOf(place, words, code) => code_when(is_none_of(words, args, place), code),
         Rule::NoneOf(place, words) => code_when(is_one(words, args, place), RibCode::S2),

@@ -41,8 +41,8 @@ pub enum Rule {
     AtLeast(usize, i64),
     /// The number at the first place is less than that at the second, or S3.
     Rising(usize, usize),
-    /// The number there has this raw, or S2.
-    Only(usize, i64),
+    /// The number there has a raw from the first number to the second, or S3.
+    Between(usize, i64, i64),
     /// The string there is one of these words, or that code.
     OneOf(usize, Words, RibCode),
     /// The string there is none of these words, or S2.

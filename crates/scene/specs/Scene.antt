@@ -1,6 +1,6 @@
 -- The scene as plain data: frames with their primitives in camera space, and the uses of shaders
 -- (RenderMan Interface 3.2, sections 3 to 5).
-use Rattle.std.specs.Prelude.{◌≡◌, ℕ, ◌*◌, ◌≤◌, ◌<◌, ℤ, pos, ◌≤ℤ◌, Bool, true, false, List, Option, Some, None, All, slice_get, slice_index_or}
+use Rattle.std.specs.Prelude.{◌≡◌, ℕ, ◌*◌, ◌≤◌, ◌<◌, ℤ, pos, ◌≤ℤ◌, Bool, true, false, List, Option, Some, None, All, length, slice_get, slice_index_or}
 use Rattle.fixed_math.specs.declared.vec3.Vec3.{Vec3}
 use Rattle.transforms.specs.Map.{Map}
 use Rattle.transforms.specs.declared.view.View.{View}
@@ -8,7 +8,7 @@ use Rattle.patches.specs.declared.patch.Patch.{Patch}
 use Rattle.scene.specs.declared.params.Kind.{Kind}
 use Rattle.scene.specs.declared.params.Values.{Values}
 use Rattle.scene.specs.Kinds.{count, width, is_of_kind}
-use Rattle.scene.specs.Settings.{OptionValues}
+use Rattle.scene.specs.Settings.{OptionValues, crop_of, IsCrop}
 use Rattle.scene.specs.declared.uses.ShaderKind.{ShaderKind}
 use Rattle.scene.specs.declared.uses.ShaderKind.TheVariants.{Surface, Displacement, Light, Volume}
 use Rattle.scene.specs.declared.uses.ShaderUse.{ShaderUse}
@@ -77,6 +77,11 @@ pub record FrameValue : Type 0 where
 -- the most primitives of a frame
 abbrev pub most_prims : ℕ
 most_prims = 65536
+
+-- the picture has some pixels of what the camera sees
+pub record IsFrame (f : FrameValue) : Type 0 where
+  pub few : length f.prims ≤ most_prims
+  pub crop : IsCrop f.camera.width f.camera.height (crop_of f.options)
 
 -- the frames in order, and the shader requests that some primitive has, each once, in the order of their first use: frame by
 -- frame, primitive by primitive, and for each its displacement, surface, atmosphere and then its lights in order
