@@ -32,7 +32,7 @@ use Rattle.rib_reader.specs.declared.faults.RibCode.TheVariants.{S2, S3}
 use Rattle.rib_reader.specs.Table.{row_of, shapes_of, rules_of, words_in}
 use Rattle.rib_reader.specs.Rules.{when, lowest, are_whole, fits, fit, word_in, word_at, number_in, raw_at, whole_in, whole_at, numbers_in, numbers_at, is_outside, is_below, is_not_less, is_among, is_one, is_none_of, rule_code, args_code, levels_code, tail_with, follows_of}
 use Rattle.rib_reader.specs.Holding.{is_named, last_named}
-use Rattle.rib_reader.specs.Lists.{is_points, needed, is_as_needed, is_vertex, kind_code, name_code, count_code, is_geometry, numbers_held, numbers_given, points_in, own_code, param_code, whole_code, params_code, request_code}
+use Rattle.rib_reader.specs.Lists.{is_points, needed, is_as_needed, is_vertex, kind_code, name_code, count_code, has_points, numbers_held, numbers_given, points_in, own_code, param_code, whole_code, params_code, request_code}
 use Rattle.scene.specs.Kinds.{is_of_kind}
 use Rattle.rib_reader.proofs.Lowest.{lower_none, when_none, lowest_none}
 
@@ -291,15 +291,16 @@ unfolding needs_points
 either_bicubic true = refl
 either_bicubic false = refl
 
-geometry_needs : (t : Tail) (word : Option (List ℕ)) → is_geometry t ≡ true → needs_points (tail_with t word) ≡ true
+points_needed_by : (t : Tail) (word : Option (List ℕ)) → has_points t ≡ true → needs_points (tail_with t word) ≡ true
 unfolding needs_points
-geometry_needs tails.Empty word h = absurd cc
-geometry_needs tails.Anything word h = absurd cc
-geometry_needs tails.Free word h = absurd cc
-geometry_needs tails.Attribute word h = absurd cc
-geometry_needs tails.Parameters word h = absurd cc
-geometry_needs tails.Variables word h = refl
-geometry_needs tails.PatchVariables word h = either_bicubic (is_one Bicubic word)
+points_needed_by tails.Empty word h = absurd cc
+points_needed_by tails.Anything word h = absurd cc
+points_needed_by tails.Free word h = absurd cc
+points_needed_by tails.Attribute word h = absurd cc
+points_needed_by tails.Parameters word h = absurd cc
+points_needed_by tails.Variables word h = refl
+points_needed_by tails.QuadricVariables word h = absurd cc
+points_needed_by tails.PatchVariables word h = either_bicubic (is_one Bicubic word)
 
 -- a primitive's points are there
 points_there : (f : Follows) (ps : List Param) → needs_points f ≡ true → whole_code f ps ≡ None → is_named (codes "P") ps ≡ true
@@ -311,6 +312,7 @@ points_there follows.Anything ps n e = absurd cc
 points_there follows.Free ps n e = absurd cc
 points_there follows.Bound ps n e = absurd cc
 points_there follows.Parameters ps n e = absurd cc
+points_there follows.Quadric ps n e = absurd cc
 
 -- each variable is of the kind that its name needs
 kind_stands : (f : Follows) (name : List ℕ) (class : Class) (k : Kind) → needs_points f ≡ true → name_code f name class k ≡ None → kind_code name k ≡ None
@@ -322,6 +324,7 @@ kind_stands follows.Anything name class k n e = absurd cc
 kind_stands follows.Free name class k n e = absurd cc
 kind_stands follows.Bound name class k n e = absurd cc
 kind_stands follows.Parameters name class k n e = absurd cc
+kind_stands follows.Quadric name class k n e = absurd cc
 
 numbers_of_points : (k : Kind) (v : Values) → is_as_needed (Some kinds.Point) k ≡ true → is_of_kind k v ≡ true → is_some (numbers_held v) ≡ true
 numbers_of_points k (held.Numbers xs) a b = refl
@@ -374,10 +377,10 @@ last_stands (p ∷ ps) each h = behind (last_stands ps (λ k q there. each (suc 
         ∙ each zero p refl named
 
 -- the points of a primitive stand in its list
-pub points_stand : (name : Req) (args : List Arg) (params : List Param) → request_code name args params ≡ None → is_geometry (row_of name).tail ≡ true → points_in params ≡ None → ⊥
+pub points_stand : (name : Req) (args : List Arg) (params : List Param) → request_code name args params ≡ None → has_points (row_of name).tail ≡ true → points_in params ≡ None → ⊥
 points_stand name args params e h none =
     let f : Follows = follows_of name args in
-    let needs : needs_points f ≡ true = geometry_needs (row_of name).tail (word_at args 0) h in
+    let needs : needs_points f ≡ true = points_needed_by (row_of name).tail (word_at args 0) h in
     let list = list_holds name args params e in
     let stands = last_stands params (λ k p there named. point_numbers f p needs (list.1 k p there) named) (points_there f params needs list.0) in
     empty_is (points_in params) stands none

@@ -8,7 +8,7 @@ use Rattle.rib_reader.specs.declared.table.Shape.TheVariants.{Whole, Number, Wor
 use Rattle.rib_reader.specs.declared.table.Words.{Words}
 use Rattle.rib_reader.specs.declared.table.Words.TheVariants.{Projections, Filters, Modes, Interpolations, Smooth, Orientations, Handed, Bases, Patches, Bicubic, Wraps, Bounds}
 use Rattle.rib_reader.specs.declared.table.Rule.{Rule}
-use Rattle.rib_reader.specs.declared.table.Rule.TheVariants.{Within, AtLeast, Rising, Between, OneOf, NoneOf, NoArray, Levels, Declaration}
+use Rattle.rib_reader.specs.declared.table.Rule.TheVariants.{Within, AtLeast, Rising, Only, Between, OneOf, NoneOf, NoArray, Levels, WholeSphere, Declaration}
 use Rattle.rib_reader.specs.declared.table.Tail.{Tail}
 use Rattle.rib_reader.specs.declared.table.Tail.TheVariants as tails
 use Rattle.rib_reader.specs.declared.faults.RibCode.TheVariants.{S2, S3}
@@ -48,6 +48,10 @@ passed_over = row [] [] tails.Anything
 -- the greatest whole number
 abbrev pub greatest : ℤ
 greatest = pos 2147483647
+
+-- 360 degrees
+abbrev pub full_turn : ℤ
+full_turn = pos 23592960
 
 abbrev pub row_of : Req → TableRow
 row_of reqs.FrameBegin = plain_row (Whole ∷ [])
@@ -97,6 +101,10 @@ row_of reqs.PatchMesh = row (Word ∷ Whole ∷ Word ∷ Whole ∷ Word ∷ [])
     (OneOf 0 Patches S3 ∷ Within 1 (pos 1) (pos 65536) ∷ OneOf 2 Wraps S3 ∷ Within 3 (pos 1) (pos 65536) ∷ OneOf 4 Wraps S3 ∷ []) tails.PatchVariables
 row_of reqs.Polygon = row [] [] tails.Variables
 row_of reqs.PointsPolygons = row (Wholes ∷ Wholes ∷ []) [] tails.Variables
+row_of reqs.Sphere = row (Number ∷ Number ∷ Number ∷ Number ∷ []) (AtLeast 0 (pos 1) ∷ WholeSphere ∷ Only 3 full_turn ∷ []) tails.QuadricVariables
+row_of reqs.Cylinder = row (Number ∷ Number ∷ Number ∷ Number ∷ []) (AtLeast 0 (pos 1) ∷ Only 3 full_turn ∷ []) tails.QuadricVariables
+row_of reqs.Cone = row (Number ∷ Number ∷ Number ∷ []) (AtLeast 1 (pos 1) ∷ Only 2 full_turn ∷ []) tails.QuadricVariables
+row_of reqs.Disk = row (Number ∷ Number ∷ Number ∷ []) (AtLeast 1 (pos 1) ∷ Only 2 full_turn ∷ []) tails.QuadricVariables
 row_of reqs.Version = passed_over
 row_of reqs.ErrorHandler = passed_over
 row_of reqs.Hider = passed_over

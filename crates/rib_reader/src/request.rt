@@ -3,7 +3,7 @@ ghost use Rattle.std.specs.Prelude.{◌≡◌, ◌≤ℤ◌, ◌<ℤ◌, ℕ, �
 ghost use Rattle.std.specs.List.{slice_get};
 ghost use Rattle.rib_reader.specs.Table.{row_of, shapes_of, rules_of, words_in};
 ghost use Rattle.rib_reader.specs.Rules.{word_at, raw_at, whole_at, numbers_at, are_whole, is_among, rule_code, follows_of};
-ghost use Rattle.rib_reader.specs.Lists.{param_code, own_code, whole_code, request_code, is_geometry, points_in};
+ghost use Rattle.rib_reader.specs.Lists.{param_code, own_code, whole_code, request_code, has_points, points_in};
 ghost use Rattle.scene.specs.Kinds.{is_of_kind};
 ghost use Rattle.scene.specs.declared.params.Param.{Param as AParam};
 ghost use Rattle.rib_reader.specs.Levels.{GivesLevels};
@@ -115,7 +115,7 @@ impl Request {
 
     /// The numbers of a primitive's points P, the last ones where there are several: x, y and z of each point.
     pub fn points(&self) -> &[Num]
-        requires { is_geometry (row_of self.now.name).tail ≡ true }
+        requires { has_points (row_of self.now.name).tail ≡ true }
         ensures { points_in self.now.params ≡ Some result.now }
     {
         match last_points(self.params.as_slice()) {

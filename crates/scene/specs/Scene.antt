@@ -4,7 +4,7 @@ use Rattle.std.specs.Prelude.{◌≡◌, ℕ, ◌*◌, ◌≤◌, ◌<◌, ℤ, 
 use Rattle.fixed_math.specs.declared.vec3.Vec3.{Vec3}
 use Rattle.transforms.specs.Map.{Map}
 use Rattle.transforms.specs.declared.view.View.{View}
-use Rattle.patches.specs.declared.patch.Patch.{Patch}
+use Rattle.quadrics.specs.declared.any_patch.AnyPatch.{AnyPatch}
 use Rattle.scene.specs.declared.params.Kind.{Kind}
 use Rattle.scene.specs.declared.params.Values.{Values}
 use Rattle.scene.specs.Kinds.{count, width, is_of_kind}
@@ -34,7 +34,7 @@ pub record IsVariable (v : VariableValue) : Type 0 where
 -- is turned; its variables; the map from its object space to camera space; the column c of m and row d of n that the patch has
 -- in its mesh, as c, m, d, n; and the line of its request.
 pub record PrimValue : Type 0 where
-  pub patch : Patch
+  pub patch : AnyPatch
   pub flat : Option Vec3
   pub cs : Vec3
   pub os : Vec3

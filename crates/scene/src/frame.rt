@@ -7,7 +7,7 @@ use crate::shared::Shared;
 use crate::uses::ShaderUse;
 use crate::variables::PrimitiveVariables;
 use fixed_math::{List, Num, Text, Vec3};
-use patches::Patch;
+use quadrics::AnyPatch;
 use std::marker::Model;
 use transforms::{Affine, Camera};
 
@@ -20,7 +20,7 @@ use transforms::{Affine, Camera};
 /// the row d of n that the patch has in its mesh, as [c, m, d, n], with m and n at most 65,536. `line` is that of its request.
 #[derive(Drop)]
 pub struct Primitive {
-    pub patch: Patch,
+    pub patch: AnyPatch,
     pub flat: Option<Vec3>,
     pub cs: Vec3,
     pub os: Vec3,

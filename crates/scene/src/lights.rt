@@ -1,5 +1,5 @@
 // The lights of primitives.
-ghost use Rattle.std.specs.Prelude.{◌≡◌, ◌<◌, ◌≤◌, ◌^◌, take, length, slice_index, IfOk, IsTrue};
+ghost use Rattle.std.specs.Prelude.{◌≡◌, ◌<◌, ◌++◌, take, length, slice_index, IfOk, IfSome};
 
 use crate::shared::Shared;
 use fixed_math::{List, NoMemory};
@@ -26,21 +26,6 @@ impl Model for LightPlaces {
     ghost invariant = { λ l. length l.unnamed + length l.named < 2 ^ 64 };
 }
 
-// As many lights as a world's requests can name.
-const MOST_NAMED: usize = 64;
-
-// Whether the places of others are the first of these, and few are behind them.
-fn begin_with(places: &[u32], others: &[u32]) -> bool
-    ensures first { IsTrue result → length others.now ≤ length places.now }
-    ensures same { IsTrue result → take (length others.now) places.now ≡ others.now }
-{
-    if others.len() > places.len() {
-        return false;
-    }
-    let (front, behind) = places.split_at(others.len());
-    behind.len() <= 2 * MOST_NAMED && front == others
-}
-
 // Some of these places, in a list of their own.
 fn list_of(alloc: Global, places: &[u32]) -> Result<Shared<List<u32>>, NoMemory>
     ensures { IfOk result (λ p. p ≡ places.now) }
@@ -51,45 +36,43 @@ fn list_of(alloc: Global, places: &[u32]) -> Result<Shared<List<u32>>, NoMemory>
 }
 
 impl LightPlaces {
-    // These places, in two lists of their own.
-    fn apart(alloc: Global, places: &[u32]) -> Result<LightPlaces, NoMemory>
-        requires { length places.now < 2 ^ 64 }
+    /// These places, of which other primitives may share the first `front` ones.
+    pub fn new(alloc: Global, places: &[u32], front: usize) -> Result<LightPlaces, NoMemory>
         ensures { IfOk result (λ l. l ≡ places.now) }
     {
-        let (unnamed, named) = places.split_at(places.len().saturating_sub(MOST_NAMED));
+        let (unnamed, named) = places.split_at(front.min(places.len()));
         Ok(LightPlaces {
             unnamed: list_of(alloc, unnamed)?,
             named: list_of(alloc, named)?,
         })
     }
 
-    /// These places. Where other lights begin with the same ones, they share them.
-    pub fn new(
-        alloc: Global,
-        places: &[u32],
-        others: Option<&LightPlaces>,
-    ) -> Result<LightPlaces, NoMemory>
-        ensures { IfOk result (λ l. l ≡ places.now) }
+    /// The first `front` of these places, which are shared, or `None` where it isn't so many that can be shared.
+    pub fn first(&self, alloc: Global, front: usize) -> Result<Option<LightPlaces>, NoMemory>
+        ensures { IfOk result (λ o. IfSome o (λ l. l ≡ take front self.now)) }
     {
-        match others {
-            Some(others) => others.or_apart(alloc, places),
-            None => LightPlaces::apart(alloc, places),
+        if self.unnamed.get().len() != front {
+            return Ok(None);
         }
+        Ok(Some(LightPlaces {
+            unnamed: self.unnamed.shared()?,
+            named: Shared::new(alloc, List(Vec::new(alloc)))?,
+        }))
     }
 
-    // These places, with the first ones shared where these lights begin with the same.
-    fn or_apart(&self, alloc: Global, places: &[u32]) -> Result<LightPlaces, NoMemory>
-        requires { length places.now < 2 ^ 64 }
-        ensures { IfOk result (λ l. l ≡ places.now) }
+    /// These places and others behind them. Those that can be shared are shared.
+    pub fn and(&self, alloc: Global, others: &[u32]) -> Result<LightPlaces, NoMemory>
+        ensures { IfOk result (λ l. l ≡ self.now ++ others.now) }
     {
-        let shared = self.unnamed.get().as_slice();
-        if !begin_with(places, shared) {
-            return LightPlaces::apart(alloc, places);
+        let mut named = Vec::new(alloc);
+        named.extend_from_slice(self.named.get().as_slice())?;
+        named.extend_from_slice(others)?;
+        if self.unnamed.get().len().checked_add(named.len()).is_none() {
+            return Err(NoMemory);
         }
-        let (_, behind) = places.split_at(shared.len());
         Ok(LightPlaces {
             unnamed: self.unnamed.shared()?,
-            named: list_of(alloc, behind)?,
+            named: Shared::new(alloc, List(named))?,
         })
     }
 

@@ -1,5 +1,5 @@
 -- Lists of lights, and what putting a light into force and taking it out makes of them.
-use Rattle.std.specs.Prelude.{ℕ, ◌==◌, Bool, not, List, [], ◌∷◌, ◌++◌, filter, if◌then◌else◌}
+use Rattle.std.specs.Prelude.{ℕ, ◌==◌, nat_lt, Bool, not, List, [], ◌∷◌, ◌++◌, filter, Option, Some, None, if◌then◌else◌}
 use Rattle.std.specs.List.{list_any}
 
 abbrev pub is_among : ℕ → List ℕ → Bool
@@ -11,3 +11,8 @@ with_light k lights = if is_among k lights then lights else lights ++ k ∷ []
 
 abbrev pub without_light : ℕ → List ℕ → List ℕ
 without_light k lights = filter (λ n. not (n == k)) lights
+
+-- those of the lights that were made before light k, all where there is no such light
+abbrev pub made_before : Option ℕ → List ℕ → List ℕ
+made_before None lights = lights
+made_before (Some k) lights = filter (λ n. nat_lt n k) lights

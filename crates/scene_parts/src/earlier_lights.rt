@@ -1,5 +1,5 @@
 // Lists of lights one behind another, which many hold.
-ghost use Rattle.std.specs.Prelude.{◌≡◌, [], ◌++◌, IfOk};
+ghost use Rattle.std.specs.Prelude.{◌≡◌, [], ◌++◌, length, IfOk};
 ghost use Rattle.std.specs.List.{concat};
 
 use crate::shared_lights::SharedLights;
@@ -13,15 +13,18 @@ use std::rc::Rc;
 #[derive(Drop)]
 pub(crate) struct EarlierLights {
     runs: Rc<List<SharedLights>, Global>,
+    count: usize,
 }
 
 impl Model for EarlierLights {
-    ghost use Rattle.std.specs.Prelude.{ℕ, List as Items};
+    ghost use Rattle.std.specs.Prelude.{◌≡◌, ℕ, List as Items, length};
     ghost use Rattle.std.specs.List.{concat};
 
     ghost Value = { Items ℕ };
 
     ghost view = { λ l. concat l.runs.value };
+
+    ghost invariant = { λ l. l.count ≡ length (concat l.runs.value) };
 }
 
 // The same runs, held by one more.
@@ -53,6 +56,7 @@ impl EarlierLights {
     {
         Ok(EarlierLights {
             runs: Rc::new(alloc, List(Vec::new(alloc)))?,
+            count: 0,
         })
     }
 
@@ -61,10 +65,12 @@ impl EarlierLights {
     pub(crate) fn of(alloc: Global, lights: SharedLights) -> Result<EarlierLights, NoMemory>
         ensures { IfOk result (λ l. l ≡ lights) }
     {
+        let count = lights.as_slice().len();
         let mut runs = Vec::new(alloc);
         runs.push(lights)?;
         Ok(EarlierLights {
             runs: Rc::new(alloc, List(runs))?,
+            count,
         })
     }
 
@@ -74,6 +80,7 @@ impl EarlierLights {
     {
         Ok(EarlierLights {
             runs: self.runs.clone()?,
+            count: self.count,
         })
     }
 
@@ -86,11 +93,22 @@ impl EarlierLights {
     ) -> Result<EarlierLights, NoMemory>
         ensures { IfOk result (λ l. l ≡ self.now ++ others.now) }
     {
+        let Some(count) = self.count.checked_add(others.as_slice().len()) else {
+            return Err(NoMemory);
+        };
         let mut runs = shared_runs(alloc, self.runs.as_ref().as_slice())?;
         runs.0.push(others.shared()?)?;
         Ok(EarlierLights {
             runs: Rc::new(alloc, runs)?,
+            count,
         })
+    }
+
+    /// How many lights there are.
+    pub(crate) fn len(&self) -> usize
+        ensures { result ≡ length self.now }
+    {
+        self.count
     }
 
     /// Adds the lights to others, in order.

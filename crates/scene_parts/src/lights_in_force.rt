@@ -1,6 +1,7 @@
 // The lights in force.
-ghost use Rattle.std.specs.Prelude.{◌≡◌, ◌<◌, [], ◌∷◌, ◌++◌, All, IfOk};
-ghost use Rattle.scene_parts.specs.Lights.{is_among, with_light, without_light};
+ghost use Rattle.std.specs.Prelude.{◌≡◌, ◌<◌, ℕ, nat_le, List, [], ◌∷◌, ◌++◌, length, All, IfOk, IfSome, IsTrue};
+ghost use Rattle.std.specs.List.{list_all};
+ghost use Rattle.scene_parts.specs.Lights.{is_among, with_light, without_light, made_before};
 
 use crate::earlier_lights::EarlierLights;
 use crate::shared_lights::SharedLights;
@@ -67,6 +68,23 @@ fn without_below(
     }
 }
 
+// Whether all of those lights lie at or past light `first`.
+fn are_past(lights: &[usize], first: usize) -> bool
+    ensures { result ≡ list_all (λ n. nat_le first n) lights.now }
+{
+    lights.iter().all(|light| first <= *light)
+}
+
+// Whether those lights, and none below the bound, lie at or past light `first`, or are none where there is no such light.
+fn are_apart(bound: usize, later: &[usize], first: Option<usize>) -> bool
+    ensures { IsTrue result → (lights : List ℕ) → All (λ n. n < bound) lights → made_before first (lights ++ later.now) ≡ lights }
+{
+    match first {
+        Some(first) => bound <= first && are_past(later, first),
+        None => later.is_empty(),
+    }
+}
+
 impl LightsInForce {
     /// No lights.
     pub fn none(alloc: Global) -> Result<LightsInForce, NoMemory>
@@ -98,6 +116,18 @@ impl LightsInForce {
         self.earlier.add_to(&mut lights)?;
         lights.extend_from_slice(self.later.as_slice())?;
         Ok(lights)
+    }
+
+    /// How many lights were made before light `first`, where there is such a light, and the others, where these stand behind them.
+    pub fn split_at(&self, first: Option<usize>) -> Option<(usize, &[usize])>
+        ensures count { IfSome result (λ parts. parts.0 ≡ length (made_before first self.now)) }
+        ensures parts { IfSome result (λ parts. self.now ≡ made_before first self.now ++ parts.1.now) }
+    {
+        let later = self.later.as_slice();
+        if !are_apart(self.bound, later, first) {
+            return None;
+        }
+        Some((self.earlier.len(), later))
     }
 
     fn has(&self, alloc: Global, light: usize) -> Result<bool, NoMemory>

@@ -5,3 +5,4 @@ pub mod FirstUse
 pub mod Order
 pub mod FrameCount
 pub mod InForce
+pub mod UnnamedLights

@@ -4,3 +4,4 @@ pub mod State
 pub mod Steps
 pub mod Answers
 pub mod Laws
+pub mod Unnamed

@@ -55,10 +55,7 @@ impl State {
     {
         self.attributes = attributes;
         self.current = current;
-        let first = match self.handles.as_slice().first() {
-            Some(handle) => handle.light,
-            None => self.shaders.slots.len(),
-        };
+        let first = self.first_named().unwrap_or(self.shaders.slots.len());
         self.attributes.lights.settle(alloc, first)
     }
 

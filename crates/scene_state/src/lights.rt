@@ -8,6 +8,7 @@ ghost use Rattle.rib_reader.specs.declared.table.Shape.TheVariants.{Word};
 ghost use Rattle.scene.specs.declared.uses.ShaderKind.TheVariants as kinds;
 ghost use Rattle.scene_state.specs.State.{use_of, shader_set, light_added, light_made, illuminated_by, light_named, space_of, next_shader};
 ghost use Rattle.scene_state.specs.Shaders.{with_request};
+ghost use Rattle.scene_state.specs.Unnamed.{first_named};
 ghost use Rattle.scene_state.specs.Steps.{with_surface, with_displacement, with_atmosphere};
 ghost use Rattle.scene_state.specs.Answers.{Steps, GivesMap};
 
@@ -105,6 +106,14 @@ impl State {
             Ok(space) => Ok(space),
             Err(fault) => Err(StepFault::Refused(code_of(fault))),
         }
+    }
+
+    /// The first light that has a number: those that were made before it have none.
+    pub(crate) fn first_named(&self) -> Option<usize>
+        ensures { result ≡ first_named self.now.handles }
+    {
+        let first = self.handles.as_slice().first()?;
+        Some(first.light)
     }
 
     // Puts a new light into force, and lets its number stand for it.

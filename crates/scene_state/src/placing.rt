@@ -6,6 +6,7 @@ ghost use Rattle.rib_reader.specs.Lists.{is_geometry};
 ghost use Rattle.scene.specs.Scene.{most_prims};
 ghost use Rattle.primitives.specs.Patches.{patches_of};
 ghost use Rattle.scene_state.specs.State.{prim_of, with_patches, patches_placed, room_left, primitive_set};
+ghost use Rattle.scene_state.specs.Unnamed.{LastAreAt};
 ghost use Rattle.scene_state.specs.Answers.{Steps};
 
 use crate::fault::{StepFault, code_of};
@@ -78,14 +79,16 @@ impl State {
         object: Affine,
         patches: List<PrimitivePatch>,
     ) -> Result<(), NoMemory>
-        requires { length self.old.prims + length patches ≤ most_prims }
+        requires room { length self.old.prims + length patches ≤ most_prims }
+        requires lights { LastAreAt self.old }
         ensures { IfOk result (λ _. self.new ≡ with_patches (plain request.now) object patches self.old) }
     {
         if patches.len() == 0 {
             return Ok(());
         }
-        let others = self.prims.last_lights();
-        let worn = self.shaders.wear(alloc, &self.attributes, others)?;
+        let first = self.first_named();
+        let last = self.prims.last_lights();
+        let worn = self.shaders.wear(alloc, &self.attributes, first, last)?;
         let look = self.attributes.look;
         let prims = primitives(alloc, request, object, look, &worn, patches)?;
         self.prims.add(prims)?;
@@ -99,7 +102,8 @@ impl State {
         request: &Request,
         object: Affine,
     ) -> Result<(), StepFault>
-        requires { is_geometry (row_of request.now.name).tail ≡ true }
+        requires geometry { is_geometry (row_of request.now.name).tail ≡ true }
+        requires lights { LastAreAt self.old }
         ensures { Steps result (patches_placed (plain request.now) object (patches_of (plain request.now) self.old.attributes.bases object (room_left self.old)) self.old) self.new }
     {
         let room = self.prims.room();
@@ -114,7 +118,8 @@ impl State {
         alloc: Global,
         request: &Request,
     ) -> Result<(), StepFault>
-        requires { is_geometry (row_of request.now.name).tail ≡ true }
+        requires geometry { is_geometry (row_of request.now.name).tail ≡ true }
+        requires lights { LastAreAt self.old }
         ensures { Steps result (primitive_set (plain request.now) self.old) self.new }
     {
         if self.world.is_none() {

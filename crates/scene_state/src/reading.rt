@@ -28,6 +28,7 @@ fn last_line(requests: &[Request]) -> u32
 impl State {
     // Goes through the requests, one after another.
     fn go_through(&mut self, alloc: Global, requests: &[Request]) -> Result<(), StateFault>
+        requires { self.old ≡ first_state }
         ensures { GivesState result (state_from self.old (map plain requests.now)) self.new }
     {
         for request in requests {

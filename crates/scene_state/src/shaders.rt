@@ -1,10 +1,13 @@
 // Shader requests, and lights by their numbers.
-ghost use Rattle.std.specs.Prelude.{◌≡◌, IfOk, slice_get};
+ghost use Rattle.std.specs.Prelude.{◌≡◌, IfOk, slice_get, option_map};
+ghost use Rattle.scene_parts.specs.Lights.{made_before};
+ghost use Rattle.scene_state.specs.Unnamed.{SomeAreAt};
 ghost use Rattle.scene_state.specs.Shaders.{IsWaiting, first_shaders, with_request, placed, some_placed, all_placed, worn_by, light_of};
 
 use crate::attributes::Attributes;
 use fixed_math::{List, NoMemory, Text};
 use scene::{LightPlaces, ShaderKind, ShaderUse};
+use scene_parts::LightsInForce;
 use std::alloc::Global;
 use std::mem;
 use transforms::Affine;
@@ -118,21 +121,61 @@ impl Shaders {
         Ok(List(places))
     }
 
-    /// The places of those that a primitive with these attributes has. Other lights may share places of its lights.
+    // The places of the lights in force, each looked up. The first `front` may be shared.
+    fn place_each(
+        &mut self,
+        alloc: Global,
+        lights: &LightsInForce,
+        front: usize,
+    ) -> Result<LightPlaces, NoMemory>
+        ensures { IfOk result (λ ns. (self.new, ns) ≡ all_placed self.old lights.now) }
+    {
+        let lights = lights.in_order(alloc)?;
+        let places = self.place_all(alloc, lights.as_slice())?;
+        LightPlaces::new(alloc, places.as_slice(), front)
+    }
+
+    // The places of the lights in force. Those that were made before light `first` have the places with which
+    // the last lights begin.
+    fn place_lights(
+        &mut self,
+        alloc: Global,
+        lights: &LightsInForce,
+        first: Option<usize>,
+        last: Option<&LightPlaces>,
+    ) -> Result<LightPlaces, NoMemory>
+        requires { SomeAreAt self.old.slots (made_before first lights.now) (option_map (λ l. l.now) last) }
+        ensures { IfOk result (λ ns. (self.new, ns) ≡ all_placed self.old lights.now) }
+    {
+        let Some((front, others)) = lights.split_at(first) else {
+            return self.place_each(alloc, lights, 0);
+        };
+        let shared = match last {
+            Some(last) => last.first(alloc, front)?,
+            None => None,
+        };
+        match shared {
+            Some(shared) => shared.and(alloc, self.place_all(alloc, others)?.as_slice()),
+            None => self.place_each(alloc, lights, front),
+        }
+    }
+
+    /// The places of those that a primitive with these attributes has, where the last one's lights begin with the places of all
+    /// lights in force that were made before light `first`.
     pub(crate) fn wear(
         &mut self,
         alloc: Global,
         attributes: &Attributes,
-        others: Option<&LightPlaces>,
+        first: Option<usize>,
+        last: Option<&LightPlaces>,
     ) -> Result<Worn, NoMemory>
+        requires { SomeAreAt self.old.slots (made_before first attributes.now.lights) (option_map (λ l. l.now) last) }
         ensures { IfOk result (λ worn. (self.new, worn) ≡ worn_by self.old attributes.now) }
     {
         let displacement = self.place_some(attributes.displacement)?;
         let surface = self.place(attributes.surface)?;
         let atmosphere = self.place_some(attributes.atmosphere)?;
-        let in_force = attributes.lights.in_order(alloc)?;
-        let places = self.place_all(alloc, in_force.as_slice())?;
-        let lights = LightPlaces::new(alloc, places.as_slice(), others)?;
+        let lights = self.place_lights(alloc, &attributes.lights, first, last)?;
         Ok(Worn {
             surface,
             displacement,

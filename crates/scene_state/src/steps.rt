@@ -4,6 +4,7 @@ ghost use Rattle.rib_reader.specs.Reading.{plain};
 ghost use Rattle.rib_reader.specs.declared.req.Req.TheVariants as reqs;
 ghost use Rattle.scene_state.specs.State.{option_set, display_set};
 ghost use Rattle.scene_state.specs.Steps.{look_set, bases_set, after};
+ghost use Rattle.scene_state.specs.Unnamed.{LastAreAt};
 ghost use Rattle.scene_state.specs.Answers.{Steps};
 
 use crate::fault::StepFault;
@@ -59,6 +60,7 @@ impl State {
     /// Changes the state by a request. The fault is the first that the request gives, of its nesting, of its geometry, or of a
     /// limit.
     pub(crate) fn step(&mut self, alloc: Global, request: &Request) -> Result<(), StepFault>
+        requires { LastAreAt self.old }
         ensures { Steps result (after (plain request.now) self.old) self.new }
     {
         match request.name {
@@ -113,6 +115,10 @@ impl State {
             Req::PatchMesh => self.place_primitive(alloc, request),
             Req::Polygon => self.place_primitive(alloc, request),
             Req::PointsPolygons => self.place_primitive(alloc, request),
+            Req::Sphere => self.place_primitive(alloc, request),
+            Req::Cylinder => self.place_primitive(alloc, request),
+            Req::Cone => self.place_primitive(alloc, request),
+            Req::Disk => self.place_primitive(alloc, request),
             _ => Ok(()),
         }
     }
