@@ -2,6 +2,7 @@
 ghost use Rattle.std.specs.Prelude.{◌≡◌, ◌++◌, IfOk, OnOk, string_bytes};
 ghost use Rattle.std.specs.List.{flat_map};
 ghost use Rattle.outside.specs.EntryOf.{entry_of};
+ghost use Rattle.conformance.specs.Names.{texts};
 ghost use Rattle.conformance.specs.Answer.{state_of, entry_line, head_text, answer_text, Answers};
 
 use crate::case::Case;
@@ -17,9 +18,11 @@ const FRAMES_ROOM: usize = 4194304;
 // The room of a case's notes.
 const NOTES_ROOM: usize = 65536;
 
-/// Runs a case, and writes the lines of its answer.
+/// Runs a case, and writes the lines of its answer: its name, the status, the notes, and a line for each frame of the sink, in order, with its
+/// length and its SHA-256. The frames are those of the verdict on the case's words and files: all of them where the status is 0, none where it is
+/// 2 to 7, and else some first ones, of which the last may be open.
 pub fn answer(alloc: Global, case: Case<'_>) -> Result<Vec<u8>, Stop>
-    ensures { IfOk result (λ t. Answers case.entry.name.now t.items) }
+    ensures { IfOk result (λ t. Answers case.entry.name.now (texts case.entry.words.items) case.entry.library.files t.items) }
 {
     let Case {
         name,

@@ -1,6 +1,5 @@
 -- The primitives of a world begin with the places of the lights in force that have no number: each request keeps that.
 use Rattle.std.proofs.Common.{◌≡◌, ◌∙◌, refl, sym, ap, subst, ℕ, zero, suc, ◌-◌, ◌<◌, ◌≤◌, ℤ, Bool, true, false, ◌==◌, not, is_some, nat_lt, nat_le, take, List, [], ◌∷◌, ◌++◌, length, map, set, Option, Some, None, Result, Ok, Err, All, slice_get, slice_index_or, append_assoc, if◌then◌else◌, arith}
-use Rattle.std.specs.Prelude.{filter}
 use Rattle.std.specs.Option.{option_or, option_map}
 use Rattle.std.specs.Ordering.{int_eq}
 use Rattle.std.proofs.lemmas.List.{append-nil}
@@ -14,7 +13,7 @@ use Rattle.transforms.specs.Map.{Map, identity, before_of}
 use Rattle.transforms.specs.Field.{camera_of}
 use Rattle.transforms.specs.declared.view.View.{View}
 use Rattle.transforms.specs.declared.fault.FormFault.{FormFault}
-use Rattle.scene.specs.Scene.{PrimValue, IsUse}
+use Rattle.scene.specs.Scene.{PrimValue}
 use Rattle.primitives.specs.Patches.{PatchValue, Made, patches_of}
 use Rattle.primitives.proofs.Lists.{all_none, all_one, all_first, all_then}
 use Rattle.scene_parts.specs.Choices.{ChoiceValues, chosen, view_of}
@@ -23,13 +22,12 @@ use Rattle.scene_parts.specs.Lights.{with_light, without_light, is_among, made_b
 use Rattle.scene_parts.proofs.BoundedLights.{all_left}
 use Rattle.scene_parts.specs.declared.code.StateCode.{StateCode}
 use Rattle.scene_parts.specs.declared.code.StateCode.TheVariants.{N1, N2, N5, M1, M2, M4}
-use Rattle.scene.specs.declared.uses.ShaderKind.{ShaderKind}
 use Rattle.scene.specs.declared.uses.ShaderKind.TheVariants as kinds
 use Rattle.scene.specs.declared.uses.ShaderUse.{ShaderUse}
 use Rattle.scene_state.specs.Shaders.{with_request, placed_in, placed, some_placed, all_placed, worn_by, light_of}
-use Rattle.scene_state.specs.State.{most_blocks, most_frames, most_lights, with_frame, name_or, translated_by, scaled_by, rotated_by, of_rows, Stepped, first_state, opened, innermost, closed, outer, frame_ended, attributes_ended, transform_ended, world_with, frame_made, world_ended, with_choices, option_set, display_set, with_current, with_before, space_of, use_of, next_shader, with_shader, light_added, light_made, handle_for, illuminated_by, light_named, prim_of, with_patches, patches_placed, room_left, primitive_under, primitive_set}
+use Rattle.scene_state.specs.State.{most_blocks, most_frames, most_lights, with_frame, name_or, translated_by, scaled_by, rotated_by, of_rows, Stepped, first_state, opened, innermost, closed, outer, frame_ended, attributes_ended, transform_ended, world_with, frame_made, world_ended, with_choices, option_set, display_set, with_current, with_before, space_of, use_of, next_shader, with_shader, light_added, light_made, illuminated_by, light_named, prim_of, with_patches, patches_placed, room_left, primitive_under, primitive_set}
 use Rattle.scene_state.specs.Steps.{with_surface, with_displacement, with_atmosphere, step}
-use Rattle.scene_state.specs.Unnamed.{first_named, unnamed, AreAt, SomeAreAt, last_lights, LastAreAt}
+use Rattle.scene_state.specs.Unnamed.{first_named, AreAt, SomeAreAt, last_lights, LastAreAt}
 use Rattle.scene_state.specs.declared.attributes.Attributes.{Attributes}
 use Rattle.scene_state.specs.declared.shaders.Slot.{Slot}
 use Rattle.scene_state.specs.declared.shaders.Slot.TheVariants.{Waiting, Used}
@@ -39,7 +37,7 @@ use Rattle.scene_state.specs.declared.state.Block.{Block}
 use Rattle.scene_state.specs.declared.state.Block.TheVariants.{InFrame, InWorld, InAttributes, InTransform}
 use Rattle.scene_state.specs.declared.state.World.{World}
 use Rattle.scene_state.specs.declared.state.State.{State}
-use Rattle.scene_state.proofs.Keeping.{Of, all_more, all_of, IsShader, SlotIs, Wears, BlockWears, IsHandle, IsGood, placed_keeps, some_placed_keeps, keeps_both}
+use Rattle.scene_state.proofs.Keeping.{Of, all_more, all_of, IsShader, SlotIs, BlockWears, IsHandle, IsGood, placed_keeps, some_placed_keeps, keeps_both}
 
 -- ---- places of requests
 
@@ -104,9 +102,10 @@ placed_at_in s k (Some (Waiting w)) at is = set_there s.slots w (length s.uses) 
 all_at : (s : Shaders) (ks : List ℕ) → All (IsShader s kinds.Light) ks → AreAt (all_placed s ks).0.slots ks (all_placed s ks).1
 all_at s [] all = tt
 all_at s (k ∷ ks) all =
-    let p = placed s k in
-    (all_stay p.0 ks k p.1 (placed_at_in s k (slice_get s.slots k) refl (all 0 k (omega arith))),
-    all_at p.0 ks (λ j d h. (placed_keeps s k).shaders kinds.Light (slice_index_or ks j d) (all (suc j) d (omega (arith, h)))))
+    let p = placed s k in (
+      all_stay p.0 ks k p.1 (placed_at_in s k (slice_get s.slots k) refl (all 0 k (omega arith))),
+      all_at p.0 ks (λ j d h. (placed_keeps s k).shaders kinds.Light (slice_index_or ks j d) (all (suc j) d (omega (arith, h)))),
+    )
 
 -- what has a place has it again, and nothing changes
 all_again : (s : Shaders) (ks ns : List ℕ) → AreAt s.slots ks ns → all_placed s ks ≡ (s, take (length ks) ns)
@@ -129,6 +128,23 @@ pub front_and : (s t : Shaders) (front others lights ns ms : List ℕ) → AreAt
 front_and s t front others lights ns ms h e is =
     ap (λ (x : Shaders × List ℕ). (x.0, take (length front) ns ++ x.1)) e
     ∙ sym (ap (then_placed others) (all_again s front ns h)) ∙ sym (all_both s front others) ∙ sym (ap (all_placed s) is)
+
+pub shared_and : (s t : Shaders) (front others lights shared ms places : List ℕ) (n : ℕ) (o : Option (List ℕ)) → SomeAreAt s.slots front o → n ≡ length front → option_map (take n) o ≡ Some shared
+    → (t, ms) ≡ all_placed s others → lights ≡ front ++ others → places ≡ shared ++ ms → (t, places) ≡ all_placed s lights
+shared_and s t front others lights shared ms places n None h len first e is all = absurd cc
+shared_and s t front others lights shared ms places n (Some ns) h len first e is all =
+    ap (λ (ps : List ℕ). (t, ps)) (all ∙ ap (λ (ps : List ℕ). ps ++ ms) (same (take n ns) shared first) ∙ ap (λ (k : ℕ). take k ns ++ ms) len) ∙ front_and s t front others lights ns ms h e is
+  where
+    same : (xs ys : List ℕ) → Some xs ≡ Some ys → ys ≡ xs
+    same xs ys e = cc
+
+-- what is a use stays one while the shaders before the lights are placed
+pub worn_stay : (s : Shaders) (a : Attributes) (d : Shaders × Option ℕ) (f : Shaders × ℕ) (v : Shaders × Option ℕ) → d ≡ some_placed s a.displacement → f ≡ placed d.0 a.surface
+    → v ≡ some_placed f.0 a.atmosphere → Stay s.slots v.0.slots
+worn_stay s a d f v ed ef ev = λ k n h.
+    subst (λ (x : Shaders × Option ℕ). slice_get x.0.slots k ≡ Some (Used n)) (sym ev) (some_stay f.0 a.atmosphere k n
+    (subst (λ (x : Shaders × ℕ). slice_get x.0.slots k ≡ Some (Used n)) (sym ef) (placed_stay d.0 a.surface k n
+    (subst (λ (x : Shaders × Option ℕ). slice_get x.0.slots k ≡ Some (Used n)) (sym ed) (some_stay s a.displacement k n h)))))
 
 -- ---- lights without a number, and those that have one behind them
 
@@ -182,7 +198,7 @@ front_without : (f k : ℕ) (es ls : List ℕ) → f ≤ k → Front (Some f) es
 front_without f k es ls h front = record {
   later = without_light k front.later;
   is = ap (without_light k) front.is ∙ filter-append (λ n. not (n == k)) es front.later
-       ∙ ap (λ (ms : List ℕ). ms ++ without_light k front.later) (all_left f k es front.fits.0 h);
+      ∙ ap (λ (ms : List ℕ). ms ++ without_light k front.later) (all_left f k es front.fits.0 h);
   fits = (front.fits.0, All-filter (λ n. not (n == k)) (λ n. f ≤ n) front.later front.fits.1);
 }
 

@@ -1,5 +1,5 @@
 // Shader requests, and lights by their numbers.
-ghost use Rattle.std.specs.Prelude.{◌≡◌, IfOk, slice_get, option_map};
+ghost use Rattle.std.specs.Prelude.{◌≡◌, IfOk, IfSome, Some, slice_get, option_map, take};
 ghost use Rattle.scene_parts.specs.Lights.{made_before};
 ghost use Rattle.scene_state.specs.Unnamed.{SomeAreAt};
 ghost use Rattle.scene_state.specs.Shaders.{IsWaiting, first_shaders, with_request, placed, some_placed, all_placed, worn_by, light_of};
@@ -150,14 +150,11 @@ impl Shaders {
         let Some((front, others)) = lights.split_at(first) else {
             return self.place_each(alloc, lights, 0);
         };
-        let shared = match last {
-            Some(last) => last.first(alloc, front)?,
-            None => None,
+        let Some(shared) = first_of(alloc, last, front)? else {
+            return self.place_each(alloc, lights, front);
         };
-        match shared {
-            Some(shared) => shared.and(alloc, self.place_all(alloc, others)?.as_slice()),
-            None => self.place_each(alloc, lights, front),
-        }
+        let places = self.place_all(alloc, others)?;
+        shared.and(alloc, places.as_slice())
     }
 
     /// The places of those that a primitive with these attributes has, where the last one's lights begin with the places of all
@@ -182,6 +179,20 @@ impl Shaders {
             atmosphere,
             lights,
         })
+    }
+}
+
+// The first `front` places of the last lights, where there are some and they can be shared.
+fn first_of(
+    alloc: Global,
+    last: Option<&LightPlaces>,
+    front: usize,
+) -> Result<Option<LightPlaces>, NoMemory>
+    ensures { IfOk result (λ o. IfSome o (λ l. option_map (take front) (option_map (λ p. p.now) last.entry) ≡ Some l)) }
+{
+    match last {
+        Some(last) => last.first(alloc, front),
+        None => Ok(None),
     }
 }
 

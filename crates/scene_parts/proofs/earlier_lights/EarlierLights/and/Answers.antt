@@ -1,6 +1,6 @@
-use Rattle.std.proofs.Common.{arith, rules}
+use Rattle.std.proofs.Common.{arith}
 use Rattle.std.proofs.lemmas.Grind.{common_steps}
-use Rattle.scene_parts.proofs.LightRuns.{run_more, run_longer}
+use Rattle.scene_parts.proofs.LightRuns.{run_more}
 use Rattle.scene_parts.proofs.earlier_lights.EarlierLights.and.Goals as goal
 
 pub invariant_of-result : goal.invariant_of-result

@@ -1,4 +1,4 @@
-use Rattle.std.proofs.Common.{◌≡◌, ◌∙◌, ap, sym, refl, subst, arith, ℕ, suc, ◌+◌, ◌<◌, ◌≤◌, List, ◌∷◌, length, map, drop, drop_of_length-le, slice_get, slice_index_or, Some, Result, Ok, Err}
+use Rattle.std.proofs.Common.{◌≡◌, ◌∙◌, ap, sym, refl, subst, arith, ℕ, suc, ◌+◌, ◌<◌, ◌≤◌, List, ◌∷◌, length, map, drop, drop_of_length-le, slice_get, slice_index_or, Result, Ok, Err}
 use Rattle.std.proofs.Math.Seq.{drop-cons}
 use Rattle.rib_reader.specs.declared.request.Request.{Request}
 use Rattle.rib_reader.specs.Reading.{plain}
@@ -8,10 +8,7 @@ use Rattle.scene_state.specs.declared.state.State.{State}
 use Rattle.scene_parts.specs.declared.code.StateCode.{StateCode}
 use Rattle.scene_state.specs.declared.fault.StepFault.{StepFault}
 use Rattle.scene_state.specs.declared.fault.StepFault.TheVariants.{Refused, NoMemory}
-use Rattle.rib_reader.specs.declared.req.Req.TheVariants as reqs
-use Rattle.rib_reader.specs.declared.table.Shape.TheVariants.{Whole}
 use Rattle.rib_reader.specs.Table.{shapes_of}
-use Rattle.rib_reader.specs.Rules.{whole_at}
 use Rattle.rib_reader.proofs.Fits.{whole_stands}
 use Rattle.scene_state.proofs.Keeping.{IsGood, GoodStep, good_step, first_good}
 use Rattle.scene_state.proofs.UnnamedLights.{HasNumber, IsLit, last_are_at, step_lit, first_lit}
@@ -63,9 +60,12 @@ loop-request-preserved c =
     let s = c.loop-request.self in
     let to : after (plain x) s ≡ Ok c.step.new.self = subst (λ r. Steps r (after (plain x) s) c.step.new.self) c.in_default.is c.step.ensures in
     let good = subst GoodStep to (good_step x.name (plain x) s c.loop-request.invariant.1) in
-    let lit = step_lit x.name (plain x) s c.step.new.self to (has_number x) c.loop-request.invariant.1 c.loop-request.invariant.2 in
-    (one_done c.args.requests.now c.loop-request.request-index x s c.step.new.self _ c.step.result c.in_default.field-0 c.loop-request-test.true c.request-item.is
-    c.step.ensures c.in_default.is c.loop-request.invariant.0, good, lit)
+    let lit = step_lit x.name (plain x) s c.step.new.self to (has_number x) c.loop-request.invariant.1 c.loop-request.invariant.2 in (
+      one_done c.args.requests.now c.loop-request.request-index x s c.step.new.self _ c.step.result c.in_default.field-0 c.loop-request-test.true c.request-item.is
+          c.step.ensures c.in_default.is c.loop-request.invariant.0,
+      good,
+      lit,
+    )
 
 pub step-requires : goal.step-requires
 step-requires c = last_are_at c.loop-request.self c.loop-request.invariant.2
