@@ -3,7 +3,7 @@ use Rattle.std.proofs.Common.{◌≡◌, ℕ, ◌+◌, ◌-◌, ◌*◌, ◌≤�
 use Rattle.std.proofs.Math.Nat.{mul-le-mul}
 use Rattle.std.proofs.lemmas.List.{length-map}
 use Rattle.patches.specs.Parts.{Part, whole_of}
-use Rattle.dice.specs.declared.diced.GridRef.{GridRef}
+use Rattle.hider.specs.declared.seen_grid.SeenGrid.{SeenGrid}
 use Rattle.bound_split.specs.Leaves.{leaves}
 use Rattle.scene.specs.Scene.{PrimValue, FrameValue}
 use Rattle.grid_epoch.specs.Kept.{points_in}
@@ -43,19 +43,19 @@ few_epochs d h =
     omega (arith, s, e)
 
 -- behind the last tile the counts are those of the whole walk
-last_counts : (e : InEpoch) (n : ℕ) (kept : List (Part × GridRef)) (count : ℕ) → n ≡ tile_count e.begun.drawing → (b : Before e n kept count) → b.counts ≡ tile_walk e.begun.drawing
+last_counts : (e : InEpoch) (n : ℕ) (kept : List (Part × SeenGrid)) (count : ℕ) → n ≡ tile_count e.begun.drawing → (b : Before e n kept count) → b.counts ≡ tile_walk e.begun.drawing
 last_counts e n kept count is b =
     let d = e.begun.drawing in
     let none : tile_count d - n ≡ 0 = omega (arith, is) in
     ap (λ k. past_tiles d k n b.counts) (sym none) ∙ b.walk
 
-pub ends_shadings : (e : InEpoch) (n : ℕ) (kept : List (Part × GridRef)) (count : ℕ) → n ≡ tile_count e.begun.drawing → Before e n kept count → count ≡ e.begun.count + (tile_walk e.begun.drawing).shadings
+pub ends_shadings : (e : InEpoch) (n : ℕ) (kept : List (Part × SeenGrid)) (count : ℕ) → n ≡ tile_count e.begun.drawing → Before e n kept count → count ≡ e.begun.count + (tile_walk e.begun.drawing).shadings
 ends_shadings e n kept count is b = b.counted.shadings ∙ ap (λ (c : Counts). e.begun.count + c.shadings) (last_counts e n kept count is b)
 
-pub ends_epochs : (e : InEpoch) (n : ℕ) (kept : List (Part × GridRef)) (count : ℕ) → n ≡ tile_count e.begun.drawing → Before e n kept count → e.epochs ≡ e.begun.epochs + (tile_walk e.begun.drawing).epochs
+pub ends_epochs : (e : InEpoch) (n : ℕ) (kept : List (Part × SeenGrid)) (count : ℕ) → n ≡ tile_count e.begun.drawing → Before e n kept count → e.epochs ≡ e.begun.epochs + (tile_walk e.begun.drawing).epochs
 ends_epochs e n kept count is b = b.counted.epochs ∙ ap (λ (c : Counts). e.begun.epochs + c.epochs) (last_counts e n kept count is b)
 
-pub ends_points : (e : InEpoch) (n : ℕ) (kept : List (Part × GridRef)) (count : ℕ) → n ≡ tile_count e.begun.drawing → Before e n kept count
+pub ends_points : (e : InEpoch) (n : ℕ) (kept : List (Part × SeenGrid)) (count : ℕ) → n ≡ tile_count e.begun.drawing → Before e n kept count
     → max e.most_points (points_in kept) ≡ max e.begun.most_points (most_points e.begun.drawing)
 ends_points e n kept count is b =
     let c = last_counts e n kept count is b in

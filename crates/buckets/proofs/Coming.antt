@@ -66,7 +66,7 @@ skips_then test a b c h k = record {
 failing : (test : Part → Bool) (p : Part) (ps : List Part) → filter test (p ∷ ps) ≡ [] → (test p ≡ false) × (filter test ps ≡ [])
 failing test p ps h = by_bool (test p) (λ t. absurd (let k : p ∷ filter test ps ≡ [] = rw t at h in cc)) (λ f. (f, rw f at h))
 
-none_meet : (f : FrameValue) (r : PixelRect) (back : ℤ → Bool) (prim : PrimValue) (ps : List Part) → filter (part_shows f prim r back) ps ≡ [] → filter (shows_in f r back) (map (leaf_in prim) ps) ≡ []
+pub none_meet : (f : FrameValue) (r : PixelRect) (back : ℤ → Bool) (prim : PrimValue) (ps : List Part) → filter (part_shows f prim r back) ps ≡ [] → filter (shows_in f r back) (map (leaf_in prim) ps) ≡ []
 unfolding shows_in
 none_meet f r back prim [] h = refl
 none_meet f r back prim (p ∷ ps) h =

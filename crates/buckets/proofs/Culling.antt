@@ -15,7 +15,7 @@ use Rattle.patches.specs.Boxes.{Box}
 use Rattle.patches.specs.Lists.{Each}
 use Rattle.patches.specs.ListLaws.{Each-weaken}
 use Rattle.patches.specs.Parts.{Part, IsPart, rect_of}
-use Rattle.patches.specs.Patches.{patch_box, patch_net, patch_width}
+use Rattle.quadrics.specs.AnyPatches.{patch_box, patch_net, patch_width}
 use Rattle.transforms.specs.declared.view.View.{View}
 use Rattle.transforms.specs.Field.{IsView}
 use Rattle.transforms.specs.Raster.{raster_x, raster_y, raster_box, side, HoldsPlaces}

@@ -4,7 +4,7 @@ use Rattle.std.specs.Prelude.{nat_le, ◌&&◌, not, IsTrue}
 use Rattle.std.proofs.lemmas.Bool.{and_parts}
 use Rattle.std.proofs.lemmas.List.{append-nil}
 use Rattle.patches.specs.Parts.{Part}
-use Rattle.dice.specs.declared.diced.GridRef.{GridRef}
+use Rattle.hider.specs.declared.seen_grid.SeenGrid.{SeenGrid}
 use Rattle.bound_split.specs.declared.walk.Leaf.{Leaf}
 use Rattle.scene.specs.Scene.{FrameValue}
 use Rattle.hider.specs.declared.fragment.Fragment.{Fragment}
@@ -36,7 +36,7 @@ lawful_behind : (d : Drawing) (n : ℕ) (xs ys : List FrameLeaf) → AreLawful d
 lawful_behind d n [] ys h = h
 lawful_behind d n (x ∷ xs) ys h = lawful_behind d n xs ys h.1
 
-pub lawful_rest : (e : InEpoch) (n : ℕ) (tile : TileValue) (rest : List FrameLeaf) (kept : List (Part × GridRef)) (count : ℕ) → Goes e n tile rest kept count
+pub lawful_rest : (e : InEpoch) (n : ℕ) (tile : TileValue) (rest : List FrameLeaf) (kept : List (Part × SeenGrid)) (count : ℕ) → Goes e n tile rest kept count
     → AreLawful e.begun.drawing n (frame_leaves e.begun.drawing.frame) → AreLawful e.begun.drawing n rest
 lawful_rest e n tile rest kept count g all = lawful_behind e.begun.drawing n g.past rest (subst (AreLawful e.begun.drawing n) (sym g.split) all)
 
@@ -91,11 +91,11 @@ unshown_shows d n shown x t law same shows unshown =
     (λ m. law.outside t same m)
 
 -- the drawing is past such a leaf, and shows what it showed
-pub record GoesStill (e : InEpoch) (n : ℕ) (tile : TileValue) (shown rest : List FrameLeaf) (kept : List (Part × GridRef)) (count : ℕ) : Type 0 where
+pub record GoesStill (e : InEpoch) (n : ℕ) (tile : TileValue) (shown rest : List FrameLeaf) (kept : List (Part × SeenGrid)) (count : ℕ) : Type 0 where
   pub goes : Goes e n tile rest kept count
   pub same : goes.shown ≡ shown
 
-goes_unshown : (e : InEpoch) (n : ℕ) (tile : TileValue) (x : FrameLeaf) (rest : List FrameLeaf) (kept : List (Part × GridRef)) (count : ℕ)
+goes_unshown : (e : InEpoch) (n : ℕ) (tile : TileValue) (x : FrameLeaf) (rest : List FrameLeaf) (kept : List (Part × SeenGrid)) (count : ℕ)
     → IsLawful e.begun.drawing n x → (g : Goes e n tile (x ∷ rest) kept count) → is_shown e.begun.drawing n g.shown x ≡ false → GoesStill e n tile g.shown rest kept count
 goes_unshown e n tile x rest kept count law g unshown =
     let d = e.begun.drawing in
@@ -118,7 +118,7 @@ goes_unshown e n tile x rest kept count law g unshown =
     }
 
 -- ---- a leaf behind what shows
-pub goes_behind : (e : InEpoch) (n : ℕ) (tile : TileValue) (x : FrameLeaf) (rest : List FrameLeaf) (kept : List (Part × GridRef)) (count : ℕ)
+pub goes_behind : (e : InEpoch) (n : ℕ) (tile : TileValue) (x : FrameLeaf) (rest : List FrameLeaf) (kept : List (Part × SeenGrid)) (count : ℕ)
     → IsLawful e.begun.drawing n x → meets_tile e.begun.drawing n x ≡ true → ((f : Sample → List Fragment) → Shows tile f → BlocksAll (nearest e.begun.drawing x) tile.grid f)
     → Goes e n tile (x ∷ rest) kept count → Goes e n tile rest kept count
 goes_behind e n tile x rest kept count law meets blocked g =
@@ -141,14 +141,14 @@ goes_behind e n tile x rest kept count law meets blocked g =
 
 -- ---- a leaf that is hidden
 -- where a leaf isn't behind what shows, it isn't behind in the walk
-pub not_behind : (e : InEpoch) (n : ℕ) (tile : TileValue) (x : FrameLeaf) (rest : List FrameLeaf) (kept : List (Part × GridRef)) (count : ℕ) (b : Bool)
+pub not_behind : (e : InEpoch) (n : ℕ) (tile : TileValue) (x : FrameLeaf) (rest : List FrameLeaf) (kept : List (Part × SeenGrid)) (count : ℕ) (b : Bool)
     → b ≡ false → ((f : Sample → List Fragment) → Shows tile f → IsTrue b ↔ BlocksAll (nearest e.begun.drawing x) tile.grid f) → (g : Goes e n tile (x ∷ rest) kept count) → is_behind e.begun.drawing n g.shown x ≡ false
 not_behind e n tile x rest kept count b is blocked g =
     by_bool (is_behind e.begun.drawing n g.shown x)
     (λ t. let h : b ≡ true = (blocked (fragments_of e.begun.drawing g.shown) g.shows).1 (behind_blocked e.begun.drawing n g.shown x tile g.grid t) in absurd (cc))
     (λ f. f)
 
-pub goes_used : (e : InEpoch) (n : ℕ) (old new : TileValue) (x : FrameLeaf) (rest : List FrameLeaf) (kept kept' : List (Part × GridRef)) (count count' : ℕ)
+pub goes_used : (e : InEpoch) (n : ℕ) (old new : TileValue) (x : FrameLeaf) (rest : List FrameLeaf) (kept kept' : List (Part × SeenGrid)) (count count' : ℕ)
     → meets_tile e.begun.drawing n x ≡ true → new.grid ≡ old.grid → AreGrids e.begun.drawing kept'
     → ShowsMore e.begun.drawing.frame.camera (leaf_micropolygons e.begun.drawing.accepted e.begun.drawing.frame x.prim x.part) old new
     → ((c : Counts) → Keeps kept c → CountsGo c (with_needed e.begun.drawing.limit x.part (leaf_points e.begun.drawing x) c) kept' count count')
@@ -178,7 +178,7 @@ goes_used e n old new x rest kept kept' count count' meets same grids more go g 
     }
 
 -- ---- no room for a leaf
-pub goes_full : (e : InEpoch) (n : ℕ) (tile : TileValue) (x : FrameLeaf) (rest : List FrameLeaf) (kept : List (Part × GridRef)) (count : ℕ)
+pub goes_full : (e : InEpoch) (n : ℕ) (tile : TileValue) (x : FrameLeaf) (rest : List FrameLeaf) (kept : List (Part × SeenGrid)) (count : ℕ)
     → meets_tile e.begun.drawing n x ≡ true → leaf_points e.begun.drawing x ≤ e.begun.drawing.limit
     → has x.part (pieces_in kept) ≡ false → nat_le (points_in kept + leaf_points e.begun.drawing x) e.begun.drawing.limit ≡ false
     → (g : Goes e n tile (x ∷ rest) kept count) → is_behind e.begun.drawing n g.shown x ≡ false → Goes (next_epoch (points_in kept) e) n tile (x ∷ rest) [] count
@@ -219,19 +219,19 @@ rest_rises e n w rest is =
     let t = ap (λ (c : Counts). c.epochs) is in
     (omega (arith, a.shadings, b.shadings, s), omega (arith, a.epochs, b.epochs, t))
 
-pub goes_shaded : (e : InEpoch) (n : ℕ) (tile : TileValue) (rest : List FrameLeaf) (kept : List (Part × GridRef)) (count : ℕ) → Goes e n tile rest kept count → ShadesInPart e.begun count
+pub goes_shaded : (e : InEpoch) (n : ℕ) (tile : TileValue) (rest : List FrameLeaf) (kept : List (Part × SeenGrid)) (count : ℕ) → Goes e n tile rest kept count → ShadesInPart e.begun count
 goes_shaded e n tile rest kept count g =
     let r = rest_rises e n (walked g.shown g.counts) rest g.walk in
     let s = g.counted.shadings in
     (omega (arith, s), omega (arith, s, r.0))
 
-pub goes_epochs : (e : InEpoch) (n : ℕ) (tile : TileValue) (rest : List FrameLeaf) (kept : List (Part × GridRef)) (count : ℕ) → Goes e n tile rest kept count → e.epochs ≤ e.begun.epochs + (tile_walk e.begun.drawing).epochs
+pub goes_epochs : (e : InEpoch) (n : ℕ) (tile : TileValue) (rest : List FrameLeaf) (kept : List (Part × SeenGrid)) (count : ℕ) → Goes e n tile rest kept count → e.epochs ≤ e.begun.epochs + (tile_walk e.begun.drawing).epochs
 goes_epochs e n tile rest kept count g =
     let r = rest_rises e n (walked g.shown g.counts) rest g.walk in
     let s = g.counted.epochs in
     omega (arith, s, r.1)
 
-pub goes_used_part : (e : InEpoch) (n : ℕ) (old : TileValue) (x : FrameLeaf) (rest : List FrameLeaf) (kept : List (Part × GridRef)) (count count' : ℕ)
+pub goes_used_part : (e : InEpoch) (n : ℕ) (old : TileValue) (x : FrameLeaf) (rest : List FrameLeaf) (kept : List (Part × SeenGrid)) (count count' : ℕ)
     → meets_tile e.begun.drawing n x ≡ true → count ≤ count'
     → ((c : Counts) → Keeps kept c → count' + c.shadings ≤ count + (with_needed e.begun.drawing.limit x.part (leaf_points e.begun.drawing x) c).shadings)
     → (g : Goes e n old (x ∷ rest) kept count) → is_behind e.begun.drawing n g.shown x ≡ false → ShadesInPart e.begun count'
@@ -248,7 +248,7 @@ goes_used_part e n old x rest kept count count' meets least most g front =
 failing : (test : FrameLeaf → Bool) (x : FrameLeaf) (xs : List FrameLeaf) → filter test (x ∷ xs) ≡ [] → (test x ≡ false) × (filter test xs ≡ [])
 failing test x xs h = by_bool (test x) (λ t. absurd (let k : x ∷ filter test xs ≡ [] = rw t at h in cc)) (λ f. (f, rw f at h))
 
-goes_past : (e : InEpoch) (n : ℕ) (tile : TileValue) (shown skipped rest : List FrameLeaf) (kept : List (Part × GridRef)) (count : ℕ)
+goes_past : (e : InEpoch) (n : ℕ) (tile : TileValue) (shown skipped rest : List FrameLeaf) (kept : List (Part × SeenGrid)) (count : ℕ)
     → AreLawful e.begun.drawing n (skipped ++ rest) → filter (shows_in e.begun.drawing.frame (rect_of_grid (tile_grid e.begun.drawing n)) (behind_in e.begun.drawing n shown)) skipped ≡ []
     → GoesStill e n tile shown (skipped ++ rest) kept count → GoesStill e n tile shown rest kept count
 goes_past e n tile shown [] rest kept count laws none g = g
@@ -259,7 +259,7 @@ goes_past e n tile shown (x ∷ xs) rest kept count laws none g =
     let next = goes_unshown e n tile x (xs ++ rest) kept count laws.0 g.goes unshown in
     goes_past e n tile shown xs rest kept count laws.1 f.1 (record { goes = next.goes; same = next.same ∙ g.same })
 
-goes_skipping : (e : InEpoch) (n : ℕ) (tile : TileValue) (old new : List FrameLeaf) (kept : List (Part × GridRef)) (count : ℕ)
+goes_skipping : (e : InEpoch) (n : ℕ) (tile : TileValue) (old new : List FrameLeaf) (kept : List (Part × SeenGrid)) (count : ℕ)
     → AreLawful e.begun.drawing n (frame_leaves e.begun.drawing.frame) → (g : Goes e n tile old kept count)
     → Skips (shows_in e.begun.drawing.frame (rect_of_grid (tile_grid e.begun.drawing n)) (behind_in e.begun.drawing n g.shown)) old new → Goes e n tile new kept count
 goes_skipping e n tile old new kept count laws g skips =
@@ -271,25 +271,25 @@ goes_skipping e n tile old new kept count laws g skips =
 abbrev pub GivesShown : (e : InEpoch) → ℕ → List FrameLeaf → Option Leaf → List FrameLeaf → List FrameLeaf → Type 0
 GivesShown e n shown next old new = GivesNext e.begun.drawing.frame (shows_in e.begun.drawing.frame (rect_of_grid (tile_grid e.begun.drawing n)) (behind_in e.begun.drawing n shown)) next old new
 
-pub goes_next : (next : Option Leaf) (e : InEpoch) (n : ℕ) (tile : TileValue) (old new : List FrameLeaf) (kept : List (Part × GridRef)) (count : ℕ)
+pub goes_next : (next : Option Leaf) (e : InEpoch) (n : ℕ) (tile : TileValue) (old new : List FrameLeaf) (kept : List (Part × SeenGrid)) (count : ℕ)
     → AreLawful e.begun.drawing n (frame_leaves e.begun.drawing.frame) → (g : Goes e n tile old kept count) → GivesShown e n g.shown next old new → Going e n tile next new kept count
 goes_next None e n tile old new kept count laws g gives = record { rest = []; comes = refl; goes = goes_skipping e n tile old [] kept count laws g gives.0 }
 goes_next (Some leaf) e n tile old new kept count laws g gives =
     record { rest = gives.0 ∷ new; comes = (gives.0, gives.1, shows_meets e.begun.drawing n g.shown gives.0 gives.2, refl); goes = goes_skipping e n tile old (gives.0 ∷ new) kept count laws g gives.3 }
 
-pub going_none : (next : Option Leaf) (e : InEpoch) (n : ℕ) (tile : TileValue) (behind : List FrameLeaf) (kept : List (Part × GridRef)) (count : ℕ)
+pub going_none : (next : Option Leaf) (e : InEpoch) (n : ℕ) (tile : TileValue) (behind : List FrameLeaf) (kept : List (Part × SeenGrid)) (count : ℕ)
     → next ≡ None → Going e n tile next behind kept count → Goes e n tile [] kept count
 going_none None e n tile behind kept count is g = subst (λ r. Goes e n tile r kept count) g.comes g.goes
 going_none (Some leaf) e n tile behind kept count is g = absurd (cc)
 
 -- ---- from tile to tile
-pub goes_done : (e : InEpoch) (n : ℕ) (tile : TileValue) (kept : List (Part × GridRef)) (count : ℕ) → Goes e n tile [] kept count → Before e (n + 1) kept count
+pub goes_done : (e : InEpoch) (n : ℕ) (tile : TileValue) (kept : List (Part × SeenGrid)) (count : ℕ) → Goes e n tile [] kept count → Before e (n + 1) kept count
 goes_done e n tile kept count g = record { counts = g.counts; grids = g.grids; keeps = g.keeps; counted = g.counted; walk = g.walk }
 
-pub goes_whole : (e : InEpoch) (n : ℕ) (tile : TileValue) (kept : List (Part × GridRef)) (count : ℕ) → Goes e n tile [] kept count → Shows tile (fragments_of e.begun.drawing (frame_leaves e.begun.drawing.frame))
+pub goes_whole : (e : InEpoch) (n : ℕ) (tile : TileValue) (kept : List (Part × SeenGrid)) (count : ℕ) → Goes e n tile [] kept count → Shows tile (fragments_of e.begun.drawing (frame_leaves e.begun.drawing.frame))
 goes_whole e n tile kept count g = subst (λ xs. Shows tile (fragments_of e.begun.drawing xs)) (sym (append-nil g.past) ∙ g.split) g.shows_past
 
-pub goes_begun : (e : InEpoch) (n : ℕ) (tile : TileValue) (kept : List (Part × GridRef)) (count : ℕ) → Before e n kept count → n < tile_count e.begun.drawing → tile.grid ≡ tile_grid e.begun.drawing n → Shows tile (λ s. [])
+pub goes_begun : (e : InEpoch) (n : ℕ) (tile : TileValue) (kept : List (Part × SeenGrid)) (count : ℕ) → Before e n kept count → n < tile_count e.begun.drawing → tile.grid ≡ tile_grid e.begun.drawing n → Shows tile (λ s. [])
     → Goes e n tile (frame_leaves e.begun.drawing.frame) kept count
 unfolding past_tile
 goes_begun e n tile kept count b low grid empty =

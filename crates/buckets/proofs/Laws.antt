@@ -3,7 +3,7 @@ use Rattle.std.proofs.Common.{◌≡◌, ℕ, zero, suc, ◌+◌, ◌<◌, arith
 use Rattle.std.specs.Prelude.{All, slice_get}
 use Rattle.std.proofs.lemmas.Int.{ints}
 use Rattle.patches.specs.Parts.{Part, IsPart, rect_of as part_rect, whole_of, low_u, high_u, low_v, high_v}
-use Rattle.patches.specs.Patches.{patch_net, patch_width}
+use Rattle.quadrics.specs.AnyPatches.{patch_net, patch_width}
 use Rattle.patches.proofs.Spans.{low_u-IsPart, high_u-IsPart, low_v-IsPart, high_v-IsPart}
 use Rattle.bound_split.specs.declared.splits.Decision.{Decision}
 use Rattle.bound_split.specs.declared.splits.Decision.TheVariants.{SplitU, SplitV, Dice}

@@ -9,6 +9,8 @@ pub mod Cover
 pub mod BucketRows
 pub mod Counting
 pub mod Coming
+pub mod Narrowed
+pub mod Gaps
 pub mod Sighted
 pub mod Going
 pub mod Using

@@ -5,7 +5,7 @@ use Rattle.std.proofs.lemmas.Bool.{and_parts}
 use Rattle.std.proofs.lemmas.Int.{ints}
 use Rattle.fixed_math.specs.Spots.{PixelRect}
 use Rattle.patches.specs.Parts.{Part, IsPart, rect_of}
-use Rattle.patches.specs.Patches.{patch_box, patch_parts, patch_net, patch_width}
+use Rattle.quadrics.specs.AnyPatches.{patch_box, patch_parts, patch_net, patch_width}
 use Rattle.transforms.specs.Field.{IsView}
 use Rattle.bound_split.specs.Leaves.{depth, leaves}
 use Rattle.bound_split.proofs.Fitting.{decision-fits}

@@ -2,7 +2,7 @@
 use Rattle.std.proofs.Common.{◌≡◌, ℕ, ◌+◌, ◌^◌, ◌<◌, ◌≤◌, arith, refl, sym, ◌∙◌, ap, subst, Bool, true, false, ◌↔◌, List, [], ◌∷◌, ◌++◌, Option, Some, None, length, length-append}
 use Rattle.std.specs.Prelude.{ℤ, slice_get, IsTrue}
 use Rattle.patches.specs.Parts.{Part}
-use Rattle.dice.specs.declared.diced.GridRef.{GridRef}
+use Rattle.hider.specs.declared.seen_grid.SeenGrid.{SeenGrid}
 use Rattle.bound_split.specs.declared.walk.Leaf.{Leaf}
 use Rattle.bound_split.specs.declared.splits.Decision.TheVariants.{Dice}
 use Rattle.scene.specs.Scene.{PrimValue, FrameValue}
@@ -22,14 +22,14 @@ use Rattle.buckets.proofs.Bounds.{few_shadings}
 use Rattle.buckets.proofs.BucketPixels.{rect_is}
 
 -- the next leaf with its primitive
-pub record NextLeaf (e : InEpoch) (n : ℕ) (tile : TileValue) (leaf : Leaf) (prim : PrimValue) (behind : List FrameLeaf) (kept : List (Part × GridRef)) (count : ℕ) : Type 0 where
+pub record NextLeaf (e : InEpoch) (n : ℕ) (tile : TileValue) (leaf : Leaf) (prim : PrimValue) (behind : List FrameLeaf) (kept : List (Part × SeenGrid)) (count : ℕ) : Type 0 where
   pub sizes : decide e.begun.drawing.frame.camera prim leaf.piece ≡ Dice leaf.p leaf.q
   pub p : leaf.p ≤ 4
   pub q : leaf.q ≤ 4
   pub meets : meets_tile e.begun.drawing n (leaf_in prim leaf.piece) ≡ true
   pub goes : Goes e n tile (leaf_in prim leaf.piece ∷ behind) kept count
 
-next_of : (e : InEpoch) (n : ℕ) (tile : TileValue) (leaf : Leaf) (x : FrameLeaf) (part : Part) (behind rest : List FrameLeaf) (kept : List (Part × GridRef)) (count : ℕ)
+next_of : (e : InEpoch) (n : ℕ) (tile : TileValue) (leaf : Leaf) (x : FrameLeaf) (part : Part) (behind rest : List FrameLeaf) (kept : List (Part × SeenGrid)) (count : ℕ)
     → x.part ≡ part → leaf.piece ≡ part → IsLeafOf e.begun.drawing.frame leaf x → meets_tile e.begun.drawing n x ≡ true → rest ≡ x ∷ behind → Goes e n tile rest kept count
     → NextLeaf e n tile leaf x.prim behind kept count
 next_of e n tile leaf x part behind rest kept count same at' is meets split g =
@@ -43,7 +43,7 @@ next_of e n tile leaf x part behind rest kept count same at' is meets split g =
     }
 
 -- its primitive is one of the frame
-pub next_there : (e : InEpoch) (n : ℕ) (tile : TileValue) (leaf : Leaf) (behind : List FrameLeaf) (kept : List (Part × GridRef)) (count : ℕ) → IsDrawable e.begun.drawing → Going e n tile (Some leaf) behind kept count
+pub next_there : (e : InEpoch) (n : ℕ) (tile : TileValue) (leaf : Leaf) (behind : List FrameLeaf) (kept : List (Part × SeenGrid)) (count : ℕ) → IsDrawable e.begun.drawing → Going e n tile (Some leaf) behind kept count
     → (p : PrimValue) × (slice_get e.begun.drawing.frame.prims leaf.piece.prim ≡ Some p)
 next_there e n tile leaf behind kept count h g =
     let d = e.begun.drawing in
@@ -52,7 +52,7 @@ next_there e n tile leaf behind kept count h g =
     let is = leaf_is_in d g.goes.past x behind h all in
     (x.prim, ap (λ (p : Part). slice_get d.frame.prims p.prim) (sym g.comes.1.part) ∙ is.there)
 
-pub next_leaf_of : (e : InEpoch) (n : ℕ) (tile : TileValue) (leaf : Leaf) (prim : PrimValue) (behind : List FrameLeaf) (kept : List (Part × GridRef)) (count : ℕ) → IsDrawable e.begun.drawing → (g : Going e n tile (Some leaf) behind kept count)
+pub next_leaf_of : (e : InEpoch) (n : ℕ) (tile : TileValue) (leaf : Leaf) (prim : PrimValue) (behind : List FrameLeaf) (kept : List (Part × SeenGrid)) (count : ℕ) → IsDrawable e.begun.drawing → (g : Going e n tile (Some leaf) behind kept count)
     → slice_get e.begun.drawing.frame.prims leaf.piece.prim ≡ Some prim → NextLeaf e n tile leaf prim behind kept count
 next_leaf_of e n tile leaf prim behind kept count h g there =
     let d = e.begun.drawing in
@@ -64,12 +64,12 @@ next_leaf_of e n tile leaf prim behind kept count h g there =
     subst (λ p. NextLeaf e n tile leaf p behind kept count) same (next_of e n tile leaf x leaf.piece behind g.rest kept count g.comes.1.part refl g.comes.1 g.comes.2 g.comes.3 g.goes)
 
 -- ---- what becomes of it
-pub passes_behind : (e : InEpoch) (x : FrameLeaf) (tile : TileValue) (kept : List (Part × GridRef)) (count : ℕ) → IsDrawable e.begun.drawing
+pub passes_behind : (e : InEpoch) (x : FrameLeaf) (tile : TileValue) (kept : List (Part × SeenGrid)) (count : ℕ) → IsDrawable e.begun.drawing
     → ((f : Sample → List Fragment) → Shows tile f → BlocksAll (nearest e.begun.drawing x) tile.grid f) → PassesLeaf true e x tile kept count tile kept count
 passes_behind e x tile kept count h blocked = λ n rest meets g.
     goes_behind e n tile x rest kept count (leaf_lawful e.begun.drawing n x (leaf_is_in e.begun.drawing g.past x rest h g.split)) meets blocked g
 
-pub passes_used : (b : Bool) (e : InEpoch) (x : FrameLeaf) (old new : TileValue) (kept kept' : List (Part × GridRef)) (count count' : ℕ) (behind : Bool) → behind ≡ false
+pub passes_used : (b : Bool) (e : InEpoch) (x : FrameLeaf) (old new : TileValue) (kept kept' : List (Part × SeenGrid)) (count count' : ℕ) (behind : Bool) → behind ≡ false
     → ((f : Sample → List Fragment) → Shows old f → IsTrue behind ↔ BlocksAll (nearest e.begun.drawing x) old.grid f) → leaf_points e.begun.drawing x ≤ e.begun.drawing.limit → new.grid ≡ old.grid
     → Uses b e.begun.drawing x kept count old kept' count' new → PassesLeaf b e x old kept count new kept' count'
 passes_used true e x old new kept kept' count count' behind is blocked fits same u = λ n rest meets g.
@@ -79,7 +79,7 @@ passes_used false e x old new kept kept' count count' behind is blocked fits sam
     subst (λ ks. Goes (next_epoch (points_in ks) e) n new (x ∷ rest) [] count') (sym u.0)
     (subst (λ t. Goes (next_epoch (points_in kept) e) n t (x ∷ rest) [] count') (sym u.2) (subst (λ k. Goes (next_epoch (points_in kept) e) n old (x ∷ rest) [] k) (sym u.1) next))
 
-pub passes_in_part : (e : InEpoch) (x : FrameLeaf) (old : TileValue) (kept : List (Part × GridRef)) (count count' : ℕ) (behind : Bool) → behind ≡ false
+pub passes_in_part : (e : InEpoch) (x : FrameLeaf) (old : TileValue) (kept : List (Part × SeenGrid)) (count count' : ℕ) (behind : Bool) → behind ≡ false
     → ((f : Sample → List Fragment) → Shows old f → IsTrue behind ↔ BlocksAll (nearest e.begun.drawing x) old.grid f) → UsesInPart e.begun.drawing x kept count count' → PassesInPart e x old kept count count'
 passes_in_part e x old kept count count' behind is blocked u = λ n rest meets g.
     goes_used_part e n old x rest kept count count' meets u.0 u.2 g (not_behind e n old x rest kept count behind is blocked g)
@@ -122,14 +122,14 @@ fewer (Some leaf) f test old new gives =
     omega (arith, split, sum)
 
 -- a leaf that was next, in the next epoch
-pub going_again : (e : InEpoch) (n : ℕ) (tile : TileValue) (leaf : Leaf) (prim : PrimValue) (behind : List FrameLeaf) (kept : List (Part × GridRef)) (count : ℕ)
+pub going_again : (e : InEpoch) (n : ℕ) (tile : TileValue) (leaf : Leaf) (prim : PrimValue) (behind : List FrameLeaf) (kept : List (Part × SeenGrid)) (count : ℕ)
     → decide e.begun.drawing.frame.camera prim leaf.piece ≡ Dice leaf.p leaf.q → leaf.p ≤ 4 → leaf.q ≤ 4 → meets_tile e.begun.drawing n (leaf_in prim leaf.piece) ≡ true → Goes e n tile (leaf_in prim leaf.piece ∷ behind) kept count
     → Going e n tile (Some leaf) behind kept count
 going_again e n tile leaf prim behind kept count sizes p q meets g =
     record { rest = leaf_in prim leaf.piece ∷ behind; comes = (leaf_in prim leaf.piece, record { part = refl; sizes = sizes; p = p; q = q }, meets, refl); goes = g }
 
 -- shading can go on
-pub can_shade : (e : InEpoch) (n : ℕ) (tile : TileValue) (rest : List FrameLeaf) (kept : List (Part × GridRef)) (count : ℕ) → IsDrawable e.begun.drawing → e.begun.count ≤ 2 ^ 62 → Goes e n tile rest kept count → count < 18446744073709551615
+pub can_shade : (e : InEpoch) (n : ℕ) (tile : TileValue) (rest : List FrameLeaf) (kept : List (Part × SeenGrid)) (count : ℕ) → IsDrawable e.begun.drawing → e.begun.count ≤ 2 ^ 62 → Goes e n tile rest kept count → count < 18446744073709551615
 can_shade e n tile rest kept count h few g =
     let most = goes_shaded e n tile rest kept count g in
     let all = few_shadings e.begun.drawing h in

@@ -12,7 +12,7 @@ use Rattle.fixed_math.specs.declared.vec3.Axis.TheVariants.{X, Y, Z}
 use Rattle.fixed_math.specs.Axes.{origin, IsInBox}
 use Rattle.patches.specs.Boxes.{Holds}
 use Rattle.patches.specs.Parts.{Part, IsPart, rect_of}
-use Rattle.patches.specs.Patches.{patch_box, patch_inside}
+use Rattle.quadrics.specs.AnyPatches.{patch_box, patch_inside}
 use Rattle.patches.proofs.Spans.{rect_of-IsRect}
 use Rattle.bound_split.specs.Extents.{lowered, raised, widened}
 use Rattle.dice.proofs.Directions.{cells_from}

@@ -6,7 +6,7 @@ use Rattle.std.proofs.lemmas.List.{length-set, length-replicate}
 use Rattle.std.proofs.lemmas.List.Elements.{All-replicate, All-set}
 use Rattle.fixed_math.specs.Spots.{PixelRect}
 use Rattle.patches.specs.Parts.{Part, IsPart, rect_of, whole_of}
-use Rattle.patches.specs.Patches.{patch_box}
+use Rattle.quadrics.specs.AnyPatches.{patch_box}
 use Rattle.transforms.specs.Field.{IsView}
 use Rattle.scene.specs.Scene.{PrimValue, FrameValue}
 use Rattle.bound_split.specs.declared.extents.Extent.{Extent}

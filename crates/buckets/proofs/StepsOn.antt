@@ -2,7 +2,7 @@
 use Rattle.std.proofs.Common.{◌≡◌, Bool, ℕ, zero, suc, ◌+◌, ◌-◌, ◌*◌, ◌<◌, ◌≤◌, max, arith, refl, sym, ◌∙◌, ap, subst, List, [], ◌∷◌, length, take, ◌++◌, Option, Some, None, true, false}
 use Rattle.std.specs.Prelude.{is_some}
 use Rattle.patches.specs.Parts.{Part}
-use Rattle.dice.specs.declared.diced.GridRef.{GridRef}
+use Rattle.hider.specs.declared.seen_grid.SeenGrid.{SeenGrid}
 use Rattle.bound_split.specs.declared.walk.Leaf.{Leaf}
 use Rattle.bound_split.specs.Lengths.{most_below}
 use Rattle.hider.specs.declared.sample_grid.SampleGrid.{SampleGrid}
@@ -23,7 +23,7 @@ use Rattle.buckets.proofs.Laws.{lawful}
 use Rattle.buckets.proofs.Passing.{gives_as}
 
 -- in a tile that has just begun
-pub stands_in : (e : InEpoch) (p : Progress) (kept : List (Part × GridRef)) (count : ℕ) → IsDrawable e.begun.drawing → Before e p.drawing.at kept count → p.drawing.at < tile_count e.begun.drawing
+pub stands_in : (e : InEpoch) (p : Progress) (kept : List (Part × SeenGrid)) (count : ℕ) → IsDrawable e.begun.drawing → Before e p.drawing.at kept count → p.drawing.at < tile_count e.begun.drawing
     → p.filter ≡ format_in e.begun.drawing.frame → p.drawing.leaves.sights ≡ e.begun.drawing.frame → rect_with p.drawing.rect ≡ tile_rect e.begun.drawing p.drawing.at → p.drawing.tile.grid ≡ tile_grid e.begun.drawing p.drawing.at → Shows p.drawing.tile (λ s. [])
     → ((back : ℤ → Bool) → TellsBehind p.drawing.tile back → GivesNext e.begun.drawing.frame (shows_in e.begun.drawing.frame (tile_rect e.begun.drawing p.drawing.at) back) p.drawing.next (frame_leaves e.begun.drawing.frame) (to_come e.begun.drawing.frame p.drawing.leaves.number p.drawing.leaves.pieces))
     → IsRowTo e.begun.drawing p.drawing.at (bucket_of e.begun.drawing p.drawing.at).left p.row.items → Stands e p kept count
@@ -45,7 +45,7 @@ stands_in e p kept count h before low format sights rect grid empty gives row =
     }
 
 -- behind the last tile
-pub stands_behind : (e : InEpoch) (p : Progress) (kept : List (Part × GridRef)) (count : ℕ) → Before e p.drawing.at kept count → p.drawing.at ≡ tile_count e.begun.drawing → p.filter ≡ format_in e.begun.drawing.frame → p.drawing.leaves.sights ≡ e.begun.drawing.frame → Stands e p kept count
+pub stands_behind : (e : InEpoch) (p : Progress) (kept : List (Part × SeenGrid)) (count : ℕ) → Before e p.drawing.at kept count → p.drawing.at ≡ tile_count e.begun.drawing → p.filter ≡ format_in e.begun.drawing.frame → p.drawing.leaves.sights ≡ e.begun.drawing.frame → Stands e p kept count
 stands_behind e p kept count before is format sights = record { within = omega (arith, is); format = format; sights = sights; going = λ l. absurd (omega (arith, is, l)); ended = λ _. before }
 
 -- before the first one
@@ -101,7 +101,7 @@ pub is_not_none : (o : Option Leaf) → is_some o ≡ true → o ≡ None → �
 is_not_none o h e = cc (ap (λ (q : Option Leaf). is_some q) e)
 
 -- an epoch of the walk is one of at most so many
-pub stands_epochs : (e : InEpoch) (p : Progress) (kept : List (Part × GridRef)) (count : ℕ) → p.drawing.at < tile_count e.begun.drawing → Stands e p kept count
+pub stands_epochs : (e : InEpoch) (p : Progress) (kept : List (Part × SeenGrid)) (count : ℕ) → p.drawing.at < tile_count e.begun.drawing → Stands e p kept count
     → (e.begun.epochs ≤ e.epochs) × (e.epochs ≤ e.begun.epochs + (tile_walk e.begun.drawing).epochs)
 stands_epochs e p kept count low s =
     let going = (s.going low).going in

@@ -2,7 +2,7 @@
 use Rattle.std.proofs.Common.{◌≡◌, ℕ, zero, suc, ◌+◌, ◌*◌, ◌≤◌, arith, refl, sym, ◌∙◌, ap, subst, Bool, true, false, List, [], ◌∷◌, ◌++◌, Some}
 use Rattle.std.specs.Prelude.{nat_le, slice_get, IfSome}
 use Rattle.patches.specs.Parts.{Part}
-use Rattle.dice.specs.declared.diced.GridRef.{GridRef}
+use Rattle.hider.specs.declared.seen_grid.SeenGrid.{SeenGrid}
 use Rattle.dice.specs.Grids.{line_count}
 use Rattle.bound_split.specs.declared.splits.Decision.TheVariants.{Dice}
 use Rattle.hider.specs.Tiles.{TileValue}
@@ -23,27 +23,27 @@ pub points_of_leaf : (d : Drawing) (x : FrameLeaf) (p q : ℕ) → decide d.fram
 unfolding leaf_points
 points_of_leaf d x p q is = ap points_by is
 
-pieces-more : (ks : List (Part × GridRef)) (k : Part × GridRef) → pieces_in (ks ++ k ∷ []) ≡ pieces_in ks ++ k.0 ∷ []
+pieces-more : (ks : List (Part × SeenGrid)) (k : Part × SeenGrid) → pieces_in (ks ++ k ∷ []) ≡ pieces_in ks ++ k.0 ∷ []
 pieces-more [] k = refl
 pieces-more (j ∷ js) k = ap (λ r. j.0 ∷ r) (pieces-more js k)
 
-points-more : (ks : List (Part × GridRef)) (k : Part × GridRef) → points_in (ks ++ k ∷ []) ≡ points_in ks + k.1.columns * k.1.rows
+points-more : (ks : List (Part × SeenGrid)) (k : Part × SeenGrid) → points_in (ks ++ k ∷ []) ≡ points_in ks + k.1.grid.columns * k.1.grid.rows
 points-more [] k = omega arith
 points-more (j ∷ js) k = let e = points-more js k in omega (arith, e)
 
-grids-more : (d : Drawing) (ks : List (Part × GridRef)) (k : Part × GridRef) → AreGrids d ks → IsGridOf d k.0 k.1 → AreGrids d (ks ++ k ∷ [])
+grids-more : (d : Drawing) (ks : List (Part × SeenGrid)) (k : Part × SeenGrid) → AreGrids d ks → IsGridOf d k.0 k.1 → AreGrids d (ks ++ k ∷ [])
 grids-more d [] k h g = (g, tt)
 grids-more d (j ∷ js) k h g = (h.0, grids-more d js k h.1 g)
 
 -- the grid at a place is that of the piece there
-pub grid_at : (d : Drawing) (ks : List (Part × GridRef)) (at' : ℕ) (part : Part) (grid : GridRef) → AreGrids d ks → slice_get (pieces_in ks) at' ≡ Some part → IfSome (slice_get ks at') (λ k. grid ≡ k.1) → IsGridOf d part grid
+pub grid_at : (d : Drawing) (ks : List (Part × SeenGrid)) (at' : ℕ) (part : Part) (grid : SeenGrid) → AreGrids d ks → slice_get (pieces_in ks) at' ≡ Some part → IfSome (slice_get ks at') (λ k. grid ≡ k.1) → IsGridOf d part grid
 grid_at d [] at' part grid h there is = absurd (cc)
 grid_at d (k ∷ ks) zero part grid h there is =
     let same : k.0 ≡ part = cc in
     subst (λ p. IsGridOf d p grid) same (subst (IsGridOf d k.0) (sym is) h.0)
 grid_at d (k ∷ ks) (suc n) part grid h there is = grid_at d ks n part grid h.1 there is
 
-pub uses_kept : (d : Drawing) (x : FrameLeaf) (kept : List (Part × GridRef)) (count : ℕ) (old new : TileValue) → AreGrids d kept → has x.part (pieces_in kept) ≡ true
+pub uses_kept : (d : Drawing) (x : FrameLeaf) (kept : List (Part × SeenGrid)) (count : ℕ) (old new : TileValue) → AreGrids d kept → has x.part (pieces_in kept) ≡ true
     → ShowsMore d.frame.camera (leaf_micropolygons d.accepted d.frame x.prim x.part) old new → Uses true d x kept count old kept count new
 uses_kept d x kept count old new grids there more = (
   grids,
@@ -54,9 +54,9 @@ uses_kept d x kept count old new grids there more = (
       (record { keeps = k; shadings = refl; epochs = refl; most = refl }),
 )
 
-pub uses_new : (d : Drawing) (x : FrameLeaf) (kept kept' : List (Part × GridRef)) (count count' : ℕ) (old new : TileValue) (grid : GridRef) → AreGrids d kept
+pub uses_new : (d : Drawing) (x : FrameLeaf) (kept kept' : List (Part × SeenGrid)) (count count' : ℕ) (old new : TileValue) (grid : SeenGrid) → AreGrids d kept
     → has x.part (pieces_in kept) ≡ false → nat_le (points_in kept + leaf_points d x) d.limit ≡ true
-    → IsGridOf d x.part grid → grid.columns * grid.rows ≡ leaf_points d x → kept' ≡ kept ++ (x.part, grid) ∷ [] → count' ≡ count + 1
+    → IsGridOf d x.part grid → grid.grid.columns * grid.grid.rows ≡ leaf_points d x → kept' ≡ kept ++ (x.part, grid) ∷ [] → count' ≡ count + 1
     → ShowsMore d.frame.camera (leaf_micropolygons d.accepted d.frame x.prim x.part) old new → Uses true d x kept count old kept' count' new
 uses_new d x kept kept' count count' old new grid grids fresh room is points more counted shows = (
   subst (AreGrids d) (sym more) (grids-more d kept (x.part, grid) grids is),
@@ -83,7 +83,7 @@ uses_new d x kept kept' count count' old new grid grids fresh room is points mor
 pub part_kept : (d : Drawing) (x : FrameLeaf) (count : ℕ) (c : Counts) → count + c.shadings ≤ count + (with_needed d.limit x.part (leaf_points d x) c).shadings
 part_kept d x count c = let r = needed_rises d.limit x.part (leaf_points d x) c in let s = r.shadings in omega (arith, s)
 
-pub part_new : (d : Drawing) (x : FrameLeaf) (kept : List (Part × GridRef)) (count count' : ℕ) → has x.part (pieces_in kept) ≡ false → nat_le (points_in kept + leaf_points d x) d.limit ≡ true → count' ≤ count + 1
+pub part_new : (d : Drawing) (x : FrameLeaf) (kept : List (Part × SeenGrid)) (count count' : ℕ) → has x.part (pieces_in kept) ≡ false → nat_le (points_in kept + leaf_points d x) d.limit ≡ true → count' ≤ count + 1
     → (c : Counts) → Keeps kept c → count' + c.shadings ≤ count + (with_needed d.limit x.part (leaf_points d x) c).shadings
 part_new d x kept count count' fresh room few c k =
     let n = leaf_points d x in
@@ -93,7 +93,7 @@ part_new d x kept count count' fresh room few c k =
     omega (arith, is, few)
 
 -- whether there is room, as the table tells it
-pub has_room_as : (d : Drawing) (x : FrameLeaf) (p q : ℕ) (kept : List (Part × GridRef)) (limit points : ℕ) (room b : Bool) → decide d.frame.camera x.prim x.part ≡ Dice p q → points ≡ line_count p * line_count q → limit ≡ d.limit
+pub has_room_as : (d : Drawing) (x : FrameLeaf) (p q : ℕ) (kept : List (Part × SeenGrid)) (limit points : ℕ) (room b : Bool) → decide d.frame.camera x.prim x.part ≡ Dice p q → points ≡ line_count p * line_count q → limit ≡ d.limit
     → room ≡ nat_le (points_in kept + points) limit → room ≡ b → nat_le (points_in kept + leaf_points d x) d.limit ≡ b
 has_room_as d x p q kept limit points room b sizes is same told at' =
     ap (λ m. nat_le (points_in kept + m) d.limit) (points_of_leaf d x p q sizes ∙ sym is) ∙ ap (λ l. nat_le (points_in kept + points) l) (sym same) ∙ sym told ∙ at'

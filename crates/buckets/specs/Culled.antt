@@ -2,7 +2,7 @@
 use Rattle.std.specs.Prelude.{◌≡◌, ℤ, pos, ◌≤ℤ◌, Bool, true, ◌&&◌, not}
 use Rattle.fixed_math.specs.Spots.{PixelRect}
 use Rattle.patches.specs.Parts.{Part, rect_of}
-use Rattle.patches.specs.Patches.{patch_box}
+use Rattle.quadrics.specs.AnyPatches.{patch_box}
 use Rattle.transforms.specs.Field.{IsView}
 use Rattle.bound_split.specs.Extents.{extent_of, part_meets}
 use Rattle.scene.specs.Scene.{PrimValue, FrameValue, HasUses}

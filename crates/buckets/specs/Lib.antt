@@ -2,6 +2,7 @@ pub mod Pictures
 pub mod Sampled
 pub mod Sights
 pub mod Culled
+pub mod Narrowing
 pub mod TileWalk
 pub mod Standing
 pub mod Rows

@@ -2,7 +2,7 @@
 use Rattle.std.specs.Prelude.{ℕ, List, [], map}
 use Rattle.std.specs.List.{flat_map, enumerate_from}
 use Rattle.patches.specs.Parts.{Part, whole_of}
-use Rattle.patches.specs.Patches.{patch_net, patch_width}
+use Rattle.quadrics.specs.AnyPatches.{patch_net, patch_width}
 use Rattle.transforms.specs.declared.view.View.{View}
 use Rattle.bound_split.specs.declared.splits.Decision.{Decision}
 use Rattle.bound_split.specs.declared.splits.Decision.TheVariants.{SplitU, SplitV, Dice}

@@ -1,7 +1,7 @@
 -- Where the drawing of a frame stands, and what it comes to.
 use Rattle.std.specs.Prelude.{◌≡◌, ℕ, ◌+◌, ◌≤◌, ◌<◌, max, List, Option}
 use Rattle.patches.specs.Parts.{Part}
-use Rattle.dice.specs.declared.diced.GridRef.{GridRef}
+use Rattle.hider.specs.declared.seen_grid.SeenGrid.{SeenGrid}
 use Rattle.scene.specs.Scene.{FrameValue, SceneValue}
 use Rattle.shader_binding.specs.Sets.{SetValue}
 use Rattle.filter_ppm.specs.Bands.{rect_with}
@@ -14,13 +14,13 @@ use Rattle.buckets.specs.Standing.{Begun, InEpoch, Before, Going, to_come}
 use Rattle.buckets.specs.Rows.{IsRowTo}
 
 -- in a tile
-pub record IsIn (e : InEpoch) (p : Progress) (kept : List (Part × GridRef)) (count : ℕ) : Type 0 where
+pub record IsIn (e : InEpoch) (p : Progress) (kept : List (Part × SeenGrid)) (count : ℕ) : Type 0 where
   pub rect : rect_with p.drawing.rect ≡ tile_rect e.begun.drawing p.drawing.at
   pub row : IsRowTo e.begun.drawing p.drawing.at (bucket_of e.begun.drawing p.drawing.at).left p.row.items
   pub going : Going e p.drawing.at p.drawing.tile p.drawing.next (to_come e.begun.drawing.frame p.drawing.leaves.number p.drawing.leaves.pieces) kept count
 
 -- in a tile, or behind the last one
-pub record Stands (e : InEpoch) (p : Progress) (kept : List (Part × GridRef)) (count : ℕ) : Type 0 where
+pub record Stands (e : InEpoch) (p : Progress) (kept : List (Part × SeenGrid)) (count : ℕ) : Type 0 where
   pub within : p.drawing.at ≤ tile_count e.begun.drawing
   pub format : p.filter ≡ format_in e.begun.drawing.frame
   pub sights : p.drawing.leaves.sights ≡ e.begun.drawing.frame

@@ -1,5 +1,5 @@
 -- Where the drawing of a frame stands: what its tile shows, and what is left of the walk through its tiles.
-use Rattle.std.specs.Prelude.{◌≡◌, ℤ, ℕ, ◌+◌, ◌-◌, ◌^◌, ◌≤◌, max, Bool, true, false, nat_le, filter, List, [], ◌∷◌, ◌++◌, length, map, drop, All, Option, Some, None, slice_get}
+use Rattle.std.specs.Prelude.{◌≡◌, ◌≢◌, ℤ, ℕ, ◌+◌, ◌-◌, ◌^◌, ◌≤◌, max, Bool, true, false, nat_le, filter, List, [], ◌∷◌, ◌++◌, length, map, drop, All, Option, Some, None, slice_get}
 use Rattle.patches.specs.Parts.{Part}
 use Rattle.bound_split.specs.declared.walk.Leaf.{Leaf}
 use Rattle.bound_split.specs.declared.splits.Decision.TheVariants.{Dice}
@@ -12,6 +12,8 @@ use Rattle.shader_binding.specs.Bindings.{FitsPrim}
 use Rattle.displace_shade.specs.Diced.{grid_value}
 use Rattle.displace_shade.specs.Shaded.{shaded}
 use Rattle.displace_shade.specs.Shop.{leaf_of}
+use Rattle.hider.specs.declared.seen_grid.SeenGrid.{SeenGrid}
+use Rattle.hider.specs.Flat.{IsSeenBy}
 use Rattle.hider.specs.Tiles.{TileValue, Shows}
 use Rattle.filter_ppm.specs.Sampled.{IsFormat}
 use Rattle.grid_epoch.specs.Kept.{has, pieces_in, points_in}
@@ -20,8 +22,8 @@ use Rattle.buckets.specs.declared.shown.Shown.{Shown}
 use Rattle.fixed_math.specs.Spots.{PixelRect}
 use Rattle.buckets.specs.Culled.{IsShadedPrim, part_shows}
 use Rattle.buckets.specs.Pictures.{decide, FrameLeaf, leaf_in, leaves_from, frame_leaves, leaf_micropolygons}
-use Rattle.buckets.specs.Sampled.{ShowsMore}
-use Rattle.buckets.specs.TileWalk.{Drawing, Counts, walked, format_in, tile_count, tile_grid, meets_tile, fragments_of, leaf_points, with_needed, past_leaves, past_tiles, tile_walk}
+use Rattle.buckets.specs.Sampled.{ShowsMore, TellsBehind}
+use Rattle.buckets.specs.TileWalk.{Drawing, Counts, walked, format_in, tile_count, tile_rect, tile_grid, meets_tile, fragments_of, leaf_points, with_needed, past_leaves, past_tiles, tile_walk}
 
 -- a drawing, and what stood before it: the shop's count, the report's numbers, and what the sink told behind the header
 pub record Begun : Type 0 where
@@ -78,16 +80,20 @@ Comes d n (Some leaf) behind rest = (x : FrameLeaf) × IsLeafOf d.frame leaf x �
 
 -- ---- kept grids
 -- the grid is that of its piece
-abbrev pub IsGridOf : Drawing → Part → GridRef → Type 0
-IsGridOf d part grid = (prim : PrimValue) (p q : ℕ) → slice_get d.frame.prims part.prim ≡ Some prim → decide d.frame.camera prim part ≡ Dice p q
+abbrev pub IsShadedOf : Drawing → Part → GridRef → Type 0
+IsShadedOf d part grid = (prim : PrimValue) (p q : ℕ) → slice_get d.frame.prims part.prim ≡ Some prim → decide d.frame.camera prim part ≡ Dice p q
     → grid_value grid ≡ shaded (leaf_of d.frame prim part p q) d.accepted.set d.accepted.scene.uses
 
-abbrev pub AreGrids : Drawing → List (Part × GridRef) → Type 0
+-- the same of one as the frame's camera sees it
+abbrev pub IsGridOf : Drawing → Part → SeenGrid → Type 0
+IsGridOf d part seen = IsSeenBy d.frame.camera seen × IsShadedOf d part seen.grid
+
+abbrev pub AreGrids : Drawing → List (Part × SeenGrid) → Type 0
 AreGrids d [] = Unit {0}
 AreGrids d (k ∷ ks) = IsGridOf d k.0 k.1 × AreGrids d ks
 
 -- the counts have what the table has
-pub record Keeps (kept : List (Part × GridRef)) (c : Counts) : Type 0 where
+pub record Keeps (kept : List (Part × SeenGrid)) (c : Counts) : Type 0 where
   pub pieces : c.kept ≡ pieces_in kept
   pub points : c.points ≡ points_in kept
 
@@ -109,7 +115,7 @@ pub record Counted (e : InEpoch) (count : ℕ) (c : Counts) : Type 0 where
   pub most : e.most_points ≡ max e.begun.most_points c.most
 
 -- in tile n, which shows the leaves that were gone past: what the rest of the walk comes to is what the whole comes to
-pub record Goes (e : InEpoch) (n : ℕ) (tile : TileValue) (rest : List FrameLeaf) (kept : List (Part × GridRef)) (count : ℕ) : Type 0 where
+pub record Goes (e : InEpoch) (n : ℕ) (tile : TileValue) (rest : List FrameLeaf) (kept : List (Part × SeenGrid)) (count : ℕ) : Type 0 where
   pub shown : List FrameLeaf
   pub past : List FrameLeaf
   pub counts : Counts
@@ -124,13 +130,13 @@ pub record Goes (e : InEpoch) (n : ℕ) (tile : TileValue) (rest : List FrameLea
       ≡ tile_walk e.begun.drawing
 
 -- with the leaf that is next
-pub record Going (e : InEpoch) (n : ℕ) (tile : TileValue) (next : Option Leaf) (behind : List FrameLeaf) (kept : List (Part × GridRef)) (count : ℕ) : Type 0 where
+pub record Going (e : InEpoch) (n : ℕ) (tile : TileValue) (next : Option Leaf) (behind : List FrameLeaf) (kept : List (Part × SeenGrid)) (count : ℕ) : Type 0 where
   pub rest : List FrameLeaf
   pub comes : Comes e.begun.drawing n next behind rest
   pub goes : Goes e n tile rest kept count
 
 -- before tile n, or behind the last one
-pub record Before (e : InEpoch) (n : ℕ) (kept : List (Part × GridRef)) (count : ℕ) : Type 0 where
+pub record Before (e : InEpoch) (n : ℕ) (kept : List (Part × SeenGrid)) (count : ℕ) : Type 0 where
   pub counts : Counts
   pub grids : AreGrids e.begun.drawing kept
   pub keeps : Keeps kept counts
@@ -153,15 +159,27 @@ GivesNext f test (Some leaf) old new = (x : FrameLeaf) × IsLeafOf f leaf x × (
 unfoldable pub shows_in : FrameValue → PixelRect → (ℤ → Bool) → FrameLeaf → Bool
 shows_in f r behind x = part_shows f x.prim r behind x.part
 
+-- the first leaf that a tile shows in a rectangle of pixels, in front of all that lies there
+abbrev pub FindsNext : FrameValue → TileValue → PixelRect → Option Leaf → List FrameLeaf → List FrameLeaf → Type 0
+FindsNext f tile r next old new = (back : ℤ → Bool) → TellsBehind tile back → GivesNext f (shows_in f r back) next old new
+
+-- the first one of all leaves, in tile n
+abbrev pub FindsFirst : Drawing → ℕ → TileValue → Option Leaf → List FrameLeaf → Type 0
+FindsFirst d n tile next behind = FindsNext d.frame tile (tile_rect d n) next (frame_leaves d.frame) behind
+
+-- where there is a leaf that is next, the drawing goes on from it in the next epoch
+abbrev pub Waits : InEpoch → List (Part × SeenGrid) → ℕ → TileValue → Option Leaf → List FrameLeaf → ℕ → Type 0
+Waits e kept n tile next behind count = next ≢ None → Going (next_epoch (points_in kept) e) n tile next behind [] count
+
 -- with so many shadings more, the counts are these, which have what the table has
-pub record CountsGo (old new : Counts) (kept : List (Part × GridRef)) (count count' : ℕ) : Type 0 where
+pub record CountsGo (old new : Counts) (kept : List (Part × SeenGrid)) (count count' : ℕ) : Type 0 where
   pub keeps : Keeps kept new
   pub shadings : count' + old.shadings ≡ count + new.shadings
   pub epochs : new.epochs ≡ old.epochs
   pub most : new.most ≡ old.most
 
 -- a leaf has been hidden, and its grid is kept; or there is no room for its grid, and nothing has changed
-abbrev pub Uses : Bool → Drawing → FrameLeaf → List (Part × GridRef) → ℕ → TileValue → List (Part × GridRef) → ℕ → TileValue → Type 0
+abbrev pub Uses : Bool → Drawing → FrameLeaf → List (Part × SeenGrid) → ℕ → TileValue → List (Part × SeenGrid) → ℕ → TileValue → Type 0
 Uses true d x kept count old kept' count' new =
     AreGrids d kept' × ShowsMore d.frame.camera (leaf_micropolygons d.accepted d.frame x.prim x.part) old new
     × ((c : Counts) → Keeps kept c → CountsGo c (with_needed d.limit x.part (leaf_points d x) c) kept' count count')
@@ -169,12 +187,12 @@ Uses false d x kept count old kept' count' new =
     (kept' ≡ kept) × (count' ≡ count) × (new ≡ old) × (has x.part (pieces_in kept) ≡ false) × (nat_le (points_in kept + leaf_points d x) d.limit ≡ false)
 
 -- where memory was wanting the count has risen by no more than that of a leaf that is used
-abbrev pub UsesInPart : Drawing → FrameLeaf → List (Part × GridRef) → ℕ → ℕ → Type 0
+abbrev pub UsesInPart : Drawing → FrameLeaf → List (Part × SeenGrid) → ℕ → ℕ → Type 0
 UsesInPart d x kept count count' =
     (count ≤ count') × (count' ≤ count + 1) × ((c : Counts) → Keeps kept c → count' + c.shadings ≤ count + (with_needed d.limit x.part (leaf_points d x) c).shadings)
 
 -- the drawing has gone past a leaf of a tile; or there is no room for its grid, and in the next epoch it goes on from there
-abbrev pub PassesLeaf : Bool → InEpoch → FrameLeaf → TileValue → List (Part × GridRef) → ℕ → TileValue → List (Part × GridRef) → ℕ → Type 0
+abbrev pub PassesLeaf : Bool → InEpoch → FrameLeaf → TileValue → List (Part × SeenGrid) → ℕ → TileValue → List (Part × SeenGrid) → ℕ → Type 0
 PassesLeaf true e x tile kept count tile' kept' count' =
     (n : ℕ) (rest : List FrameLeaf) → meets_tile e.begun.drawing n x ≡ true → Goes e n tile (x ∷ rest) kept count → Goes e n tile' rest kept' count'
 PassesLeaf false e x tile kept count tile' kept' count' =
@@ -185,6 +203,6 @@ PassesLeaf false e x tile kept count tile' kept' count' =
 abbrev pub ShadesInPart : Begun → ℕ → Type 0
 ShadesInPart b count = (b.count ≤ count) × (count ≤ b.count + (tile_walk b.drawing).shadings)
 
-abbrev pub PassesInPart : InEpoch → FrameLeaf → TileValue → List (Part × GridRef) → ℕ → ℕ → Type 0
+abbrev pub PassesInPart : InEpoch → FrameLeaf → TileValue → List (Part × SeenGrid) → ℕ → ℕ → Type 0
 PassesInPart e x tile kept count count' =
     (n : ℕ) (rest : List FrameLeaf) → meets_tile e.begun.drawing n x ≡ true → Goes e n tile (x ∷ rest) kept count → ShadesInPart e.begun count'

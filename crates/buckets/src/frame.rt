@@ -3,7 +3,7 @@ ghost use Rattle.std.specs.Prelude.{◌≡◌, ◌≢◌, ◌≤◌, ◌<◌, �
 ghost use Rattle.outside.specs.Causes.{Rose};
 ghost use Rattle.outside.specs.Frames.{Adds, AddsPart, PutsAll, PutsFront, whole};
 ghost use Rattle.patches.specs.Parts.{Part};
-ghost use Rattle.dice.specs.declared.diced.GridRef.{GridRef};
+ghost use Rattle.hider.specs.declared.seen_grid.SeenGrid.{SeenGrid};
 ghost use Rattle.shader_binding.specs.Sets.{Fits};
 ghost use Rattle.shader_binding.specs.Bindings.{FitsPrim};
 ghost use Rattle.scene.specs.Scene.{FrameValue, HasUses};
@@ -57,7 +57,7 @@ fn next_tile(alloc: Global, shown: &Shown<'_>, progress: &mut Progress<'_>) -> R
     requires row { IsRowTo at_epoch.begun.drawing progress.old.drawing.at (bucket_of at_epoch.begun.drawing progress.old.drawing.at).right progress.old.row.items }
     requires sights { progress.old.drawing.leaves.sights ≡ at_epoch.begun.drawing.frame }
     ensures at { OnOk result (progress.new.drawing.at ≡ progress.old.drawing.at + 1) }
-    ensures stands { OnOk result ((kept : List (Part × GridRef)) (count : ℕ) → Before at_epoch (progress.old.drawing.at + 1) kept count → Stands at_epoch progress.new kept count) }
+    ensures stands { OnOk result ((kept : List (Part × SeenGrid)) (count : ℕ) → Before at_epoch (progress.old.drawing.at + 1) kept count → Stands at_epoch progress.new kept count) }
 {
     let at = progress.drawing.at;
     progress.drawing.at = at + 1;
@@ -89,7 +89,7 @@ fn finish_tile<O: FrameSink>(
     requires samples { TellsSamples at_epoch.begun progress.old.drawing.at report.old.most_samples }
     requires sights { progress.old.drawing.leaves.sights ≡ at_epoch.begun.drawing.frame }
     ensures at { OnOk result (progress.new.drawing.at ≡ progress.old.drawing.at + 1) }
-    ensures stands { OnOk result ((kept : List (Part × GridRef)) (count : ℕ) → Before at_epoch (progress.old.drawing.at + 1) kept count → Stands at_epoch progress.new kept count) }
+    ensures stands { OnOk result ((kept : List (Part × SeenGrid)) (count : ℕ) → Before at_epoch (progress.old.drawing.at + 1) kept count → Stands at_epoch progress.new kept count) }
     ensures epochs { report.new.epochs ≡ report.old.epochs }
     ensures points { report.new.most_points ≡ report.old.most_points }
     ensures samples { OnOk result (TellsSamples at_epoch.begun progress.new.drawing.at report.new.most_samples) }
@@ -218,7 +218,7 @@ fn started<'a>(alloc: Global, shown: &Shown<'a>) -> Result<Progress<'a>, NoMemor
     };
     let rect = tile_at(shown, 0);
     let tile = Tile::new(alloc, rect, options.xs as u32, options.ys as u32)?;
-    let mut leaves = LeafWalk::new(alloc, shown.frame)?;
+    let mut leaves = LeafWalk::new(alloc, shown.frame, rect)?;
     let next = leaves.next(rect, &tile);
     Ok(Progress {
         drawing: TileDrawing {

@@ -1,6 +1,7 @@
 // A leaf in a tile: passed over behind what shows there, or hidden by a grid that is kept or shaded.
 ghost use Rattle.std.specs.Prelude.{◌≡◌, ◌≤◌, ◌<◌, ◌+◌, ◌*◌, ◌↔◌, ◌∷◌, [], ◌++◌, ℕ, List, Some, All, false, true, nat_le, IsTrue, length, map, IfOk, OnOk, OnErr, slice_get};
 ghost use Rattle.patches.specs.Parts.{Part};
+ghost use Rattle.transforms.specs.declared.view.View.{View};
 ghost use Rattle.bound_split.specs.declared.splits.Decision.TheVariants.{Dice};
 ghost use Rattle.dice.specs.Grids.{line_count};
 ghost use Rattle.shader_binding.specs.Sets.{Fits};
@@ -10,12 +11,13 @@ ghost use Rattle.displace_shade.specs.Diced.{grid_value};
 ghost use Rattle.hider.specs.declared.fragment.Fragment.{Fragment};
 ghost use Rattle.hider.specs.declared.sample.Sample.{Sample};
 ghost use Rattle.hider.specs.Cells.{still};
+ghost use Rattle.hider.specs.Flat.{IsSeenBy};
 ghost use Rattle.hider.specs.Tiles.{Shows, BlocksAll};
 ghost use Rattle.grid_epoch.specs.Kept.{has, pieces_in, points_in};
 ghost use Rattle.buckets.specs.Pictures.{decide, grid_cells, leaf_in, leaf_micropolygons};
 ghost use Rattle.buckets.specs.Sampled.{ShowsMore};
 ghost use Rattle.buckets.specs.TileWalk.{Drawing, nearest};
-ghost use Rattle.buckets.specs.Standing.{Begun, InEpoch, IsDrawn, IsGridOf, AreGrids, Uses, UsesInPart, PassesLeaf, PassesInPart};
+ghost use Rattle.buckets.specs.Standing.{Begun, InEpoch, IsDrawn, IsGridOf, IsShadedOf, AreGrids, Uses, UsesInPart, PassesLeaf, PassesInPart};
 
 use crate::shown::Shown;
 use crate::sights::Sights;
@@ -25,41 +27,28 @@ use dice::GridRef;
 use displace_shade::Shop;
 use fixed_math::NoMemory;
 use grid_epoch::Epoch;
-use hider::{GridCells, Tile};
-use scene::{Frame, Prim};
+use hider::{SeenGrid, Tile};
+use scene::Prim;
 
 // Hides the micropolygons of a shaded grid of a primitive.
-fn hide_grid(
-    tile: &mut Tile,
-    grid: &GridRef<'_>,
-    frame: &Frame,
-    prim: &Prim,
-) -> Result<(), NoMemory>
+fn hide_grid(tile: &mut Tile, seen: &SeenGrid<'_>, prim: &Prim) -> Result<(), NoMemory>
     ensures grid { tile.new.grid ≡ tile.old.grid }
-    ensures shows { OnOk result (ShowsMore frame.now.camera (map (still prim.now.one_sided prim.now.flip) (grid_cells (grid_value grid.now))) tile.old tile.new) }
+    ensures shows { OnOk result ((v : View) → IsSeenBy v seen.now → ShowsMore v (map (still prim.now.one_sided prim.now.flip) (grid_cells (grid_value seen.now.grid))) tile.old tile.new) }
 {
-    let cells = GridCells { grid: *grid };
-    tile.hide(&cells, &frame.camera, prim.one_sided, prim.flip)?;
+    tile.hide_seen(seen, prim.one_sided, prim.flip)?;
     Ok(())
 }
 
 // Hides a leaf by its grid.
-fn hide_leaf(
-    shown: &Shown<'_>,
-    prim: &Prim,
-    leaf: &Leaf,
-    grid: &GridRef<'_>,
-    tile: &mut Tile,
-) -> Result<(), NoMemory>
+fn hide_leaf(prim: &Prim, leaf: &Leaf, seen: &SeenGrid<'_>, tile: &mut Tile) -> Result<(), NoMemory>
     ghost drawing: { Drawing }
-    requires frame { shown.now.frame.now ≡ drawing.frame }
     requires there { slice_get drawing.frame.prims leaf.now.piece.prim ≡ Some prim.now }
     requires sizes { decide drawing.frame.camera prim.now leaf.now.piece ≡ Dice leaf.now.p leaf.now.q }
-    requires grid { IsGridOf drawing leaf.now.piece grid.now }
+    requires grid { IsGridOf drawing leaf.now.piece seen.now }
     ensures grid { tile.new.grid ≡ tile.old.grid }
     ensures shows { OnOk result (ShowsMore drawing.frame.camera (leaf_micropolygons drawing.accepted drawing.frame prim.now leaf.now.piece) tile.old tile.new) }
 {
-    hide_grid(tile, grid, shown.frame, prim)?;
+    hide_grid(tile, seen, prim)?;
     Ok(())
 }
 
@@ -72,7 +61,34 @@ fn points_of(leaf: &Leaf) -> usize
     ((1 << leaf.p) + 1) * ((1 << leaf.q) + 1)
 }
 
-// Shades a leaf and keeps its grid, for which there is room.
+// Shades a leaf.
+fn shade_grid<'a>(
+    shown: &Shown<'_>,
+    prim: &Prim,
+    leaf: &Leaf,
+    arena: &'a Bump,
+    shop: &mut Shop,
+) -> Result<GridRef<'a>, NoMemory>
+    ghost begun: { Begun }
+    requires drawn { IsDrawn begun shown.now }
+    requires set { set_value shop.old.set ≡ begun.drawing.accepted.set }
+    requires there { slice_get begun.drawing.frame.prims leaf.now.piece.prim ≡ Some prim.now }
+    requires sizes { decide begun.drawing.frame.camera prim.now leaf.now.piece ≡ Dice leaf.now.p leaf.now.q }
+    requires p { leaf.now.p ≤ 4 }
+    requires q { leaf.now.q ≤ 4 }
+    requires count { shop.old.count < 18446744073709551615 }
+    ensures grid { IfOk result (IsShadedOf begun.drawing leaf.now.piece) }
+    ensures points { IfOk result (λ g. g.columns * g.rows ≡ line_count leaf.now.p * line_count leaf.now.q) }
+    ensures set { shop.new.set ≡ shop.old.set }
+    ensures least { shop.old.count ≤ shop.new.count }
+    ensures most { shop.new.count ≤ shop.old.count + 1 }
+    ensures count { OnOk result (shop.new.count ≡ shop.old.count + 1) }
+{
+    let grid = shop.shade(arena, shown.scene, shown.index, &leaf.piece, leaf.p, leaf.q)?;
+    Ok(grid)
+}
+
+// Shades a leaf and keeps its grid as the camera sees it, for which there is room.
 fn shade_leaf<'a>(
     shown: &Shown<'_>,
     prim: &Prim,
@@ -80,7 +96,7 @@ fn shade_leaf<'a>(
     arena: &'a Bump,
     epoch: &mut Epoch<'a>,
     shop: &mut Shop,
-) -> Result<GridRef<'a>, NoMemory>
+) -> Result<SeenGrid<'a>, NoMemory>
     ghost begun: { Begun }
     requires drawn { IsDrawn begun shown.now }
     requires set { set_value shop.old.set ≡ begun.drawing.accepted.set }
@@ -93,16 +109,18 @@ fn shade_leaf<'a>(
     requires fresh { has leaf.now.piece (pieces_in epoch.old.kept) ≡ false }
     ensures limit { epoch.new.limit ≡ epoch.old.limit }
     ensures grid { IfOk result (IsGridOf begun.drawing leaf.now.piece) }
-    ensures points { IfOk result (λ g. g.columns * g.rows ≡ line_count leaf.now.p * line_count leaf.now.q) }
-    ensures kept { IfOk result (λ g. epoch.new.kept ≡ epoch.old.kept ++ (leaf.now.piece, g) ∷ []) }
+    ensures points { IfOk result (λ s. s.grid.columns * s.grid.rows ≡ line_count leaf.now.p * line_count leaf.now.q) }
+    ensures kept { IfOk result (λ s. epoch.new.kept ≡ epoch.old.kept ++ (leaf.now.piece, s) ∷ []) }
     ensures set { shop.new.set ≡ shop.old.set }
     ensures least { shop.old.count ≤ shop.new.count }
     ensures most { shop.new.count ≤ shop.old.count + 1 }
     ensures count { OnOk result (shop.new.count ≡ shop.old.count + 1) }
 {
-    let grid = shop.shade(arena, shown.scene, shown.index, &leaf.piece, leaf.p, leaf.q)?;
-    epoch.add(leaf.piece, grid)?;
-    Ok(grid)
+    let grid = shade_grid(shown, prim, leaf, arena, shop)?;
+    let frame = shown.frame;
+    let seen = SeenGrid::new(arena, &frame.camera, grid)?;
+    epoch.add(leaf.piece, seen)?;
+    Ok(seen)
 }
 
 // Hides a leaf, by the grid that is kept of it or by a new one, which is kept from now on. Where there is no room for it, the
@@ -133,14 +151,14 @@ fn use_leaf<'a>(
     ensures part { OnErr result (UsesInPart begun.drawing (leaf_in prim.now leaf.now.piece) epoch.old.kept shop.old.count shop.new.count) }
 {
     if let Some(at) = epoch.find(&leaf.piece) {
-        hide_leaf(shown, prim, leaf, &epoch.grid(at), tile)?;
+        hide_leaf(prim, leaf, &epoch.grid(at), tile)?;
         return Ok(true);
     }
     if !epoch.room(points_of(leaf)) {
         return Ok(false);
     }
-    let grid = shade_leaf(shown, prim, leaf, arena, epoch, shop)?;
-    hide_leaf(shown, prim, leaf, &grid, tile)?;
+    let seen = shade_leaf(shown, prim, leaf, arena, epoch, shop)?;
+    hide_leaf(prim, leaf, &seen, tile)?;
     Ok(true)
 }
 

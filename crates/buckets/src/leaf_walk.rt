@@ -1,5 +1,5 @@
 // The leaves of a frame, one primitive after another.
-ghost use Rattle.std.specs.Prelude.{◌≡◌, ◌≤◌, ◌<◌, ◌∷◌, [], true, Some, Bool, ℤ, ◌&&◌, not, pos, ◌≤ℤ◌, length, MatchOption, IfSome, IfOk, slice_get};
+ghost use Rattle.std.specs.Prelude.{◌≡◌, ◌≤◌, ◌<◌, ◌∷◌, [], true, Some, Bool, ℤ, ◌&&◌, not, pos, ◌≤ℤ◌, length, MatchOption, IfSome, IfOk, OnOk, slice_get};
 ghost use Rattle.patches.specs.Parts.{IsPart};
 ghost use Rattle.scene.specs.Scene.{FrameValue};
 ghost use Rattle.transforms.specs.Field.{IsView};
@@ -10,7 +10,7 @@ ghost use Rattle.bound_split.specs.declared.splits.Decision.TheVariants.{Dice};
 ghost use Rattle.buckets.specs.Pictures.{decide, frame_leaves};
 ghost use Rattle.buckets.specs.Culled.{part_shows};
 ghost use Rattle.buckets.specs.Sampled.{TellsBehind};
-ghost use Rattle.buckets.specs.Standing.{to_come, GivesNext, shows_in};
+ghost use Rattle.buckets.specs.Standing.{to_come, FindsNext};
 
 use crate::sights::Sights;
 use bound_split::{Leaf, Sight, Walk};
@@ -36,6 +36,13 @@ fn recall(frame: &Frame, prim: &Prim)
 {
     let _view = frame.camera.view();
     let _bound = prim.bound;
+}
+
+/// Does nothing: a call tells a proof what holds of a frame's camera.
+fn recall_camera(frame: &Frame)
+    ensures { IsView frame.now.camera }
+{
+    let _view = frame.camera.view();
 }
 
 /// Whether a piece can show in a tile of these pixels: it meets them, and doesn't lie behind what shows at each sample.
@@ -89,12 +96,17 @@ pub(crate) fn prims_of(frame: &Frame) -> &[Prim]
 }
 
 impl<'a> LeafWalk<'a> {
-    /// All leaves of a frame.
-    pub(crate) fn new(alloc: Global, frame: &'a Frame) -> Result<LeafWalk<'a>, NoMemory>
+    /// All leaves of a frame, of which those are to be given first that can show in a tile.
+    pub(crate) fn new(
+        alloc: Global,
+        frame: &'a Frame,
+        tile: [u32; 4],
+    ) -> Result<LeafWalk<'a>, NoMemory>
         ensures frame { IfOk result (λ w. w.sights ≡ frame.now) }
         ensures all { IfOk result (λ w. (f : FrameValue) → to_come f w.number w.pieces ≡ frame_leaves f) }
     {
-        let sights = Sights::new(alloc, frame)?;
+        let mut sights = Sights::new(alloc, frame)?;
+        sights.turn_to(tile)?;
         let pieces = Walk::new(Piece::whole(0));
         Ok(LeafWalk {
             sights,
@@ -103,21 +115,24 @@ impl<'a> LeafWalk<'a> {
         })
     }
 
-    /// All leaves again.
-    pub(crate) fn restart(&mut self)
+    /// All leaves again, of which those are to be given that can show in another tile.
+    pub(crate) fn restart(&mut self, tile: [u32; 4]) -> Result<(), NoMemory>
         ensures frame { self.new.sights ≡ self.old.sights }
-        ensures all { (f : FrameValue) → to_come f self.new.number self.new.pieces ≡ frame_leaves f }
+        ensures all { OnOk result ((f : FrameValue) → to_come f self.new.number self.new.pieces ≡ frame_leaves f) }
     {
+        self.sights.turn_to(tile)?;
         self.number = 0;
         self.pieces = Walk::new(Piece::whole(0));
+        Ok(())
     }
 
     /// The next leaf that can show in a tile of these pixels, none where no other can.
     pub(crate) fn next(&mut self, rect: [u32; 4], tile: &Tile) -> Option<Leaf>
         ensures frame { self.new.sights ≡ self.old.sights }
-        ensures next { (back : ℤ → Bool) → TellsBehind tile.now back → GivesNext self.old.sights (shows_in self.old.sights (pixels_of rect) back) result (to_come self.old.sights self.old.number self.old.pieces) (to_come self.old.sights self.new.number self.new.pieces) }
+        ensures next { FindsNext self.old.sights tile.now (pixels_of rect) result (to_come self.old.sights self.old.number self.old.pieces) (to_come self.old.sights self.new.number self.new.pieces) }
     {
         let prims = prims_of(self.sights.frame());
+        recall_camera(self.sights.frame());
         while self.number < prims.len() {
             let number = self.number;
             if let Some(leaf) = next_of(
@@ -130,7 +145,7 @@ impl<'a> LeafWalk<'a> {
             ) {
                 return Some(leaf);
             }
-            self.number += 1;
+            self.number = self.sights.behind(number, rect);
             self.pieces = Walk::new(Piece::whole(self.number as u32));
         }
         None

@@ -1,10 +1,12 @@
 //! The picture of a frame, drawn bucket by bucket: its primitives split, diced, shaded and hidden, its pixels filtered.
 #![tactic(auto)]
 
+mod candidates;
 mod frame;
 mod leaf_use;
 mod leaf_walk;
 mod limits;
+mod narrowing;
 mod row_band;
 mod shown;
 mod sights;

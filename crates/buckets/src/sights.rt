@@ -1,10 +1,15 @@
 // What is known of pieces of a frame's primitives.
-ghost use Rattle.std.specs.Prelude.{◌≡◌, ◌<◌, Some, slice_get, length, IfOk};
+ghost use Rattle.std.specs.Prelude.{◌≡◌, ◌<◌, ◌^◌, pos, ◌≤ℤ◌, Some, slice_get, length, IfOk};
 ghost use Rattle.scene.specs.Scene.{FrameValue};
 ghost use Rattle.grid_epoch.specs.Kept.{same_part};
-ghost use Rattle.buckets.specs.Sights.{AreKnown, IsKnown, IsSight, IsSeen};
+ghost use Rattle.bound_split.specs.Extents.{pixels_of};
+ghost use Rattle.buckets.specs.Narrowing.{AreExtents, AreNarrowed, MissBetween};
+ghost use Rattle.buckets.specs.Sights.{IsKnown, IsSight, IsSeen, IsSights};
 
-use bound_split::{Sight, sight_of};
+use crate::candidates::Candidates;
+use crate::leaf_walk::prims_of;
+use crate::narrowing::{behind, narrow_to};
+use bound_split::{Extent, Sight, sight_of};
 use fixed_math::NoMemory;
 use patches::Piece;
 use scene::{Frame, Prim};
@@ -20,11 +25,18 @@ pub(crate) struct Known {
 }
 
 /// The sights of pieces of a frame's primitives. Each tile asks for those of the same pieces, so what was found of a piece is kept
-/// until another one needs its place: there are 16,384. Contracts see it as the frame.
+/// until another one needs its place: there are 16,384. Of each whole primitive it is known all the time where it can show, so that a
+/// tile meets only those that can show near it. Contracts see it as the frame.
 #[derive(Drop)]
 pub(crate) struct Sights<'a> {
     frame: &'a Frame,
     known: Vec<Option<Known>>,
+    // of the whole primitives, by number
+    extents: Vec<Extent>,
+    // the primitives that can show in rectangles of pixels, each of which lies in that before it
+    narrowed: Vec<Candidates>,
+    // where the last primitive that was asked for stands in the last of them
+    place: usize,
 }
 
 impl<'a> Model for Sights<'a> {
@@ -32,7 +44,7 @@ impl<'a> Model for Sights<'a> {
 
     ghost view = { λ s. s.frame.now };
 
-    ghost invariant = { λ s. AreKnown s.frame.now s.known.items };
+    ghost invariant = { λ s. IsSights s.frame.now s.known.items s.extents.items s.narrowed.items };
 }
 
 // The place of a piece: three products, by odd numbers of 64 bits, spread pieces that differ in little over the places.
@@ -51,7 +63,8 @@ fn place_of(piece: &Piece) -> usize
 
 // Looks at a piece of a primitive of a frame.
 fn look_at(frame: &Frame, prim: &Prim, piece: &Piece) -> Sight
-    ensures { IsSight frame.now prim.now piece.now result }
+    ensures sight { IsSight frame.now prim.now piece.now result }
+    ensures bound { pos 0 ≤ℤ prim.now.bound }
 {
     sight_of(&prim.patch, piece, &frame.camera, prim.rate, prim.bound)
 }
@@ -87,15 +100,68 @@ fn seen(known: Option<Known>, frame: &Frame, number: usize, prim: &Prim, piece: 
     look_at(frame, prim, piece)
 }
 
+// Where the whole primitives of a frame can show, by number.
+fn extents_of(alloc: Global, frame: &Frame) -> Result<Vec<Extent>, NoMemory>
+    ensures { IfOk result (λ e. AreExtents frame.now e.items) }
+{
+    let prims = prims_of(frame);
+    let mut extents = Vec::new(alloc);
+    for number in 0..prims.len() {
+        let sight = look_at(frame, &prims[number], &Piece::whole(number as u32));
+        extents.push(sight.extent)?;
+    }
+    Ok(extents)
+}
+
+// All primitives of a frame, of which none is left out yet.
+fn first_narrowed(alloc: Global, frame: &Frame) -> Result<Vec<Candidates>, NoMemory>
+    ensures { IfOk result (λ n. AreNarrowed frame.now n.items) }
+{
+    let mut narrowed = Vec::new(alloc);
+    narrowed.push(Candidates::all(alloc, prims_of(frame).len())?)?;
+    Ok(narrowed)
+}
+
 impl<'a> Sights<'a> {
-    /// Nothing is known yet.
+    /// Of pieces nothing is known yet.
     pub(crate) fn new(alloc: Global, frame: &'a Frame) -> Result<Sights<'a>, NoMemory>
         ensures { IfOk result (λ s. s ≡ frame.now) }
     {
         Ok(Sights {
             frame,
             known: vec![in alloc; None; 16384]?,
+            extents: extents_of(alloc, frame)?,
+            narrowed: first_narrowed(alloc, frame)?,
+            place: 0,
         })
+    }
+
+    /// Begins with the primitives that can show near a tile.
+    pub(crate) fn turn_to(&mut self, tile: [u32; 4]) -> Result<(), NoMemory>
+        ensures { self.new ≡ self.old }
+    {
+        let alloc = *self.known.allocator();
+        self.place = 0;
+        narrow_to(alloc, &mut self.narrowed, self.extents.as_slice(), tile)?;
+        Ok(())
+    }
+
+    /// The number of the next primitive behind that of a number, but for some that can't show in a tile.
+    pub(crate) fn behind(&mut self, number: usize, tile: [u32; 4]) -> usize
+        requires { number < 65536 }
+        ensures same { self.new ≡ self.old }
+        ensures further { number < result }
+        ensures small { result < 2 ^ 32 }
+        ensures missed { MissBetween self.old (pixels_of tile) number result }
+    {
+        let count = prims_of(self.frame).len();
+        match behind(self.narrowed.as_slice(), self.place, number, count, tile) {
+            None => number + 1,
+            Some(next) => {
+                self.place += 1;
+                next
+            }
+        }
     }
 
     /// The frame.

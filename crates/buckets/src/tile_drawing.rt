@@ -8,7 +8,7 @@ ghost use Rattle.buckets.specs.Pictures.{frame_leaves};
 ghost use Rattle.buckets.specs.Sampled.{TellsBehind};
 ghost use Rattle.hider.specs.Tiles.{Shows};
 ghost use Rattle.buckets.specs.TileWalk.{tile_count, tile_rect, tile_grid};
-ghost use Rattle.buckets.specs.Standing.{Begun, GivesNext, InEpoch, IsDrawn, ShadesInPart, next_epoch, shows_in, to_come, Goes, Going};
+ghost use Rattle.buckets.specs.Standing.{Begun, FindsFirst, InEpoch, IsDrawn, ShadesInPart, Waits, to_come, Goes, Going};
 
 use crate::leaf_use::pass_leaf;
 use crate::leaf_walk::{LeafWalk, prims_of};
@@ -63,7 +63,7 @@ impl<'s> TileDrawing<'s> {
         ensures limit { epoch.new.limit ≡ epoch.old.limit }
         ensures set { shop.new.set ≡ shop.old.set }
         ensures ended { OnOk result (self.new.next ≡ None → Goes at_epoch self.new.at self.new.tile [] epoch.new.kept shop.new.count) }
-        ensures full { OnOk result (self.new.next ≢ None → Going (next_epoch (points_in epoch.new.kept) at_epoch) self.new.at self.new.tile self.new.next (to_come shown.now.frame.now self.new.leaves.number self.new.leaves.pieces) [] shop.new.count) }
+        ensures full { OnOk result (Waits at_epoch epoch.new.kept self.new.at self.new.tile self.new.next (to_come shown.now.frame.now self.new.leaves.number self.new.leaves.pieces) shop.new.count) }
         ensures part { OnErr result (ShadesInPart at_epoch.begun shop.new.count) }
     {
         while let Some(leaf) = self.next {
@@ -97,11 +97,11 @@ impl<'s> TileDrawing<'s> {
         ensures rect { OnOk result (rect_with self.new.rect ≡ tile_rect begun.drawing self.new.at) }
         ensures grid { OnOk result (self.new.tile.grid ≡ tile_grid begun.drawing self.new.at) }
         ensures empty { OnOk result (Shows self.new.tile (λ s. [])) }
-        ensures next { OnOk result ((back : ℤ → Bool) → TellsBehind self.new.tile back → GivesNext begun.drawing.frame (shows_in begun.drawing.frame (tile_rect begun.drawing self.new.at) back) self.new.next (frame_leaves begun.drawing.frame) (to_come begun.drawing.frame self.new.leaves.number self.new.leaves.pieces)) }
+        ensures next { OnOk result (FindsFirst begun.drawing self.new.at self.new.tile self.new.next (to_come begun.drawing.frame self.new.leaves.number self.new.leaves.pieces)) }
     {
         self.rect = tile_at(shown, self.at);
         self.tile.renew(self.rect)?;
-        self.leaves.restart();
+        self.leaves.restart(self.rect)?;
         self.next = self.leaves.next(self.rect, &self.tile);
         Ok(())
     }

@@ -31,6 +31,10 @@ normal du dv u v = direction (cross (du u v) (dv u v))
 abbrev pub AreShort : List ℤ → Type 0
 AreShort zs = (k : ℕ) → k < 3 → unsigned_abs (item zs k) ≤ 2 ^ 22
 
+-- and alike: each fits in a word of 32 bits
+abbrev pub AreNarrow : List ℤ → Type 0
+AreNarrow zs = (k : ℕ) → k < 3 → unsigned_abs (item zs k) < 2 ^ 31
+
 -- worked values: x before y gives z, y before x its opposite; no direction gives no normal
 cross_of_axes : cross (pos 3 ∷ pos 0 ∷ pos 0 ∷ []) (pos 0 ∷ pos 5 ∷ pos 0 ∷ []) ≡ pos 0 ∷ pos 0 ∷ pos 15 ∷ []
 unfolding cross

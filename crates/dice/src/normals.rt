@@ -5,10 +5,11 @@ ghost use Rattle.fixed_math.specs.Fixed.{IsRaw};
 ghost use Rattle.patches.specs.Curves.{IsCurve};
 ghost use Rattle.patches.specs.Slopes.{AreBelow};
 ghost use Rattle.dice.specs.Grids.{line_count, line_at, lines, row_points, diced_points};
-ghost use Rattle.dice.specs.Normals.{item, cross as cross_of, direction, normal, AreShort};
+ghost use Rattle.dice.specs.Normals.{item, cross as cross_of, direction, normal, AreShort, AreNarrow};
 
 use crate::grid::{line_at, lines_along};
 use fixed_math::{NoMemory, Num, Vec3, minus, times, unit};
+use lanes::direction::unit as unit_narrow;
 use lanes::wide::unit_wide;
 use patches::{Curve, Dyadic, Piece, Surface};
 use std::alloc::Allocator;
@@ -72,8 +73,21 @@ fn number(x: i32) -> Num
     Num::sat(x as i128)
 }
 
+/// The unit vector in the direction of three numbers of 31 bits.
+fn narrow_unit(c: [i64; 3]) -> Vec3
+    requires { AreNarrow c }
+    ensures { result ≡ direction c }
+{
+    let u = unit_narrow(c[0] as i32, c[1] as i32, c[2] as i32);
+    Vec3 {
+        x: number(u.x),
+        y: number(u.y),
+        z: number(u.z),
+    }
+}
+
 /// The unit vector in the direction of three numbers of 46 bits.
-fn short_unit(c: [i64; 3]) -> Vec3
+fn long_unit(c: [i64; 3]) -> Vec3
     requires { (i : ℕ) → i < 3 → unsigned_abs (item c i) < 2 ^ 46 }
     ensures { result ≡ direction c }
 {
@@ -83,6 +97,26 @@ fn short_unit(c: [i64; 3]) -> Vec3
         y: number(u.y),
         z: number(u.z),
     }
+}
+
+/// Whether each number of a vector has less than 32 bits.
+fn is_narrow(a: [i64; 3]) -> bool
+    ensures { result ≡ true → AreNarrow a }
+{
+    a[0].unsigned_abs() < 2147483648
+        && a[1].unsigned_abs() < 2147483648
+        && a[2].unsigned_abs() < 2147483648
+}
+
+/// The unit vector in the direction of three numbers of 46 bits: those of small patches have 31.
+fn short_unit(c: [i64; 3]) -> Vec3
+    requires { (i : ℕ) → i < 3 → unsigned_abs (item c i) < 2 ^ 46 }
+    ensures { result ≡ direction c }
+{
+    if is_narrow(c) {
+        return narrow_unit(c);
+    }
+    long_unit(c)
 }
 
 /// Whether each number of a vector has at most 22 bits.

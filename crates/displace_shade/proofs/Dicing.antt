@@ -2,7 +2,7 @@
 use Rattle.std.proofs.Common.{◌≡◌, ℕ, ◌<◌, List, [], None, map, get_or, refl, sym, ap, ◌∙◌}
 use Rattle.fixed_math.specs.Axes.{origin}
 use Rattle.fixed_math.specs.declared.vec3.Vec3.{Vec3}
-use Rattle.patches.specs.Patches.{patch_point}
+use Rattle.quadrics.specs.AnyPatches.{patch_point}
 use Rattle.dice.specs.Grids.{diced_points}
 use Rattle.sl_ast.specs.declared.kinds.Predefined.{Predefined}
 use Rattle.sl_ast.specs.declared.kinds.Predefined.TheVariants as names

@@ -7,7 +7,7 @@ use Rattle.std.proofs.lemmas.List.Quantifiers.{position-Some}
 use Rattle.std.proofs.lemmas.Option.{slice_get-get_or}
 use Rattle.std.proofs.lemmas.Slice.Zip.{firsts-zip, get_or-zip}
 use Rattle.patches.specs.Parts.{Part}
-use Rattle.dice.specs.declared.diced.GridRef.{GridRef}
+use Rattle.hider.specs.declared.seen_grid.SeenGrid.{SeenGrid}
 use Rattle.grid_epoch.specs.Kept.{same_part, has, points_in, AreDistinct, IsEpoch}
 
 and_true : (p q : Bool) → (p && q) ≡ true → (p ≡ true) × (q ≡ true)
@@ -48,7 +48,7 @@ place_is p qs i e =
     let q = same_part-true p (get_or qs i p) s.1 in
     (slice_get-get_or qs i p s.0 ∙ ap Some (sym q), s.0)
 
-pub points_in-push : (ks : List (Part × GridRef)) (k : Part × GridRef) → points_in (ks ++ k ∷ []) ≡ points_in ks + k.1.columns * k.1.rows
+pub points_in-push : (ks : List (Part × SeenGrid)) (k : Part × SeenGrid) → points_in (ks ++ k ∷ []) ≡ points_in ks + k.1.grid.columns * k.1.grid.rows
 points_in-push [] k = omega arith
 points_in-push (j ∷ js) k = let e = points_in-push js k in omega (arith, e)
 
@@ -79,20 +79,20 @@ placed_within p qs None e = tt
 placed_within p qs (Some i) e = (place_is p qs i (sym e)).1
 
 -- the pieces are the first parts of the pairs, and there are as many pairs
-pub length-pairs : (qs : List Part) (gs : List GridRef) → length gs ≡ length qs → length (zip qs gs) ≡ length qs
+pub length-pairs : (qs : List Part) (gs : List SeenGrid) → length gs ≡ length qs → length (zip qs gs) ≡ length qs
 length-pairs [] [] e = refl
 length-pairs (q ∷ qs) (g ∷ gs) e = let l = length-pairs qs gs (omega (arith, e)) in omega (arith, l)
 length-pairs [] (g ∷ gs) e = absurd (omega (arith, e))
 length-pairs (q ∷ qs) [] e = absurd (omega (arith, e))
 
-pub zip-push : (qs : List Part) (gs : List GridRef) (q : Part) (g : GridRef) → length gs ≡ length qs → zip (qs ++ q ∷ []) (gs ++ g ∷ []) ≡ zip qs gs ++ (q, g) ∷ []
+pub zip-push : (qs : List Part) (gs : List SeenGrid) (q : Part) (g : SeenGrid) → length gs ≡ length qs → zip (qs ++ q ∷ []) (gs ++ g ∷ []) ≡ zip qs gs ++ (q, g) ∷ []
 zip-push [] [] q g e = refl
 zip-push (p ∷ ps) (h ∷ hs) q g e = ap (λ r. (p, h) ∷ r) (zip-push ps hs q g (omega (arith, e)))
 zip-push [] (h ∷ hs) q g e = absurd (omega (arith, e))
 zip-push (p ∷ ps) [] q g e = absurd (omega (arith, e))
 
 -- the grid at a place of the pairs
-pub grid_at : (qs : List Part) (gs : List GridRef) (i : ℕ) (d : GridRef) → length gs ≡ length qs → i < length gs → IfSome (slice_get (zip qs gs) i) (λ k. get_or gs i d ≡ k.1)
+pub grid_at : (qs : List Part) (gs : List SeenGrid) (i : ℕ) (d : SeenGrid) → length gs ≡ length qs → i < length gs → IfSome (slice_get (zip qs gs) i) (λ k. get_or gs i d ≡ k.1)
 grid_at [] (g ∷ gs) i d e l = absurd (omega (arith, e))
 grid_at [] [] i d e l = absurd (omega (arith, l))
 grid_at (q ∷ qs) gs i d e l =
@@ -106,11 +106,11 @@ length-push [] x = refl
 length-push (y ∷ ys) x = let l = length-push ys x in omega (arith, l)
 
 -- one pair more keeps an epoch's invariant
-pub keeps : (limit live : ℕ) (qs : List Part) (gs : List GridRef) (q : Part) (g : GridRef) → IsEpoch limit live qs gs → has q qs ≡ false →
-    points_in (zip qs gs) + g.columns * g.rows ≤ limit → IsEpoch limit (live + g.columns * g.rows) (qs ++ q ∷ []) (gs ++ g ∷ [])
+pub keeps : (limit live : ℕ) (qs : List Part) (gs : List SeenGrid) (q : Part) (g : SeenGrid) → IsEpoch limit live qs gs → has q qs ≡ false →
+    points_in (zip qs gs) + g.grid.columns * g.grid.rows ≤ limit → IsEpoch limit (live + g.grid.columns * g.grid.rows) (qs ++ q ∷ []) (gs ++ g ∷ [])
 keeps limit live qs gs q g e h r =
     let z = zip-push qs gs q g e.alike in
-    let p : points_in (zip (qs ++ q ∷ []) (gs ++ g ∷ [])) ≡ points_in (zip qs gs) + g.columns * g.rows = ap points_in z ∙ points_in-push (zip qs gs) (q, g) in
+    let p : points_in (zip (qs ++ q ∷ []) (gs ++ g ∷ [])) ≡ points_in (zip qs gs) + g.grid.columns * g.grid.rows = ap points_in z ∙ points_in-push (zip qs gs) (q, g) in
     let a = length-push qs q in
     let b = length-push gs g in
     record {

@@ -2,7 +2,7 @@
 use Rattle.std.specs.Prelude.{◌≡◌, refl, ℕ, ◌+◌, ◌*◌, ◌^◌, ◌<◌, ◌≤◌, Bool, true, false, ◌&&◌, ◌==◌, List, [], ◌∷◌, map, length}
 use Rattle.std.specs.List.{zip, list_any}
 use Rattle.patches.specs.Parts.{Part, whole_of, low_u}
-use Rattle.dice.specs.declared.diced.GridRef.{GridRef}
+use Rattle.hider.specs.declared.seen_grid.SeenGrid.{SeenGrid}
 
 -- whether two parts are the same one
 abbrev pub same_part : Part → Part → Bool
@@ -13,12 +13,12 @@ abbrev pub has : Part → List Part → Bool
 has p ps = list_any (same_part p) ps
 
 -- the pieces of kept grids, and the points of these grids in all
-abbrev pub pieces_in : List (Part × GridRef) → List Part
+abbrev pub pieces_in : List (Part × SeenGrid) → List Part
 pieces_in kept = map (λ k. k.0) kept
 
-abbrev pub points_in : List (Part × GridRef) → ℕ
+abbrev pub points_in : List (Part × SeenGrid) → ℕ
 points_in [] = 0
-points_in (k ∷ ks) = k.1.columns * k.1.rows + points_in ks
+points_in (k ∷ ks) = k.1.grid.columns * k.1.grid.rows + points_in ks
 
 -- no part stands there twice
 abbrev pub AreDistinct : List Part → Type 0
@@ -28,9 +28,9 @@ AreDistinct (p ∷ ps) = (has p ps ≡ false) × AreDistinct ps
 -- an epoch: how many points it may keep, and the pieces with their grids
 pub record EpochValue : Type 0 where
   pub limit : ℕ
-  pub kept : List (Part × GridRef)
+  pub kept : List (Part × SeenGrid)
 
-pub record IsEpoch (limit live : ℕ) (pieces : List Part) (grids : List GridRef) : Type 0 where
+pub record IsEpoch (limit live : ℕ) (pieces : List Part) (grids : List SeenGrid) : Type 0 where
   pub alike : length grids ≡ length pieces
   pub counted : live ≡ points_in (zip pieces grids)
   pub within : live ≤ limit

@@ -3,14 +3,14 @@ ghost use Rattle.std.specs.Prelude.{◌≡◌, ◌+◌, ◌*◌, ◌<◌, ◌≤
 ghost use Rattle.std.specs.List.{zip};
 ghost use Rattle.grid_epoch.specs.Kept.{EpochValue, IsEpoch, pieces_in, points_in, has};
 
-use dice::GridRef;
 use fixed_math::NoMemory;
+use hider::SeenGrid;
 use indexmap::IndexSet;
 use patches::Piece;
 use std::alloc::Global;
 use std::marker::Model;
 
-/// The shaded grids of pieces, which lie in one arena and have at most `limit` points in all. Contracts see it as its limit and
+/// The shaded grids of pieces as a camera sees them, which lie in one arena and have at most `limit` points in all. Contracts see it as its limit and
 /// the list of pairs of a piece and its grid, in the order in which they were added; no piece stands there twice.
 ///
 /// It borrows the arena, so that no grid can be read once that is gone.
@@ -19,7 +19,7 @@ pub struct Epoch<'a> {
     limit: usize,
     live: usize,
     pieces: IndexSet<Piece>,
-    grids: Vec<GridRef<'a>>,
+    grids: Vec<SeenGrid<'a>>,
 }
 
 impl<'a> Model for Epoch<'a> {
@@ -71,7 +71,7 @@ impl<'a> Epoch<'a> {
     }
 
     /// The grid at a place of the list.
-    pub fn grid(&self, at: usize) -> GridRef<'a>
+    pub fn grid(&self, at: usize) -> SeenGrid<'a>
         requires { at < length self.now.kept }
         ensures { IfSome (slice_get self.now.kept at) (λ k. result ≡ k.1) }
     {
@@ -80,17 +80,17 @@ impl<'a> Epoch<'a> {
 
     /// Keeps the grid of a piece, behind the others, and answers its place. There is room for its points, and the piece isn't
     /// there yet. `NoMemory` changes nothing.
-    pub fn add(&mut self, piece: Piece, grid: GridRef<'a>) -> Result<usize, NoMemory>
-        requires room { points_in self.old.kept + grid.columns * grid.rows ≤ self.old.limit }
+    pub fn add(&mut self, piece: Piece, seen: SeenGrid<'a>) -> Result<usize, NoMemory>
+        requires room { points_in self.old.kept + seen.grid.columns * seen.grid.rows ≤ self.old.limit }
         requires fresh { has piece (pieces_in self.old.kept) ≡ false }
         ensures place { IfOk result (λ at. at ≡ length self.old.kept) }
         ensures limit { self.new.limit ≡ self.old.limit }
-        ensures kept { OnOk result (self.new.kept ≡ self.old.kept ++ (piece, grid.entry) ∷ []) }
+        ensures kept { OnOk result (self.new.kept ≡ self.old.kept ++ (piece, seen.entry) ∷ []) }
         ensures refused { OnErr result (self.new.kept ≡ self.old.kept) }
     {
         let at = self.grids.len();
-        let points = grid.columns * grid.rows;
-        self.grids.push(grid)?;
+        let points = seen.grid.columns * seen.grid.rows;
+        self.grids.push(seen)?;
         if let Err(refused) = self.pieces.insert(piece) {
             self.grids.pop();
             return Err(NoMemory::from(refused));

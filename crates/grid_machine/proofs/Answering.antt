@@ -1,8 +1,6 @@
 -- What lights answer, by what their code left.
-use Rattle.std.proofs.Common.{◌≡◌, ℕ, ◌+◌, ◌<◌, Bool, true, false, cond, List, length, get_or, set, refl, sym, ap, ◌∙◌, arith, ⊎_elim, true≢false}
+use Rattle.std.proofs.Common.{◌≡◌, ℕ, ◌<◌, Bool, true, false, cond, refl, sym, ap, ◌∙◌, true≢false}
 use Rattle.std.specs.Prelude.{not}
-use Rattle.std.proofs.lemmas.List.{get_or-set_same, get_or-set_other}
-use Rattle.std.proofs.lemmas.Bool.{cases_eq}
 use Rattle.sl_ast.specs.declared.kinds.Predefined.TheVariants as names
 use Rattle.sl_ast.specs.declared.kinds.SlKind.{SlKind}
 use Rattle.sl_ast.specs.declared.kinds.SlKind.TheVariants as kinds
@@ -17,7 +15,7 @@ use Rattle.grid_code.specs.Names.{name_at, lit_at}
 use Rattle.grid_code.specs.Uses.{has}
 use Rattle.grid_code.specs.Valid.{has_light_statement, is_ambient}
 use Rattle.grid_machine.specs.Asked.{answer_at}
-use Rattle.place_rows.specs.Seen.{answered_by}
+use Rattle.light_rows.specs.Seen.{answered_by}
 use Rattle.grid_machine.specs.State.{Near}
 use Rattle.grid_machine.proofs.Near.{read_near}
 
@@ -38,7 +36,7 @@ answer_near c v z g m i true n l hl hc hk =
     same_lit (read m lit_at i) (read g lit_at i) (read m (name_at names.L) i) (read g (name_at names.L) i) (read m (name_at names.Cl) i) (read g (name_at names.Cl) i)
     (sym (read_near c v z g m lit_at i n hk l)) (sym (read_near c v z g m (name_at names.L) i n hl l)) (sym (read_near c v z g m (name_at names.Cl) i n hc l))
 
-twice : (b : Bool) → not (not b) ≡ b
+pub twice : (b : Bool) → not (not b) ≡ b
 twice true = refl
 twice false = refl
 
@@ -47,10 +45,3 @@ class_is kinds.Light x a h e = ap not e ∙ twice (has_light_statement x)
 class_is kinds.Surface x a h e = absurd (true≢false (sym h))
 class_is kinds.Displacement x a h e = absurd (true≢false (sym h))
 class_is kinds.Volume x a h e = absurd (true≢false (sym h))
-
-pub set_under : {A B : Type 0} (f : A → B) (xs : List A) (n : ℕ) (x d : A) (h : ℕ → B) → n < length xs → f x ≡ h n → ((i : ℕ) → i < n → f (get_or xs i d) ≡ h i) → (i : ℕ) → i < n + 1 → f (get_or (set xs n x) i d) ≡ h i
-set_under f xs n x d h l is before i b =
-    ⊎_elim
-    (λ e. ap f (ap (λ k. get_or (set xs n x) k d) e ∙ get_or-set_same xs n x d l) ∙ is ∙ ap h (sym e))
-    (λ ne. ap f (get_or-set_other xs n i x d ne) ∙ before i (omega arith))
-    (cases_eq i n)

@@ -8,7 +8,7 @@ use Rattle.sl_ast.specs.declared.typed.Value.{Value}
 use Rattle.place_rows.specs.declared.mask.Mask.{Mask}
 use Rattle.grid_machine.specs.declared.machine.Machine.{Machine}
 use Rattle.grid_registers.specs.declared.frame.Frame.{Frame}
-use Rattle.place_rows.specs.Seen.{Lighting}
+use Rattle.light_rows.specs.Seen.{Lighting}
 use Rattle.grid_machine.specs.State.{state_of, lit_ground, Performs, ReadyIn, HasRegister, Runs, Kept, Ready, Near}
 use Rattle.grid_machine.proofs.Near.{any_same}
 use Rattle.std.specs.Borrow.{Bor}

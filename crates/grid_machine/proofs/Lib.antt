@@ -17,3 +17,6 @@ mod Answering
 mod Fitting
 mod Level
 mod Roomy
+mod HeldReads
+mod Live
+mod Lanterns

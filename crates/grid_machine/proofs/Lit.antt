@@ -1,5 +1,5 @@
 -- Statements over lights, over states that are the same on the grid.
-use Rattle.std.proofs.Common.{◌≡◌, ℕ, ◌+◌, ◌<◌, Bool, true, cond, List, ◌∷◌, length, get_or, drop, refl, sym, ap, ◌∙◌, subst, add-one}
+use Rattle.std.proofs.Common.{◌≡◌, ℕ, ◌+◌, ◌<◌, Bool, true, false, cond, List, ◌∷◌, length, get_or, drop, refl, sym, ap, ◌∙◌, subst, add-one}
 use Rattle.std.specs.Prelude.{not, ◌&&◌, ◌||◌, Option, Some, None, is_some}
 use Rattle.std.specs.List.{list_all}
 use Rattle.std.proofs.Math.Seq.{drop-cons}
@@ -14,14 +14,17 @@ use Rattle.builtins.specs.Values.{triple_of}
 use Rattle.grid_code.specs.declared.code.Register.{Register}
 use Rattle.grid_code.specs.declared.register_set.RegisterSet.{RegisterSet}
 use Rattle.grid_code.specs.Code.{Block, end, lights}
-use Rattle.grid_code.specs.Masked.{Asked, State, Ground, read, reads, under, one_part, answers, entered, under_lights, views, from_light, masked}
+use Rattle.grid_code.specs.Masked.{Asked, State, Ground, read, reads, under, one_part, answers, entered, under_lights, views, from_light, illuminated, masked}
 use Rattle.grid_code.specs.Names.{name_at}
 use Rattle.grid_code.specs.Uses.{has}
-use Rattle.place_rows.specs.Seen.{unasked, shown_by}
-use Rattle.grid_machine.specs.State.{Near, Performs}
+use Rattle.light_rows.specs.Seen.{unasked, shown_by, AtPlaces}
+use Rattle.grid_machine.specs.State.{state_of, lit_ground, Near, Performs, Kept}
+use Rattle.grid_machine.specs.Writes.{aimed_at, RunsLit}
+use Rattle.grid_machine.specs.declared.machine.Machine.{Machine}
+use Rattle.grid_machine.proofs.Kept.{NearBy}
 use Rattle.grid_machine.proofs.Masks.{near_live}
 use Rattle.grid_machine.proofs.Near.{read_near, reads_near}
-use Rattle.place_rows.proofs.Totals.{none_left}
+use Rattle.light_rows.proofs.Totals.{none_left}
 
 pub shown_is : (cone : List Value) (p : Vec3 → Bool) (l : Light) → ((d : Vec3) → p d ≡ is_in_cone cone d) → shown_by p l ≡ shown cone l
 shown_is cone p (ambient cl) e = refl
@@ -78,3 +81,8 @@ module _ (c : ℕ) (v z : RegisterSet) (g m : State) (place : Register) (cone : 
 
   pub in_cone_near : (i : ℕ) → i < c → is_in_cone (reads g cone i) (from_light g place i) ≡ is_in_cone (reads m cone i) (from_light m place i)
   in_cone_near i l = ap (λ vs. is_in_cone vs (from_light g place i)) (reads_near c v z g m cone i near has_cone l) ∙ ap (is_in_cone (reads m cone i)) (from_near i l)
+
+-- a block under a light's own directions, by an equal frame
+pub lit_kept : (ls : List Asked) (n : ℕ) (x : Block) (seen : List Bool) (a b d : Machine) → Kept a b → RunsLit ls n x seen b d → (g : State) (p : ℕ → Bool) (f : ℕ → Vec3) → NearBy a.registers.frame g (state_of b) → AtPlaces a.registers.frame.now.places p (λ i. get_or seen i false) → AtPlaces a.registers.frame.now.places f (aimed_at b) → NearBy a.registers.frame (illuminated a.registers.frame.now.places p f (masked x (lit_ground ls a.registers.frame.now) a.registers.frame.now.places n) g) (state_of d)
+lit_kept ls n x seen a b d k h =
+    subst (λ r. (g : State) (p : ℕ → Bool) (f : ℕ → Vec3) → NearBy r g (state_of b) → AtPlaces r.now.places p (λ i. get_or seen i false) → AtPlaces r.now.places f (aimed_at b) → NearBy r (illuminated r.now.places p f (masked x (lit_ground ls r.now) r.now.places n) g) (state_of d)) k.frame h

@@ -10,7 +10,7 @@ use Rattle.builtins.specs.Differences.{Lines}
 use Rattle.grid_code.specs.declared.shader_code.Code.{Code}
 use Rattle.grid_machine.specs.Asked.{asked, asked_all}
 use Rattle.grid_machine.specs.Lamps.{asked_by}
-use Rattle.grid_machine.specs.declared.lamp.Lamp.{Lamp}
+use Rattle.grid_machine.specs.declared.lamps.Lantern.{Lantern}
 use Rattle.std.proofs.Math.Nat.{mul-le-mul}
 use Rattle.grid_code.specs.declared.register_set.RegisterSet.{RegisterSet}
 use Rattle.grid_registers.specs.declared.room.Room.{Room}
@@ -31,7 +31,7 @@ room_next v u p n a b less here before k l =
     (cases_eq k n)
 
 -- there are as many lights as answers
-pub some_lights : (lines : Lines) (c many : ℕ) (spaces : ℕ → Spaces) (codes : ℕ → Code) (values : ℕ → List Value) (lamps : List Lamp) → 0 < many → map asked_by lamps ≡ asked_all lines c many spaces codes values → 0 < length lamps
+pub some_lights : (lines : Lines) (c many : ℕ) (spaces : ℕ → Spaces) (codes : ℕ → Code) (values : ℕ → List Value) (lamps : List Lantern) → 0 < many → map asked_by lamps ≡ asked_all lines c many spaces codes values → 0 < length lamps
 some_lights lines c many spaces codes values lamps some e =
     let a = length-map lamps asked_by in
     let b = ap (λ xs. length xs) e in

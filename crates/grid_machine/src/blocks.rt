@@ -11,9 +11,11 @@ ghost use Rattle.grid_code.specs.View.{with_node, block_of};
 ghost use Rattle.grid_machine.specs.State.{lights_registers, HasRegister, ReadyIn, Runs, RunsTurns, Whole, Kept};
 ghost use Rattle.grid_machine.specs.Writes.{RunsLit};
 
+use crate::held::scope_of;
 use crate::machine::Machine;
 use grid_code::{Node, Register};
-use place_rows::{Illumination, Mask, Points};
+use light_rows::Illumination;
+use place_rows::Mask;
 use sl_ast::LightStmt;
 
 /// Runs a block: what each node does, one after another. A loop has at most that many turns. Where no place is live, a block does nothing.
@@ -162,10 +164,8 @@ fn run_loop<L: Illumination>(
     run_block(ask, m, lights, most);
 }
 
-// The body of a statement over lights: of `illuminance` once for each light, of `illuminate` and `solar` where the light is lit. It holds
-// points and answers of a whole grid, which a level of nesting without lights has no need of on the stack.
+// The body of a statement over lights: of `illuminance` once for each light, of `illuminate` and `solar` where the light is lit.
 #[cycle(run)]
-#[inline(never)]
 fn run_lights<L: Illumination>(
     over: LightStmt,
     args: &[Register],
@@ -187,20 +187,21 @@ fn run_lights<L: Illumination>(
         match over {
             LightStmt::Illuminance => run_seen(*place, cone, body, m, lights, most),
             LightStmt::Illuminate => {
-                let directions = m.from_light(*place);
-                let seen = m.cone(cone).mask(&directions, m.registers.frame.places);
-                run_lit(&seen, &directions, body, m, lights, most);
+                m.aim(*place);
+                let seen = m.within(cone);
+                run_lit(&seen, body, m, lights, most);
             }
             LightStmt::Solar => {
-                let directions = m.points(*place);
-                run_lit(&Mask::full(), &directions, body, m, lights, most);
+                m.aim_along(*place);
+                run_lit(&Mask::full(), body, m, lights, most);
             }
         }
     }
 }
 
-// The body once for each light, at the places that see it.
+// The body once for each light, at the places that see it. Not inlined, so that what it keeps takes no room in the frames of other blocks.
 #[cycle(run)]
+#[inline(never)]
 fn run_seen<L: Illumination>(
     place: Register,
     args: &[Register],
@@ -220,31 +221,24 @@ fn run_seen<L: Illumination>(
     ensures same { L.lighting lights.new ≡ L.lighting lights.old }
     ensures masked { Runs (L.lighting lights.old).lights most (code.lights Illuminance (place ∷ args.now) (block_of body.now) end) m.old m.new }
 {
-    let points = m.points(place);
-    let cone = m.cone(args);
     let count = m.registers.frame.places;
+    let scope = scope_of(&m.registers, place, args);
     for n in 0..lights.count() {
-        let answers = lights.ask(n, &points);
-        let view = answers.view(&cone, count);
+        lights.ask(n, &scope.points.planes());
+        let answers = lights.answers(n);
+        let seen = answers.seen(&scope.cone(), count);
         let live = m.live;
-        m.live = live.and(&view.seen, count);
-        m.enter(&view);
+        m.live = live.and(&seen, count);
+        m.enter(&answers);
         run_block(body, m, lights, most);
-        let others = live.without(&view.seen, count);
+        let others = live.without(&seen, count);
         m.live = m.live.or(&others, count);
     }
 }
 
-// The body under the light's own directions, where they are seen.
+// The body under the light's own directions, which stand in the scratch row, where they are seen.
 #[cycle(run)]
-fn run_lit<L: Illumination>(
-    seen: &Mask,
-    directions: &Points,
-    body: &[Node],
-    m: &mut Machine,
-    lights: &mut L,
-    most: u32,
-)
+fn run_lit<L: Illumination>(seen: &Mask, body: &[Node], m: &mut Machine, lights: &mut L, most: u32)
     requires whole { Whole m.old }
     requires direction { HasRegister m.old (name_at names.L) }
     requires lit { HasRegister m.old lit_at }
@@ -252,12 +246,12 @@ fn run_lit<L: Illumination>(
     requires places { (L.lighting lights.old).places ≡ m.old.registers.frame.now.places }
     ensures kept { Kept m.old m.new }
     ensures same { L.lighting lights.new ≡ L.lighting lights.old }
-    ensures near { RunsLit (L.lighting lights.old).lights most (block_of body.now) seen.now.places directions.now.at m.old m.new }
+    ensures near { RunsLit (L.lighting lights.old).lights most (block_of body.now) seen.now.places m.old m.new }
 {
     let count = m.registers.frame.places;
     let live = m.live;
     m.live = live.and(seen, count);
-    m.kindle(directions);
+    m.kindle();
     run_block(body, m, lights, most);
     let others = live.without(seen, count);
     m.live = m.live.or(&others, count);

@@ -24,7 +24,7 @@ use crate::unloading::clear;
 use bumpalo::Bump;
 use fixed_math::NoMemory;
 use grid_code::Code;
-use place_rows::{Dark, Illumination};
+use light_rows::{Dark, Illumination};
 use sl_ast::SlKind;
 
 // The elements of a row that holds so many points.

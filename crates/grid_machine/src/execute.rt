@@ -21,7 +21,7 @@ use crate::blocks::run_block;
 use crate::machine::Machine;
 use fixed_math::Num;
 use grid_code::{Code, Register, Source, named};
-use place_rows::Illumination;
+use light_rows::Illumination;
 use sl_ast::{SlKind, Value};
 
 impl Machine<'_> {

@@ -22,7 +22,7 @@ pub struct Lamp<'a> {
 impl<'a> Lamp<'a> {
     ghost use Rattle.std.specs.Prelude.{◌≡◌, IfOk};
     ghost use Rattle.grid_machine.specs.Asked.{IsLight, asked};
-    ghost use Rattle.grid_machine.specs.Lamps.{IsLevel, asked_by};
+    ghost use Rattle.grid_machine.specs.Lamps.{IsPlaced, asked_of};
     ghost use Rattle.grid_registers.specs.Rooms.{HasRoom};
     ghost use Rattle.grid_machine.specs.State.{lines_of};
 
@@ -37,8 +37,8 @@ impl<'a> Lamp<'a> {
     ) -> Result<Lamp<'a>, NoMemory>
         requires light { IsLight code.now values.now }
         requires room { HasRoom code.now.varying code.now.uniform grid.now.places room }
-        ensures level { IfOk result (λ lamp. IsLevel grid.now.places room lamp) }
-        ensures asked { IfOk result (λ lamp. asked_by lamp ≡ asked (lines_of grid.now) grid.now.places spaces.now code.now values.now) }
+        ensures level { IfOk result (λ lamp. IsPlaced grid.now.places room lamp) }
+        ensures asked { IfOk result (λ lamp. asked_of lamp ≡ asked (lines_of grid.now) grid.now.places spaces.now code.now values.now) }
     {
         let registers = parameters(arena, code.params.as_slice())?;
         let frame = grid.for_code(arena, code, values, spaces, room)?;

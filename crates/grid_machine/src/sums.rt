@@ -1,5 +1,5 @@
 // Sums over lights.
-ghost use Rattle.std.specs.Prelude.{◌≡◌, ℕ, ◌<◌, ◌≤◌, true, pos, get_or};
+ghost use Rattle.std.specs.Prelude.{◌≡◌, ℕ, ◌<◌, true};
 ghost use Rattle.std.specs.List.{list_all};
 ghost use Rattle.sl_ast.specs.declared.kinds.Predefined.TheVariants as names;
 ghost use Rattle.sl_ast.specs.declared.operations.LightSum.TheVariants as sums;
@@ -10,52 +10,62 @@ ghost use Rattle.grid_code.specs.Masked.{reads, write, all_answers};
 ghost use Rattle.grid_code.specs.Names.{name_at};
 ghost use Rattle.grid_code.specs.Shapes.{register_shape};
 ghost use Rattle.grid_code.specs.Uses.{has};
-ghost use Rattle.place_rows.specs.Seen.{gain, gain_at};
-ghost use Rattle.grid_machine.specs.State.{state_of, HasRegister, Whole, Kept};
+ghost use Rattle.light_rows.specs.Seen.{gain, gain_at, IsSum};
+ghost use Rattle.grid_machine.specs.State.{held_by, Full, HasRegister, Whole, Kept};
 ghost use Rattle.grid_machine.specs.Writes.{Leads};
 
+use crate::held::{numbers_of, triples_of};
 use crate::machine::Machine;
+use crate::rows::take_totals;
 use grid_code::{Register, named};
-use place_rows::{Illumination, Sum};
+use grid_registers::Registers;
+use light_rows::{Illumination, Sum};
 use sl_ast::LightSum;
 
+#[tactic(auto, using(light_rows::proofs::Totals::no_diffuse))]
+fn diffuse<'a>(registers: &'a Registers, args: &[Register]) -> Sum<'a>
+    requires full { Full registers.now }
+    requires has { list_all (has registers.now.frame.now.varying.now registers.now.frame.now.uniform.now) args.now ≡ true }
+    ensures sum { IsSum registers.now.frame.now.places result }
+    ensures each { (i : ℕ) (l : Light) → i < registers.now.frame.now.places → gain_at result i l ≡ gain sums.Diffuse (reads (held_by registers.now) args.now i) l }
+{
+    match args {
+        [n] => Sum::Diffuse(triples_of(registers, *n)),
+        _ => Sum::Nothing,
+    }
+}
+
+fn specular<'a>(registers: &'a Registers, args: &[Register]) -> Sum<'a>
+    requires full { Full registers.now }
+    requires has { list_all (has registers.now.frame.now.varying.now registers.now.frame.now.uniform.now) args.now ≡ true }
+    ensures sum { IsSum registers.now.frame.now.places result }
+    ensures each { (i : ℕ) (l : Light) → i < registers.now.frame.now.places → gain_at result i l ≡ gain sums.Specular (reads (held_by registers.now) args.now i) l }
+{
+    match args {
+        [n, v, r] => Sum::Specular(
+            triples_of(registers, *n),
+            triples_of(registers, *v),
+            numbers_of(registers, *r),
+        ),
+        _ => Sum::Nothing,
+    }
+}
+
+// A sum with its arguments at each place.
+fn sum_of<'a>(registers: &'a Registers, sum: LightSum, args: &[Register]) -> Sum<'a>
+    requires full { Full registers.now }
+    requires has { list_all (has registers.now.frame.now.varying.now registers.now.frame.now.uniform.now) args.now ≡ true }
+    ensures sum { IsSum registers.now.frame.now.places result }
+    ensures each { (i : ℕ) (l : Light) → i < registers.now.frame.now.places → gain_at result i l ≡ gain sum (reads (held_by registers.now) args.now i) l }
+{
+    match sum {
+        LightSum::Ambient => Sum::Ambient,
+        LightSum::Diffuse => diffuse(registers, args),
+        LightSum::Specular => specular(registers, args),
+    }
+}
+
 impl Machine<'_> {
-    #[tactic(auto, using(place_rows::proofs::Totals::no_diffuse))]
-    fn diffuse(&self, args: &[Register]) -> Sum
-        requires whole { Whole self.now }
-        requires has { list_all (has self.now.registers.frame.now.varying.now self.now.registers.frame.now.uniform.now) args.now ≡ true }
-        ensures { (i : ℕ) (l : Light) → i < self.now.registers.frame.now.places → gain_at result i l ≡ gain sums.Diffuse (reads (state_of self.now) args.now i) l }
-    {
-        match args {
-            [n] => Sum::Diffuse(self.points(*n)),
-            _ => Sum::Nothing,
-        }
-    }
-
-    fn specular(&self, args: &[Register]) -> Sum
-        requires whole { Whole self.now }
-        requires has { list_all (has self.now.registers.frame.now.varying.now self.now.registers.frame.now.uniform.now) args.now ≡ true }
-        ensures { (i : ℕ) (l : Light) → i < self.now.registers.frame.now.places → gain_at result i l ≡ gain sums.Specular (reads (state_of self.now) args.now i) l }
-    {
-        match args {
-            [n, v, r] => Sum::Specular(self.points(*n), self.points(*v), self.numbers(*r)),
-            _ => Sum::Nothing,
-        }
-    }
-
-    // A sum with its arguments at each place.
-    fn sum_of(&self, sum: LightSum, args: &[Register]) -> Sum
-        requires whole { Whole self.now }
-        requires has { list_all (has self.now.registers.frame.now.varying.now self.now.registers.frame.now.uniform.now) args.now ≡ true }
-        ensures { (i : ℕ) (l : Light) → i < self.now.registers.frame.now.places → gain_at result i l ≡ gain sum (reads (state_of self.now) args.now i) l }
-    {
-        match sum {
-            LightSum::Ambient => Sum::Ambient,
-            LightSum::Diffuse => self.diffuse(args),
-            LightSum::Specular => self.specular(args),
-        }
-    }
-
     /// A sum over lights at P.
     pub fn sum<L: Illumination>(
         &mut self,
@@ -74,10 +84,9 @@ impl Machine<'_> {
         ensures same { L.lighting lights.new ≡ L.lighting lights.old }
         ensures near { Leads self.old (λ g. write self.old.registers.frame.now.places to (λ i. spec.sum_of sum (reads g args.now i) (all_answers (L.lighting lights.old).lights g (name_at names.P) i)) g) self.new }
     {
-        let count = self.registers.frame.places;
-        let points = self.points(named::P);
-        let totals = self.sum_of(sum, args).totals(lights, &points, count);
-        totals.fill(count, &mut self.scratch);
+        let points = triples_of(&self.registers, named::P);
+        let of = sum_of(&self.registers, sum, args);
+        take_totals(lights, &of, &points, &mut self.scratch);
         self.commit(to);
     }
 }

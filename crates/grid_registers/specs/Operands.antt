@@ -1,10 +1,11 @@
 -- For private contracts alone: what instructions work on, where each operand has been found.
-use Rattle.std.specs.Prelude.{ℕ, ◌+◌, ◌<◌, ◌≤◌, pos, Bool, true, false, ◌&&◌, ◌||◌, List, [], ◌∷◌}
+use Rattle.std.specs.Prelude.{ℕ, ℤ, ◌+◌, ◌<◌, ◌≤◌, pos, Bool, true, false, ◌&&◌, ◌||◌, List, [], ◌∷◌}
+use Rattle.fixed_math.specs.declared.vec3.Vec3.{Vec3}
 use Rattle.transforms.specs.declared.spaces.Spaces.{Spaces}
 use Rattle.sl_ast.specs.declared.operations.ValueOperation.{ValueOperation}
 use Rattle.sl_ast.specs.declared.typed.Value.TheVariants.{Number}
 use Rattle.sl_ast.specs.declared.typed.Value.{Value}
-use Rattle.builtins.specs.Values.{as_shape}
+use Rattle.builtins.specs.Values.{as_shape, number_of, triple_of}
 use Rattle.builtins.specs.declared.shape.Shape.{Shape}
 use Rattle.builtins.specs.declared.shape.Shape.TheVariants as shapes
 use Rattle.builtins.specs.Table.{applied}
@@ -18,7 +19,8 @@ use Rattle.grid_registers.specs.declared.operand.Work.{Work}
 use Rattle.grid_registers.specs.declared.operand.Work.TheVariants.{Constant, Copy, Into, One, Two, Three}
 use Rattle.place_values.specs.Cells.{value_of}
 use Rattle.place_rows.specs.Banks.{size, held}
-use Rattle.grid_registers.specs.Held.{texts_of}
+use Rattle.place_rows.specs.declared.bank.Bank.{Bank}
+use Rattle.grid_registers.specs.Held.{texts_of, HoldsEach}
 
 abbrev pub cell_at : Registers → Operand → ℕ → Cell
 cell_at r (Row s k) i = held r.rows s (k + i)
@@ -26,6 +28,17 @@ cell_at r (Shared s k) i = held r.shared s k
 
 abbrev pub operand_at : Registers → Operand → ℕ → Value
 operand_at r q i = value_of (texts_of r) (cell_at r q i)
+
+-- its number, or its triple
+abbrev pub operand_number : Registers → Operand → ℕ → ℤ
+operand_number r q i = number_of (operand_at r q i)
+
+abbrev pub operand_triple : Registers → Operand → ℕ → Vec3
+operand_triple r q i = triple_of (operand_at r q i)
+
+-- a row holds at each place what a function gives
+abbrev pub Fills : Registers → Bank → (ℕ → Value) → Type 0
+Fills r row f = HoldsEach (texts_of r) row r.frame.now.places f
 
 -- the shape of an operand's values
 abbrev pub shape_at : Operand → Shape

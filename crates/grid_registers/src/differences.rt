@@ -1,6 +1,7 @@
 // Differences between the neighbours of a grid.
 ghost use Rattle.std.specs.Prelude.{◌≡◌, ◌<◌, ◌≤◌};
 ghost use Rattle.builtins.specs.Differences as spec;
+ghost use Rattle.builtins.specs.Triples.{negated as negated_of};
 ghost use Rattle.builtins.specs.declared.shape.Shape.{Shape as AnyShape};
 ghost use Rattle.place_rows.specs.Banks.{size};
 ghost use Rattle.place_values.specs.Cells.{value_of};
@@ -11,9 +12,21 @@ ghost use Rattle.grid_registers.specs.Operands.{operand_at, OperandIn};
 use crate::operand::Operand;
 use crate::registers::Registers;
 use builtins::{cross, normalize};
-use place_rows::{Bank, negated};
+use fixed_math::Vec3;
+use place_rows::Bank;
 use place_values::Cell;
 use sl_ast::Difference;
+
+// The opposite of a direction.
+fn negated(v: Vec3) -> Vec3
+    ensures { result ≡ negated_of v }
+{
+    Vec3 {
+        x: v.x.neg(),
+        y: v.y.neg(),
+        z: v.z.neg(),
+    }
+}
 
 impl Registers<'_> {
     // The difference to the next column over the step of u; in the last column, that of the column before.

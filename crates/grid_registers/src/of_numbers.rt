@@ -3,12 +3,10 @@ ghost use Rattle.std.specs.Prelude.{◌≡◌, ℕ, ◌<◌};
 ghost use Rattle.fixed_math.specs.Axes.{part_of};
 ghost use Rattle.builtins.specs.declared.shape.Shape.{Shape as AnyShape};
 ghost use Rattle.builtins.specs.Formulas as formulas;
-ghost use Rattle.builtins.specs.Values as spec;
 ghost use Rattle.sl_ast.specs.declared.typed.Value.TheVariants as values;
 ghost use Rattle.number_rows.specs.Truths.{truth};
 ghost use Rattle.place_rows.specs.Banks.{size};
-ghost use Rattle.grid_registers.specs.Held.{texts_of, HoldsEach};
-ghost use Rattle.grid_registers.specs.Operands.{operand_at, OperandIn};
+ghost use Rattle.grid_registers.specs.Operands.{operand_number, operand_triple, OperandIn, Fills};
 
 use crate::operand::Operand;
 use crate::registers::Registers;
@@ -26,7 +24,7 @@ impl Registers<'_> {
         requires p { OperandIn self.now p }
         requires room { (s : AnyShape) → size row.old s ≡ self.now.frame.now.places }
         ensures size { (s : AnyShape) → size row.new s ≡ size row.old s }
-        ensures each { HoldsEach (texts_of self.now) row.new self.now.frame.now.places (λ i. values.Number (spec.number_of (operand_at self.now p i))) }
+        ensures each { Fills self.now row.new (λ i. values.Number (operand_number self.now p i)) }
     {
         copy(&self.numbers(p), &mut row.numbers);
     }
@@ -36,7 +34,7 @@ impl Registers<'_> {
         requires p { OperandIn self.now p }
         requires room { (s : AnyShape) → size row.old s ≡ self.now.frame.now.places }
         ensures size { (s : AnyShape) → size row.new s ≡ size row.old s }
-        ensures each { HoldsEach (texts_of self.now) row.new self.now.frame.now.places (λ i. values.Triple (spec.triple_of (operand_at self.now p i))) }
+        ensures each { Fills self.now row.new (λ i. values.Triple (operand_triple self.now p i)) }
     {
         let a = self.triples(p);
         copy(&a.x, &mut row.xs);
@@ -49,7 +47,7 @@ impl Registers<'_> {
         requires p { OperandIn self.now p }
         requires room { (s : AnyShape) → size row.old s ≡ self.now.frame.now.places }
         ensures size { (s : AnyShape) → size row.new s ≡ size row.old s }
-        ensures each { HoldsEach (texts_of self.now) row.new self.now.frame.now.places (λ i. values.Number (K.formula (spec.number_of (operand_at self.now p i)))) }
+        ensures each { Fills self.now row.new (λ i. values.Number (K.formula (operand_number self.now p i))) }
     {
         one_plane::<K>(&self.numbers(p), &mut row.numbers);
     }
@@ -60,7 +58,7 @@ impl Registers<'_> {
         requires q { OperandIn self.now q }
         requires room { (s : AnyShape) → size row.old s ≡ self.now.frame.now.places }
         ensures size { (s : AnyShape) → size row.new s ≡ size row.old s }
-        ensures each { HoldsEach (texts_of self.now) row.new self.now.frame.now.places (λ i. values.Number (K.formula (spec.number_of (operand_at self.now p i)) (spec.number_of (operand_at self.now q i)))) }
+        ensures each { Fills self.now row.new (λ i. values.Number (K.formula (operand_number self.now p i) (operand_number self.now q i))) }
     {
         two_planes::<K>(&self.numbers(p), &self.numbers(q), &mut row.numbers);
     }
@@ -72,7 +70,7 @@ impl Registers<'_> {
         requires t { OperandIn self.now t }
         requires room { (s : AnyShape) → size row.old s ≡ self.now.frame.now.places }
         ensures size { (s : AnyShape) → size row.new s ≡ size row.old s }
-        ensures each { HoldsEach (texts_of self.now) row.new self.now.frame.now.places (λ i. values.Number (K.formula (spec.number_of (operand_at self.now p i)) (spec.number_of (operand_at self.now q i)) (spec.number_of (operand_at self.now t i)))) }
+        ensures each { Fills self.now row.new (λ i. values.Number (K.formula (operand_number self.now p i) (operand_number self.now q i) (operand_number self.now t i))) }
     {
         let (a, b, c) = (self.numbers(p), self.numbers(q), self.numbers(t));
         three_planes::<K>(&a, &b, &c, &mut row.numbers);
@@ -83,7 +81,7 @@ impl Registers<'_> {
         requires p { OperandIn self.now p }
         requires room { (s : AnyShape) → size row.old s ≡ self.now.frame.now.places }
         ensures size { (s : AnyShape) → size row.new s ≡ size row.old s }
-        ensures each { HoldsEach (texts_of self.now) row.new self.now.frame.now.places (λ i. values.Number (part_of axis (spec.triple_of (operand_at self.now p i)))) }
+        ensures each { Fills self.now row.new (λ i. values.Number (part_of axis (operand_triple self.now p i))) }
     {
         copy(&self.plane(p, axis), &mut row.numbers);
     }
@@ -93,7 +91,7 @@ impl Registers<'_> {
         requires p { OperandIn self.now p }
         requires room { (s : AnyShape) → size row.old s ≡ self.now.frame.now.places }
         ensures size { (s : AnyShape) → size row.new s ≡ size row.old s }
-        ensures each { HoldsEach (texts_of self.now) row.new self.now.frame.now.places (λ i. values.Number (formulas.number op (spec.number_of (operand_at self.now p i)))) }
+        ensures each { Fills self.now row.new (λ i. values.Number (formulas.number op (operand_number self.now p i))) }
     {
         number_row(op, &self.numbers(p), &mut row.numbers);
     }
@@ -104,7 +102,7 @@ impl Registers<'_> {
         requires q { OperandIn self.now q }
         requires room { (s : AnyShape) → size row.old s ≡ self.now.frame.now.places }
         ensures size { (s : AnyShape) → size row.new s ≡ size row.old s }
-        ensures each { HoldsEach (texts_of self.now) row.new self.now.frame.now.places (λ i. values.Number (truth (formulas.order op (spec.number_of (operand_at self.now p i)) (spec.number_of (operand_at self.now q i))))) }
+        ensures each { Fills self.now row.new (λ i. values.Number (truth (formulas.order op (operand_number self.now p i) (operand_number self.now q i)))) }
     {
         order_rows(op, &self.numbers(p), &self.numbers(q), &mut row.numbers);
     }
@@ -114,7 +112,7 @@ impl Registers<'_> {
         requires p { OperandIn self.now p }
         requires room { (s : AnyShape) → size row.old s ≡ self.now.frame.now.places }
         ensures size { (s : AnyShape) → size row.new s ≡ size row.old s }
-        ensures each { HoldsEach (texts_of self.now) row.new self.now.frame.now.places (λ i. values.Number (K.formula (spec.triple_of (operand_at self.now p i)))) }
+        ensures each { Fills self.now row.new (λ i. values.Number (K.formula (operand_triple self.now p i))) }
     {
         number_of_triple::<K>(&self.triples(p), &mut row.numbers);
     }
@@ -125,7 +123,7 @@ impl Registers<'_> {
         requires q { OperandIn self.now q }
         requires room { (s : AnyShape) → size row.old s ≡ self.now.frame.now.places }
         ensures size { (s : AnyShape) → size row.new s ≡ size row.old s }
-        ensures each { HoldsEach (texts_of self.now) row.new self.now.frame.now.places (λ i. values.Number (K.formula (spec.triple_of (operand_at self.now p i)) (spec.triple_of (operand_at self.now q i)))) }
+        ensures each { Fills self.now row.new (λ i. values.Number (K.formula (operand_triple self.now p i) (operand_triple self.now q i))) }
     {
         number_of_triples::<K>(&self.triples(p), &self.triples(q), &mut row.numbers);
     }

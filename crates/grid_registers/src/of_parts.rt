@@ -4,8 +4,7 @@ ghost use Rattle.builtins.specs.declared.shape.Shape.{Shape as AnyShape};
 ghost use Rattle.builtins.specs.Formulas as formulas;
 ghost use Rattle.builtins.specs.Values as spec;
 ghost use Rattle.place_rows.specs.Banks.{size};
-ghost use Rattle.grid_registers.specs.Held.{texts_of, HoldsEach};
-ghost use Rattle.grid_registers.specs.Operands.{operand_at, two_numbers, three_numbers, is_number_at, OperandIn};
+ghost use Rattle.grid_registers.specs.Operands.{operand_at, two_numbers, three_numbers, is_number_at, OperandIn, Fills};
 
 use crate::operand::Operand;
 use crate::registers::Registers;
@@ -44,7 +43,7 @@ impl Registers<'_> {
         requires numbers { is_number_at p ≡ true }
         requires room { (s : AnyShape) → size row.old s ≡ self.now.frame.now.places }
         ensures size { (s : AnyShape) → size row.new s ≡ size row.old s }
-        ensures each { HoldsEach (texts_of self.now) row.new self.now.frame.now.places (λ i. spec.by_part (formulas.part op) (operand_at self.now p i)) }
+        ensures each { Fills self.now row.new (λ i. spec.by_part (formulas.part op) (operand_at self.now p i)) }
     {
         part_row(op, &self.numbers(p), &mut row.numbers);
     }
@@ -55,7 +54,7 @@ impl Registers<'_> {
         requires others { is_number_at p ≡ false }
         requires room { (s : AnyShape) → size row.old s ≡ self.now.frame.now.places }
         ensures size { (s : AnyShape) → size row.new s ≡ size row.old s }
-        ensures each { HoldsEach (texts_of self.now) row.new self.now.frame.now.places (λ i. spec.by_part (formulas.part op) (operand_at self.now p i)) }
+        ensures each { Fills self.now row.new (λ i. spec.by_part (formulas.part op) (operand_at self.now p i)) }
     {
         let a = self.triples(p);
         part_row(op, &a.x, &mut row.xs);
@@ -68,7 +67,7 @@ impl Registers<'_> {
         requires p { OperandIn self.now p }
         requires room { (s : AnyShape) → size row.old s ≡ self.now.frame.now.places }
         ensures size { (s : AnyShape) → size row.new s ≡ size row.old s }
-        ensures each { HoldsEach (texts_of self.now) row.new self.now.frame.now.places (λ i. spec.by_part (formulas.part op) (operand_at self.now p i)) }
+        ensures each { Fills self.now row.new (λ i. spec.by_part (formulas.part op) (operand_at self.now p i)) }
     {
         if is_number(p) {
             self.part_of_numbers(op, p, row);
@@ -84,7 +83,7 @@ impl Registers<'_> {
         requires numbers { two_numbers p q ≡ true }
         requires room { (s : AnyShape) → size row.old s ≡ self.now.frame.now.places }
         ensures size { (s : AnyShape) → size row.new s ≡ size row.old s }
-        ensures each { HoldsEach (texts_of self.now) row.new self.now.frame.now.places (λ i. spec.by_parts (formulas.parts op) (operand_at self.now p i) (operand_at self.now q i)) }
+        ensures each { Fills self.now row.new (λ i. spec.by_parts (formulas.parts op) (operand_at self.now p i) (operand_at self.now q i)) }
     {
         parts_rows(op, &self.numbers(p), &self.numbers(q), &mut row.numbers);
     }
@@ -96,7 +95,7 @@ impl Registers<'_> {
         requires others { two_numbers p q ≡ false }
         requires room { (s : AnyShape) → size row.old s ≡ self.now.frame.now.places }
         ensures size { (s : AnyShape) → size row.new s ≡ size row.old s }
-        ensures each { HoldsEach (texts_of self.now) row.new self.now.frame.now.places (λ i. spec.by_parts (formulas.parts op) (operand_at self.now p i) (operand_at self.now q i)) }
+        ensures each { Fills self.now row.new (λ i. spec.by_parts (formulas.parts op) (operand_at self.now p i) (operand_at self.now q i)) }
     {
         let (a, b) = (self.triples(p), self.triples(q));
         parts_rows(op, &a.x, &b.x, &mut row.xs);
@@ -110,7 +109,7 @@ impl Registers<'_> {
         requires q { OperandIn self.now q }
         requires room { (s : AnyShape) → size row.old s ≡ self.now.frame.now.places }
         ensures size { (s : AnyShape) → size row.new s ≡ size row.old s }
-        ensures each { HoldsEach (texts_of self.now) row.new self.now.frame.now.places (λ i. spec.by_parts (formulas.parts op) (operand_at self.now p i) (operand_at self.now q i)) }
+        ensures each { Fills self.now row.new (λ i. spec.by_parts (formulas.parts op) (operand_at self.now p i) (operand_at self.now q i)) }
     {
         if two_numbers(p, q) {
             self.parts_of_numbers(op, p, q, row);
@@ -127,7 +126,7 @@ impl Registers<'_> {
         requires numbers { three_numbers p q t ≡ true }
         requires room { (s : AnyShape) → size row.old s ≡ self.now.frame.now.places }
         ensures size { (s : AnyShape) → size row.new s ≡ size row.old s }
-        ensures each { HoldsEach (texts_of self.now) row.new self.now.frame.now.places (λ i. spec.by_three_parts (formulas.three_parts op) (operand_at self.now p i) (operand_at self.now q i) (operand_at self.now t i)) }
+        ensures each { Fills self.now row.new (λ i. spec.by_three_parts (formulas.three_parts op) (operand_at self.now p i) (operand_at self.now q i) (operand_at self.now t i)) }
     {
         three_parts_rows(
             op,
@@ -146,7 +145,7 @@ impl Registers<'_> {
         requires others { three_numbers p q t ≡ false }
         requires room { (s : AnyShape) → size row.old s ≡ self.now.frame.now.places }
         ensures size { (s : AnyShape) → size row.new s ≡ size row.old s }
-        ensures each { HoldsEach (texts_of self.now) row.new self.now.frame.now.places (λ i. spec.by_three_parts (formulas.three_parts op) (operand_at self.now p i) (operand_at self.now q i) (operand_at self.now t i)) }
+        ensures each { Fills self.now row.new (λ i. spec.by_three_parts (formulas.three_parts op) (operand_at self.now p i) (operand_at self.now q i) (operand_at self.now t i)) }
     {
         let (a, b, c) = (self.triples(p), self.triples(q), self.triples(t));
         three_parts_rows(op, &a.x, &b.x, &c.x, &mut row.xs);
@@ -161,7 +160,7 @@ impl Registers<'_> {
         requires t { OperandIn self.now t }
         requires room { (s : AnyShape) → size row.old s ≡ self.now.frame.now.places }
         ensures size { (s : AnyShape) → size row.new s ≡ size row.old s }
-        ensures each { HoldsEach (texts_of self.now) row.new self.now.frame.now.places (λ i. spec.by_three_parts (formulas.three_parts op) (operand_at self.now p i) (operand_at self.now q i) (operand_at self.now t i)) }
+        ensures each { Fills self.now row.new (λ i. spec.by_three_parts (formulas.three_parts op) (operand_at self.now p i) (operand_at self.now q i) (operand_at self.now t i)) }
     {
         if three_numbers(p, q, t) {
             self.three_parts_of_numbers(op, p, q, t, row);

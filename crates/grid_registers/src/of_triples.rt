@@ -4,8 +4,7 @@ ghost use Rattle.builtins.specs.declared.shape.Shape.{Shape as AnyShape};
 ghost use Rattle.builtins.specs.Values as spec;
 ghost use Rattle.sl_ast.specs.declared.typed.Value.TheVariants as values;
 ghost use Rattle.place_rows.specs.Banks.{size};
-ghost use Rattle.grid_registers.specs.Held.{texts_of, HoldsEach};
-ghost use Rattle.grid_registers.specs.Operands.{operand_at, two_numbers, has_triple, OperandIn};
+ghost use Rattle.grid_registers.specs.Operands.{operand_at, operand_number, operand_triple, two_numbers, has_triple, OperandIn, Fills};
 
 use crate::operand::Operand;
 use crate::registers::Registers;
@@ -21,7 +20,7 @@ impl Registers<'_> {
         requires p { OperandIn self.now p }
         requires room { (s : AnyShape) → size row.old s ≡ self.now.frame.now.places }
         ensures size { (s : AnyShape) → size row.new s ≡ size row.old s }
-        ensures each { HoldsEach (texts_of self.now) row.new self.now.frame.now.places (λ i. values.Triple (K.formula (spec.triple_of (operand_at self.now p i)))) }
+        ensures each { Fills self.now row.new (λ i. values.Triple (K.formula (operand_triple self.now p i))) }
     {
         triple_of_triple::<K>(&self.triples(p), &mut row.xs, &mut row.ys, &mut row.zs);
     }
@@ -32,7 +31,7 @@ impl Registers<'_> {
         requires q { OperandIn self.now q }
         requires room { (s : AnyShape) → size row.old s ≡ self.now.frame.now.places }
         ensures size { (s : AnyShape) → size row.new s ≡ size row.old s }
-        ensures each { HoldsEach (texts_of self.now) row.new self.now.frame.now.places (λ i. values.Triple (K.formula (spec.triple_of (operand_at self.now p i)) (spec.triple_of (operand_at self.now q i)))) }
+        ensures each { Fills self.now row.new (λ i. values.Triple (K.formula (operand_triple self.now p i) (operand_triple self.now q i))) }
     {
         let (a, b) = (self.triples(p), self.triples(q));
         triple_of_triples::<K>(&a, &b, &mut row.xs, &mut row.ys, &mut row.zs);
@@ -51,7 +50,7 @@ impl Registers<'_> {
         requires t { OperandIn self.now t }
         requires room { (s : AnyShape) → size row.old s ≡ self.now.frame.now.places }
         ensures size { (s : AnyShape) → size row.new s ≡ size row.old s }
-        ensures each { HoldsEach (texts_of self.now) row.new self.now.frame.now.places (λ i. values.Triple (K.formula (spec.triple_of (operand_at self.now p i)) (spec.triple_of (operand_at self.now q i)) (spec.triple_of (operand_at self.now t i)))) }
+        ensures each { Fills self.now row.new (λ i. values.Triple (K.formula (operand_triple self.now p i) (operand_triple self.now q i) (operand_triple self.now t i))) }
     {
         let (a, b, c) = (self.triples(p), self.triples(q), self.triples(t));
         triple_of_three::<K>(&a, &b, &c, &mut row.xs, &mut row.ys, &mut row.zs);
@@ -64,7 +63,7 @@ impl Registers<'_> {
         requires t { OperandIn self.now t }
         requires room { (s : AnyShape) → size row.old s ≡ self.now.frame.now.places }
         ensures size { (s : AnyShape) → size row.new s ≡ size row.old s }
-        ensures each { HoldsEach (texts_of self.now) row.new self.now.frame.now.places (λ i. values.Triple (record { x = spec.number_of (operand_at self.now p i); y = spec.number_of (operand_at self.now q i); z = spec.number_of (operand_at self.now t i) })) }
+        ensures each { Fills self.now row.new (λ i. values.Triple (record { x = operand_number self.now p i; y = operand_number self.now q i; z = operand_number self.now t i })) }
     {
         copy(&self.numbers(p), &mut row.xs);
         copy(&self.numbers(q), &mut row.ys);
@@ -79,7 +78,7 @@ impl Registers<'_> {
         requires numbers { two_numbers q t ≡ true }
         requires room { (s : AnyShape) → size row.old s ≡ self.now.frame.now.places }
         ensures size { (s : AnyShape) → size row.new s ≡ size row.old s }
-        ensures each { HoldsEach (texts_of self.now) row.new self.now.frame.now.places (λ i. spec.chosen (spec.is_true (operand_at self.now p i)) (operand_at self.now q i) (operand_at self.now t i)) }
+        ensures each { Fills self.now row.new (λ i. spec.chosen (spec.is_true (operand_at self.now p i)) (operand_at self.now q i) (operand_at self.now t i)) }
     {
         let (a, b, c) = (self.numbers(p), self.numbers(q), self.numbers(t));
         three_planes::<Chosen>(&a, &b, &c, &mut row.numbers);
@@ -93,7 +92,7 @@ impl Registers<'_> {
         requires triple { has_triple q t ≡ true }
         requires room { (s : AnyShape) → size row.old s ≡ self.now.frame.now.places }
         ensures size { (s : AnyShape) → size row.new s ≡ size row.old s }
-        ensures each { HoldsEach (texts_of self.now) row.new self.now.frame.now.places (λ i. spec.chosen (spec.is_true (operand_at self.now p i)) (operand_at self.now q i) (operand_at self.now t i)) }
+        ensures each { Fills self.now row.new (λ i. spec.chosen (spec.is_true (operand_at self.now p i)) (operand_at self.now q i) (operand_at self.now t i)) }
     {
         let (a, b, c) = (self.numbers(p), self.triples(q), self.triples(t));
         three_planes::<Chosen>(&a, &b.x, &c.x, &mut row.xs);

@@ -15,7 +15,7 @@ use Rattle.builtins.specs.declared.shape.Shape.TheVariants as shapes
 use Rattle.builtins.specs.Shapes.{shape}
 use Rattle.place_rows.specs.Layout.{row_length, height}
 use Rattle.place_rows.proofs.Sets.{all_default}
-use Rattle.grid_rows.specs.Rows.{value_in, HoldList, heights, AreRows, row_of, triple_rows, value_rows}
+use Rattle.grid_rows.specs.Rows.{value_in, HoldList, heights, AreRows, row_of, triple_rows, value_rows, BeginsWith}
 
 -- ---- one row
 pub row_fits : (n : ℕ) → n ≤ row_length n
@@ -42,12 +42,12 @@ row_value xs k =
     (cases_lt k (length xs))
 
 -- the first elements of a row that holds those numbers and then zeros
-pub row_by : (xs row : List ℤ) (n : ℕ) → n ≡ row_length (length xs) → n ≤ length row → ((k : ℕ) → get_or row k (pos 0) ≡ get_or xs k (pos 0)) → take n row ≡ row_of xs
+pub row_by : (xs row : List ℤ) (n : ℕ) → n ≡ row_length (length xs) → n ≤ length row → BeginsWith row xs → take n row ≡ row_of xs
 row_by xs row n e fits h =
     let long = length-take-le n row fits in
     let same = row_long xs in
     same_lists _ _ (long ∙ e ∙ sym same)
-    (λ k d l. get_or_default (take n row) k d (pos 0) l ∙ get_or-take n row k (pos 0) (omega arith) ∙ h k ∙ sym (row_value xs k) ∙ get_or_default (row_of xs) k (pos 0) d (omega arith))
+    (λ k d l. get_or_default (take n row) k d (pos 0) l ∙ get_or-take n row k (pos 0) (omega arith) ∙ h k (omega (arith, e, long, l)) ∙ sym (row_value xs k) ∙ get_or_default (row_of xs) k (pos 0) d (omega arith))
 
 within : (k w i h n : ℕ) → i < w → (k + h) * w ≤ n → 0 < h → k * w + i < n
 within k w i h n l room some = let e = mul-le (k + 1) w (k + h) w (omega arith) (omega arith) in omega (arith, e, room, l)
@@ -109,7 +109,7 @@ triple_new p rows rx ry rz n w i l e fx fy hx hy hz =
     (sym (get_or_append_left ((rows ++ rx) ++ ry) rz (pos 0) ((n + 1) * w + i) third ∙ read_new (rows ++ rx) ry (n + 1) w i ex ∙ hy))
     (sym (read_new ((rows ++ rx) ++ ry) rz (n + 2) w i ey ∙ hz))
 
-apart : (rows rx ry rz : List ℤ) → rows ++ (rx ++ ry ++ rz) ≡ ((rows ++ rx) ++ ry) ++ rz
+pub apart : (rows rx ry rz : List ℤ) → rows ++ (rx ++ ry ++ rz) ≡ ((rows ++ rx) ++ ry) ++ rz
 apart rows rx ry rz = sym (append_assoc rows (rx ++ ry) rz) ∙ ap (λ q. q ++ rz) (sym (append_assoc rows rx ry))
 
 -- ---- rows of given values, and one value more

@@ -1,5 +1,5 @@
 -- The rows that shaders are given, one block behind another.
-use Rattle.std.specs.Prelude.{ℤ, cond, List, [], ◌∷◌, ◌++◌, map, Option, Some, None}
+use Rattle.std.specs.Prelude.{◌≡◌, ℤ, true, cond, List, [], ◌∷◌, ◌++◌, map, Option, Some, None}
 use Rattle.fixed_math.specs.Axes.{part_of}
 use Rattle.fixed_math.specs.declared.vec3.Axis.TheVariants as axes
 use Rattle.fixed_math.specs.declared.vec3.Vec3.{Vec3}
@@ -70,3 +70,13 @@ all_rows rows (p ∷ ps) = rows p ++ all_rows rows ps
 -- what such a shader is given: its parameters that vary, and the variables of its kind
 abbrev pub given_rows : Leaf → ParameterValues → SlKind → RegisterSet → Variables → List ℤ
 given_rows l ps kind named d = param_rows l ps.locals ps.slots ps.values ++ all_rows (wanted_rows kind named l d) (given_order kind)
+
+-- these are the geometric normals of a leaf, where a variable is a normal, and where a shader is given a normal as it is
+abbrev pub AreGeometric : Leaf → List Vec3 → Type 0
+AreGeometric l ns = ns ≡ over (point_count l) (normal_of l)
+
+abbrev pub AreNamed : Predefined → Leaf → List Vec3 → Type 0
+AreNamed p l ns = (p ≡ names.N → AreGeometric l ns) × (p ≡ names.Ng → AreGeometric l ns)
+
+abbrev pub AreSeen : SlKind → RegisterSet → Leaf → List Vec3 → Type 0
+AreSeen kind named l ns = (wanted kind named names.N ≡ true → AreGeometric l ns) × (wanted kind named names.Ng ≡ true → AreGeometric l ns)

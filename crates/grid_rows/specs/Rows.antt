@@ -64,3 +64,11 @@ AreRaws rows = (k : ℕ) → IsRaw (get_or rows k (pos 0))
 -- the triple in three rows of length w, from row k on
 abbrev pub triple_in : List ℤ → ℕ → ℕ → ℕ → Vec3
 triple_in rows w k i = record { x = get_or rows (k * w + i) (pos 0); y = get_or rows ((k + 1) * w + i) (pos 0); z = get_or rows ((k + 2) * w + i) (pos 0) }
+
+-- for private contracts alone: raws that the greatest row fits in
+abbrev pub IsRoom : List ℤ → Type 0
+IsRoom row = (length row ≡ 296) × AreRaws row
+
+-- a row begins with the row of these numbers
+abbrev pub BeginsWith : List ℤ → List ℤ → Type 0
+BeginsWith row xs = (k : ℕ) → k < row_length (length xs) → get_or row k (pos 0) ≡ get_or xs k (pos 0)

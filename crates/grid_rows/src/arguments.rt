@@ -8,9 +8,9 @@ ghost use Rattle.grid_rows.specs.Rows.{values_of};
 ghost use Rattle.grid_rows.specs.Given.{rows_by, variable_rows, rows_or, param_rows};
 
 use crate::parameters::Parameters;
-use crate::rows::{Rows, push_parts, push_triples, push_value};
+use crate::rows::{Rows, push_firsts, push_triples, push_value};
 use bumpalo::Bump;
-use fixed_math::{Axis, NoMemory, Text, Vec3};
+use fixed_math::{NoMemory, Text, Vec3};
 use grid_code::Slot;
 use grid_variables::{Leaf, spread, value_or};
 use scene::{Kind, Variable};
@@ -23,7 +23,7 @@ fn push_by(rows: &mut Rows, kind: Kind, numbers: &[Vec3]) -> Result<(), NoMemory
     ensures { IfOk result (λ _. rows.new ≡ rows.old ++ rows_by kind numbers.now) }
 {
     match kind {
-        Kind::Float | Kind::Pair => push_parts(rows, numbers, Axis::X),
+        Kind::Float | Kind::Pair => push_firsts(rows, numbers),
         Kind::Str => Ok(()),
         Kind::Color | Kind::Point | Kind::Vector | Kind::Normal => push_triples(rows, numbers),
     }

@@ -3,20 +3,22 @@ ghost use Rattle.std.specs.Prelude.{◌≡◌, ◌++◌, length, IfOk};
 ghost use Rattle.sl_ast.specs.declared.kinds.SlKind.TheVariants as kinds;
 ghost use Rattle.builtins.specs.Names.{place_of};
 ghost use Rattle.fixed_math.specs.Axes.{origin};
-ghost use Rattle.grid_variables.specs.Places.{point_count, normals_of, IsSized};
+ghost use Rattle.grid_variables.specs.Points.{normal_of};
+ghost use Rattle.grid_variables.specs.Variables.{cs_at, os_at};
+ghost use Rattle.grid_variables.specs.Places.{point_count, over, normals_of, IsSized};
 ghost use Rattle.grid_rows.specs.Rows.{AreRaws, triple_rows, value_rows};
 ghost use Rattle.grid_rows.specs.Wanted.{given_order, is_optional as is_optional_at, is_named, wanted, zero_of_name};
-ghost use Rattle.grid_rows.specs.Given.{name_rows, wanted_rows, all_rows, given_rows};
+ghost use Rattle.grid_rows.specs.Given.{name_rows, wanted_rows, all_rows, given_rows, AreNamed, AreSeen};
 
 use crate::arguments::push_parameters;
 use crate::parameters::Parameters;
-use crate::rows::{Rows, length_of_row, push_numbers, push_triples, push_value};
+use crate::rows::{Rows, length_of_row, push_numbers, push_triple, push_triples, push_value};
 use bumpalo::Bump;
 use fixed_math::{NoMemory, Num, Vec3};
 use grid_code::{Register, RegisterSet, named};
 use grid_variables::{
-    Along, Leaf, Variables, derivatives, first_colours, first_coordinates, first_normals,
-    first_opacities, geometric_normals, parameters, second_coordinates,
+    Along, Leaf, Variables, derivatives, first_colours, first_coordinates, first_opacities,
+    geometric_normals, normals_or, one_colour, one_opacity, parameters, second_coordinates,
 };
 use sl_ast::{Predefined, SlKind, Value};
 
@@ -151,20 +153,54 @@ fn wants(shader: &Wanted, name: Predefined) -> bool
     !is_optional(shader.kind, name) || names(shader.named, named::register_of(name))
 }
 
+// The geometric normals, where a shader sees normals: they are made once for N and Ng.
+fn normals_for<'a>(arena: &'a Bump, leaf: &Leaf, shader: &Wanted) -> Result<&'a [Vec3], NoMemory>
+    ensures { IfOk result (λ ns. AreSeen shader.now.kind shader.now.named.now leaf.now ns.now) }
+{
+    if wants(shader, Predefined::N) || wants(shader, Predefined::Ng) {
+        return geometric_normals(arena, leaf);
+    }
+    Ok(&[])
+}
+
 // Appends the normals.
 fn push_normals(
     rows: &mut Rows,
     arena: &Bump,
     leaf: &Leaf,
     variables: &Variables,
+    geometric: &[Vec3],
 ) -> Result<(), NoMemory>
-    requires { length (normals_of leaf.now variables.now.normals) ≡ point_count leaf.now }
+    requires count { length (normals_of leaf.now variables.now.normals) ≡ point_count leaf.now }
+    requires geometric { geometric.now ≡ over (point_count leaf.now) (normal_of leaf.now) }
     ensures { IfOk result (λ _. rows.new ≡ rows.old ++ triple_rows (normals_of leaf.now variables.now.normals)) }
 {
     let _points = leaf.point_count();
     match variables.normals {
         Some(normals) => push_triples(rows, normals),
-        None => push_triples(rows, first_normals(arena, leaf)?),
+        None => push_triples(rows, normals_or(arena, leaf, geometric)?),
+    }
+}
+
+// Appends the colours that shaders begin with.
+fn push_colours(rows: &mut Rows, arena: &Bump, leaf: &Leaf) -> Result<(), NoMemory>
+    ensures { IfOk result (λ _. rows.new ≡ rows.old ++ triple_rows (over (point_count leaf.now) (cs_at leaf.now))) }
+{
+    let points = leaf.point_count();
+    match one_colour(leaf) {
+        Some(colour) => push_triple(rows, &colour, points),
+        None => push_triples(rows, first_colours(arena, leaf)?),
+    }
+}
+
+// Appends the opacities that shaders begin with.
+fn push_opacities(rows: &mut Rows, arena: &Bump, leaf: &Leaf) -> Result<(), NoMemory>
+    ensures { IfOk result (λ _. rows.new ≡ rows.old ++ triple_rows (over (point_count leaf.now) (os_at leaf.now))) }
+{
+    let points = leaf.point_count();
+    match one_opacity(leaf) {
+        Some(opacity) => push_triple(rows, &opacity, points),
+        None => push_triples(rows, first_opacities(arena, leaf)?),
     }
 }
 
@@ -174,23 +210,25 @@ fn push_name(
     arena: &Bump,
     leaf: &Leaf,
     variables: &Variables,
+    geometric: &[Vec3],
     name: Predefined,
 ) -> Result<(), NoMemory>
     requires sized { IsSized leaf.now variables.now }
+    requires geometric { AreNamed name leaf.now geometric.now }
     ensures { IfOk result (λ _. rows.new ≡ rows.old ++ name_rows leaf.now variables.now name) }
 {
     let _points = leaf.point_count();
     match name {
         Predefined::P => push_triples(rows, variables.points),
-        Predefined::N => push_normals(rows, arena, leaf, variables),
-        Predefined::Ng => push_triples(rows, geometric_normals(arena, leaf)?),
+        Predefined::N => push_normals(rows, arena, leaf, variables, geometric),
+        Predefined::Ng => push_triples(rows, geometric),
         Predefined::I => push_triples(rows, variables.sights),
         Predefined::U => push_numbers(rows, parameters(arena, leaf, Along::U)?),
         Predefined::V => push_numbers(rows, parameters(arena, leaf, Along::V)?),
         Predefined::S => push_numbers(rows, first_coordinates(arena, leaf)?),
         Predefined::T => push_numbers(rows, second_coordinates(arena, leaf)?),
-        Predefined::Cs => push_triples(rows, first_colours(arena, leaf)?),
-        Predefined::Os => push_triples(rows, first_opacities(arena, leaf)?),
+        Predefined::Cs => push_colours(rows, arena, leaf),
+        Predefined::Os => push_opacities(rows, arena, leaf),
         Predefined::DPdu => push_triples(rows, derivatives(arena, leaf, Along::U)?),
         Predefined::DPdv => push_triples(rows, derivatives(arena, leaf, Along::V)?),
         Predefined::Ci => push_triples(rows, variables.colours),
@@ -259,13 +297,15 @@ fn push_wanted(
     leaf: &Leaf,
     shader: &Wanted,
     variables: &Variables,
+    geometric: &[Vec3],
     name: Predefined,
 ) -> Result<(), NoMemory>
-    requires { IsSized leaf.now variables.now }
+    requires sized { IsSized leaf.now variables.now }
+    requires geometric { AreSeen shader.now.kind shader.now.named.now leaf.now geometric.now }
     ensures { IfOk result (λ _. rows.new ≡ rows.old ++ wanted_rows shader.now.kind shader.now.named.now leaf.now variables.now name) }
 {
     if wants(shader, name) {
-        push_name(rows, arena, leaf, variables, name)
+        push_name(rows, arena, leaf, variables, geometric, name)
     } else {
         push_zeros(rows, leaf, name)
     }
@@ -278,13 +318,15 @@ fn push_all(
     leaf: &Leaf,
     shader: &Wanted,
     variables: &Variables,
+    geometric: &[Vec3],
     names: &[Predefined],
 ) -> Result<(), NoMemory>
-    requires { IsSized leaf.now variables.now }
+    requires sized { IsSized leaf.now variables.now }
+    requires geometric { AreSeen shader.now.kind shader.now.named.now leaf.now geometric.now }
     ensures { IfOk result (λ _. rows.new ≡ rows.old ++ all_rows (wanted_rows shader.now.kind shader.now.named.now leaf.now variables.now) names.now) }
 {
     for name in names {
-        push_wanted(rows, arena, leaf, shader, variables, *name)?;
+        push_wanted(rows, arena, leaf, shader, variables, geometric, *name)?;
     }
     Ok(())
 }
@@ -303,12 +345,14 @@ pub fn rows_given<'a>(
 {
     let mut rows = Rows::new(arena, 28 * length_of_row(leaf.point_count()))?;
     push_parameters(&mut rows, arena, leaf, parameters)?;
+    let geometric = normals_for(arena, leaf, shader)?;
     push_all(
         &mut rows,
         arena,
         leaf,
         shader,
         variables,
+        geometric,
         given(shader.kind),
     )?;
     Ok(rows.kept())

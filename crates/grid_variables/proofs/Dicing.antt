@@ -5,7 +5,7 @@ use Rattle.std.proofs.lemmas.Nat.{div_below}
 use Rattle.std.proofs.Math.Nat.{div-add-mod, mod-lt, mul_comm}
 use Rattle.fixed_math.specs.Axes.{origin}
 use Rattle.fixed_math.specs.declared.vec3.Vec3.{Vec3}
-use Rattle.patches.specs.Patches.{patch_point, patch_du, patch_dv}
+use Rattle.quadrics.specs.AnyPatches.{patch_point, patch_du, patch_dv}
 use Rattle.dice.specs.Grids.{line_count, diced_points}
 use Rattle.dice.specs.Normals.{normal}
 use Rattle.dice.proofs.Grids.{diced_at, length-diced_points}

@@ -2,7 +2,7 @@
 use Rattle.std.specs.Prelude.{◌≡◌, ℕ, ◌/◌, ◌%◌, ℤ, pos, neg_ℤ, refl, Bool, true, false, cond, Option, Some, None, slice_index_or}
 use Rattle.fixed_math.specs.declared.vec3.Vec3.{Vec3}
 use Rattle.patches.specs.Parts.{Part}
-use Rattle.patches.specs.Patches.{patch_point, patch_du, patch_dv}
+use Rattle.quadrics.specs.AnyPatches.{patch_point, patch_du, patch_dv}
 use Rattle.transforms.specs.Map.{Map}
 use Rattle.transforms.specs.declared.view.View.{View}
 use Rattle.dice.specs.Grids.{line_count, line_at}

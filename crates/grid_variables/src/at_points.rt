@@ -1,8 +1,8 @@
 // What the variables of a primitive give at all points of a leaf.
-ghost use Rattle.std.specs.Prelude.{◌≡◌, length, map, IfOk};
+ghost use Rattle.std.specs.Prelude.{◌≡◌, ℕ, length, map, IfOk, IfSome};
 ghost use Rattle.fixed_math.specs.Axes.{part_of};
 ghost use Rattle.builtins.specs.Triples.{normalize as unit_of};
-ghost use Rattle.grid_variables.specs.Points.{turned as turned_by};
+ghost use Rattle.grid_variables.specs.Points.{turned as turned_by, normal_of};
 ghost use Rattle.grid_variables.specs.Variables.{spread_by, spread as spread_of, triple_or, variable_named as variable_of, is_pair as is_pair_of, setter as setter_of, texture_part, texture_or as coordinate_or, cs_at, os_at, s_at, t_at, given_normal, n_at};
 ghost use Rattle.grid_variables.specs.Places.{point_count, over, parameter_at};
 
@@ -11,7 +11,6 @@ use crate::leaf::{Along, Leaf};
 use crate::moves::{same, turned};
 use crate::named::{is_pair, setter, variable_named};
 use crate::places::parameters;
-use crate::stages::geometric_normals;
 use builtins::normalize;
 use bumpalo::Bump;
 use bumpalo::collections::into_bump_slice;
@@ -48,6 +47,26 @@ fn triples_or<'a>(
     match variable_named(leaf.variables(), name) {
         None => same(arena, leaf.point_count(), triple),
         Some(variable) => spread(arena, leaf, &variable, false),
+    }
+}
+
+/// The one colour that shaders begin with, where no variable sets it.
+pub fn one_colour(leaf: &Leaf) -> Option<Vec3>
+    ensures { IfSome result (λ colour. (i : ℕ) → cs_at leaf.now i ≡ colour) }
+{
+    match variable_named(leaf.variables(), "Cs") {
+        None => Some(*leaf.cs()),
+        Some(_) => None,
+    }
+}
+
+/// The one opacity that shaders begin with, where no variable sets it.
+pub fn one_opacity(leaf: &Leaf) -> Option<Vec3>
+    ensures { IfSome result (λ opacity. (i : ℕ) → os_at leaf.now i ≡ opacity) }
+{
+    match variable_named(leaf.variables(), "Os") {
+        None => Some(*leaf.os()),
+        Some(_) => None,
     }
 }
 
@@ -150,12 +169,17 @@ fn given_normals<'a>(
     units(arena, vectors, leaf.flip())
 }
 
-/// The normals that shaders begin with: the given ones, else the geometric ones.
-pub fn first_normals<'a>(arena: &'a Bump, leaf: &Leaf) -> Result<&'a [Vec3], NoMemory>
+/// The normals that shaders begin with: the given ones, else the geometric ones, which are at hand.
+pub fn normals_or<'a>(
+    arena: &'a Bump,
+    leaf: &Leaf,
+    geometric: &'a [Vec3],
+) -> Result<&'a [Vec3], NoMemory>
+    requires { geometric.now ≡ over (point_count leaf.now) (normal_of leaf.now) }
     ensures { IfOk result (λ ns. ns.now ≡ over (point_count leaf.now) (n_at leaf.now)) }
 {
     match variable_named(leaf.variables(), "N") {
-        None => geometric_normals(arena, leaf),
+        None => Ok(geometric),
         Some(variable) => given_normals(arena, leaf, &variable),
     }
 }

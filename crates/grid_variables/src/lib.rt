@@ -15,7 +15,8 @@ mod values;
 mod variables;
 
 pub use at_points::{
-    first_colours, first_coordinates, first_normals, first_opacities, second_coordinates, spread,
+    first_colours, first_coordinates, first_opacities, normals_or, one_colour, one_opacity,
+    second_coordinates, spread,
 };
 pub use kept::kept_near;
 pub use leaf::{Along, Leaf};

@@ -1,6 +1,6 @@
 // The points of a leaf before any shader runs, and its grid behind all of them.
 ghost use Rattle.std.specs.Prelude.{◌≡◌, [], None, length, map, IfOk};
-ghost use Rattle.patches.specs.Patches.{patch_point, patch_du, patch_dv};
+ghost use Rattle.quadrics.specs.AnyPatches.{patch_point, patch_du, patch_dv};
 ghost use Rattle.dice.specs.Grids.{diced_points};
 ghost use Rattle.dice.specs.Normals.{normal};
 ghost use Rattle.grid_variables.specs.Points.{columns as column_count, rows as row_count, normal_of, sight};

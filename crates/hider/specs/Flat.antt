@@ -5,15 +5,16 @@ use Rattle.fixed_math.specs.Axes.{origin}
 use Rattle.fixed_math.specs.Spots.{Spot}
 use Rattle.transforms.specs.declared.view.View.{View}
 use Rattle.transforms.specs.Raster.{raster_x, raster_y}
+use Rattle.hider.specs.declared.bounds.Bounds.{Bounds}
 use Rattle.hider.specs.declared.facing.Facing.{Facing}
 use Rattle.hider.specs.declared.flat_cell.FlatCell.{FlatCell}
 use Rattle.hider.specs.declared.fragment.Fragment.{Fragment}
 use Rattle.hider.specs.declared.quad.Corner.{Corner}
 use Rattle.hider.specs.declared.quad.Quad.{Quad}
 use Rattle.hider.specs.declared.raster_point.RasterPoint.{RasterPoint}
-use Rattle.hider.specs.declared.sample_grid.SampleGrid.{SampleGrid}
-use Rattle.hider.specs.CellValues.{CellValues}
-use Rattle.hider.specs.Searching.{AreBeside}
+use Rattle.hider.specs.declared.seen_grid.SeenGrid.{SeenGrid}
+use Rattle.hider.specs.Bounding.{bounds_of}
+use Rattle.hider.specs.CellValues.{CellValues, values_of}
 use Rattle.hider.specs.Coverage.{covers_facing, covers_triangle}
 
 -- a depth from near to far
@@ -52,10 +53,15 @@ pub record IsFlat (v : View) (k : CellValues) (i : ℕ) (f : FlatCell) : Type 0 
   pub colour : f.colour ≡ k.colour i
   pub opacity : f.opacity ≡ k.opacity i
 
--- cell i of cells that stay where they are lies beside the pixels of a grid of samples
-abbrev pub IsCellBeside : View → CellValues → ℕ → SampleGrid → Type 0
-IsCellBeside v k i g =
-    AreBeside g (raster_point v (k.corner i 0 0)).place (raster_point v (k.corner i 1 0)).place (raster_point v (k.corner i 2 0)).place (raster_point v (k.corner i 3 0)).place
+-- the boxes round all cells, in order
+pub record AreBoxes (v : View) (k : CellValues) (boxes : List Bounds) : Type 0 where
+  pub count : length boxes ≡ k.count
+  pub each : (i : ℕ) (d : Bounds) (f : FlatCell) → i < k.count → IsFlat v k i f → slice_index_or boxes i d ≡ bounds_of (flat_quad f)
+
+-- a grid as a camera sees it
+pub record IsSeenBy (v : View) (s : SeenGrid) : Type 0 where
+  pub points : AreOnRaster v s.grid.p.now s.points.now
+  pub boxes : AreBoxes v (values_of s.grid) s.boxes.now
 
 -- what a triangle of a micropolygon shows, if it is one
 abbrev pub facing_covers : FlatCell → Option Facing → Spot → Option Fragment

@@ -1,5 +1,5 @@
 -- Where a search for samples may pass over pixels.
-use Rattle.std.specs.Prelude.{ℕ, ◌+◌, ◌*◌, ◌/◌, ◌<◌, ◌≤◌, ◌⊎◌, ℤ, ◌≤ℤ◌, ◌<ℤ◌, ◌≡◌, pos, Option, None}
+use Rattle.std.specs.Prelude.{ℕ, ◌+◌, ◌*◌, ◌/◌, ◌<◌, ◌≤◌, ◌⊎◌, ◌≤ℤ◌, ◌<ℤ◌, ◌≡◌, pos, Option, None}
 use Rattle.fixed_math.specs.Spots.{Spot, pixel_x, pixel_y}
 use Rattle.hider.specs.declared.bounds.Bounds.{Bounds}
 use Rattle.hider.specs.declared.fragment.Fragment.{Fragment}
@@ -15,17 +15,9 @@ LiesOutside b s = (s.x <ℤ b.left) ⊎ (b.right <ℤ s.x) ⊎ (s.y <ℤ b.top) 
 abbrev pub StaysInside : Bounds → (Sample → Option Fragment) → Type 0
 StaysInside b shown = (s : Sample) → s.time ≤ 65535 → LiesOutside b s.place → shown s ≡ None
 
--- four places that all lie beyond one side of the grid's pixels
-abbrev pub AreBelow : ℤ → ℤ → ℤ → ℤ → ℤ → Type 0
-AreBelow end a b c d = (a <ℤ end) × (b <ℤ end) × (c <ℤ end) × (d <ℤ end)
-
-abbrev pub AreFrom : ℤ → ℤ → ℤ → ℤ → ℤ → Type 0
-AreFrom start a b c d = (start ≤ℤ a) × (start ≤ℤ b) × (start ≤ℤ c) × (start ≤ℤ d)
-
-abbrev pub AreBeside : SampleGrid → Spot → Spot → Spot → Spot → Type 0
-AreBeside g a b c d =
-    (AreBelow (pos (256 * g.left)) a.x b.x c.x d.x) ⊎ (AreFrom (pos (256 * g.right)) a.x b.x c.x d.x) ⊎
-    (AreBelow (pos (256 * g.top)) a.y b.y c.y d.y) ⊎ (AreFrom (pos (256 * g.bottom)) a.y b.y c.y d.y)
+-- a box beyond one side of the grid's pixels
+abbrev pub IsBeside : Bounds → SampleGrid → Type 0
+IsBeside b g = (b.right <ℤ pos (256 * g.left)) ⊎ (pos (256 * g.right) ≤ℤ b.left) ⊎ (b.bottom <ℤ pos (256 * g.top)) ⊎ (pos (256 * g.bottom) ≤ℤ b.top)
 
 -- the pixel of sample n
 abbrev pub column_of : SampleGrid → ℕ → ℕ

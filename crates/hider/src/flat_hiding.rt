@@ -7,12 +7,12 @@ ghost use Rattle.hider.specs.Bounding.{bounds_of};
 ghost use Rattle.hider.specs.CellValues.{CellValues, grid_values, micropolygon_of, micropolygons_of, cell_when, values_of};
 ghost use Rattle.hider.specs.Cells.{still, seen};
 ghost use Rattle.hider.specs.Coverage.{covers};
-ghost use Rattle.hider.specs.Flat.{AreOnRaster, IsCellBeside, IsFlat, are_all_seen, flat_quad};
+ghost use Rattle.hider.specs.Flat.{AreBoxes, AreOnRaster, IsFlat, IsSeenBy, are_all_seen, flat_quad};
 ghost use Rattle.hider.specs.Fragments.{covering};
 ghost use Rattle.hider.specs.Searching.{IsPartOf, StaysIn};
-ghost use Rattle.hider.specs.Tiles.{HavePut, IsSampleGrid, sample_count};
+ghost use Rattle.hider.specs.Tiles.{HavePut, sample_count};
 
-use crate::beside::are_beside;
+use crate::beside::is_beside;
 use crate::bounds::Bounds;
 use crate::edges::edge_at;
 use crate::extremes::{greatest_of, least_of};
@@ -25,15 +25,17 @@ use crate::near::put_rows;
 use crate::places::Places;
 use crate::raster_point::{RasterPoint, put_on_raster};
 use crate::sample_grid::SampleGrid;
+use crate::seen_grid::SeenGrid;
 use crate::sight::is_turned_away;
 use crate::spans::part_near;
 use dice::GridRef;
 use fixed_math::{NoMemory, Vec3};
+use std::alloc::Allocator;
 use transforms::Camera;
 
 /// Puts the points of a grid on the raster, into a row for them.
-pub(crate) fn fill_points(
-    seen: &mut Vec<RasterPoint>,
+pub(crate) fn fill_points<A: Allocator>(
+    seen: &mut Vec<RasterPoint, A>,
     camera: &Camera,
     points: &[Vec3],
 ) -> Result<(), NoMemory>
@@ -150,63 +152,57 @@ fn flat_cell(grid: &GridRef<'_>, seen: &[RasterPoint], cell: usize) -> FlatCell
     }
 }
 
-/// Whether the corners of cell `cell` of a grid, whose points are on the raster, all lie beyond one side of a tile's pixels.
-fn lies_beside(tile: &SampleGrid, grid: &GridRef<'_>, seen: &[RasterPoint], cell: usize) -> bool
-    requires valid { IsSampleGrid tile.now }
-    requires count { length seen.now ≡ length grid.now.p.now }
-    requires cell { cell < (values_of grid.now).count }
-    ensures { IsTrue result → (v : View) → AreOnRaster v grid.now.p.now seen.now → IsCellBeside v (values_of grid.now) cell tile.now }
+/// Puts the boxes round a grid's cells, whose points are on the raster, into a row for them.
+pub(crate) fn fill_boxes<A: Allocator>(
+    boxes: &mut Vec<Bounds, A>,
+    grid: &GridRef<'_>,
+    seen: &[RasterPoint],
+) -> Result<(), NoMemory>
+    requires { length seen.now ≡ length grid.now.p.now }
+    ensures count { OnOk result (length boxes.new.items ≡ (values_of grid.now).count) }
+    ensures boxes { OnOk result ((v : View) → AreOnRaster v grid.now.p.now seen.now → AreBoxes v (values_of grid.now) boxes.new.items) }
 {
-    let columns = grid.columns;
-    let n = first_of(columns, cell);
-    are_beside(
-        tile,
-        seen[n],
-        seen[n + 1],
-        seen[n + columns + 1],
-        seen[n + columns],
-    )
+    boxes.clear();
+    for cell in 0..(grid.columns - 1) * (grid.rows - 1) {
+        boxes.push(bounds_of(&flat_cell(grid, seen, cell)))?;
+    }
+    Ok(())
 }
 
-/// Puts in what cell `cell` of a grid shows at each sample, where its points are on the raster. Most cells of a large grid lie
-/// beside a tile, and are left at once.
+/// Puts in what cell `cell` of a grid shows at each sample. Most cells of a large grid lie beside a tile, and are left at once.
 fn hide_at(
     lists: &mut [FragmentList],
     places: &Places<'_>,
-    grid: &GridRef<'_>,
-    seen: &[RasterPoint],
+    seen: &SeenGrid<'_>,
     cell: usize,
     one_sided: bool,
     flip: bool,
 ) -> Result<(), NoMemory>
     requires enough { sample_count places.now.grid ≤ length lists.old }
-    requires count { length seen.now ≡ length grid.now.p.now }
-    requires cell { cell < (values_of grid.now).count }
-    ensures { OnOk result ((v : View) → AreOnRaster v grid.now.p.now seen.now → HavePut places.now.grid (covering v (still one_sided flip (cell_when (values_of grid.now) cell 0) ∷ [])) lists.old lists.new) }
+    requires cell { cell < (values_of seen.now.grid).count }
+    ensures { OnOk result ((v : View) → IsSeenBy v seen.now → HavePut places.now.grid (covering v (still one_sided flip (cell_when (values_of seen.now.grid) cell 0) ∷ [])) lists.old lists.new) }
 {
-    if lies_beside(&places.grid, grid, seen, cell) {
+    if is_beside(&places.grid, &seen.boxes[cell]) {
         return Ok(());
     }
-    let flat = flat_cell(grid, seen, cell);
+    let flat = flat_cell(&seen.grid, seen.points, cell);
     hide_flat(lists, places, &flat, one_sided, flip)?;
     Ok(())
 }
 
-/// Puts in what the cells of a grid show at each sample, where its points are on the raster.
+/// Puts in what the cells of a grid show at each sample.
 pub(crate) fn hide_grid(
     lists: &mut [FragmentList],
     places: &Places<'_>,
-    grid: &GridRef<'_>,
-    seen: &[RasterPoint],
+    seen: &SeenGrid<'_>,
     one_sided: bool,
     flip: bool,
 ) -> Result<(), NoMemory>
-    requires enough { sample_count places.now.grid ≤ length lists.old }
-    requires count { length seen.now ≡ length grid.now.p.now }
-    ensures { OnOk result ((v : View) → AreOnRaster v grid.now.p.now seen.now → HavePut places.now.grid (covering v (micropolygons_of (values_of grid.now) one_sided flip)) lists.old lists.new) }
+    requires { sample_count places.now.grid ≤ length lists.old }
+    ensures { OnOk result ((v : View) → IsSeenBy v seen.now → HavePut places.now.grid (covering v (micropolygons_of (values_of seen.now.grid) one_sided flip)) lists.old lists.new) }
 {
-    for cell in 0..(grid.columns - 1) * (grid.rows - 1) {
-        hide_at(lists, places, grid, seen, cell, one_sided, flip)?;
+    for cell in 0..seen.boxes.len() {
+        hide_at(lists, places, seen, cell, one_sided, flip)?;
     }
     Ok(())
 }

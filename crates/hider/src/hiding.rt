@@ -12,15 +12,16 @@ use crate::bounds::Bounds;
 use crate::cell::Cell;
 use crate::cells::Cells;
 use crate::extents::{have_same_points, high_of_two, low_of_two};
-use crate::flat_hiding::{fill_points, hide_grid};
+use crate::flat_hiding::{fill_boxes, fill_points, hide_grid};
 use crate::list::FragmentList;
 use crate::moving::{MovingCell, cell_when};
 use crate::near::put_near;
 use crate::places::Places;
-use crate::raster_point::RasterPoint;
 use crate::runs::put_between;
+use crate::seen_grid::SeenGrid;
 use crate::sight::quad_of;
 use fixed_math::{NoMemory, Vec3};
+use std::alloc::Global;
 use transforms::Camera;
 
 /// Puts in what a cell that stays where it is shows at each sample: it is put on the raster once.
@@ -132,12 +133,11 @@ fn hide_all<C: Cells>(
     Ok(())
 }
 
-/// Puts in what the cells show at each sample. The points of a grid that stays where it is are put on the raster once, into a
-/// row for them.
+/// Puts in what the cells show at each sample. The points of a grid that stays where it is are put on the raster once.
 pub(crate) fn hide_cells<C: Cells>(
     lists: &mut [FragmentList],
     places: &Places<'_>,
-    seen: &mut Vec<RasterPoint>,
+    alloc: Global,
     cells: &C,
     camera: &Camera,
     one_sided: bool,
@@ -149,7 +149,15 @@ pub(crate) fn hide_cells<C: Cells>(
     let Some(grid) = cells.still_grid() else {
         return hide_all(lists, places, cells, camera, one_sided, flip);
     };
-    fill_points(seen, camera, grid.p)?;
-    hide_grid(lists, places, &grid, seen.as_slice(), one_sided, flip)?;
+    let mut points = Vec::new(alloc);
+    fill_points(&mut points, camera, grid.p)?;
+    let mut boxes = Vec::new(alloc);
+    fill_boxes(&mut boxes, &grid, points.as_slice())?;
+    let seen = SeenGrid {
+        grid,
+        points: points.as_slice(),
+        boxes: boxes.as_slice(),
+    };
+    hide_grid(lists, places, &seen, one_sided, flip)?;
     Ok(())
 }

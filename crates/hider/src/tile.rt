@@ -1,21 +1,24 @@
 // A tile of samples, in which cells are hidden.
 ghost use Rattle.std.specs.Prelude.{ℕ, ◌≡◌, ◌<◌, ◌≤◌, ◌↔◌, true, [], ◌∷◌, map, IsTrue, IfOk, OnOk, List, length, slice_index_or, vec_capacity};
+ghost use Rattle.transforms.specs.declared.view.View.{View};
 ghost use Rattle.hider.specs.declared.fragment.Fragment.{Fragment};
 ghost use Rattle.hider.specs.declared.sample.Sample.{Sample};
-ghost use Rattle.hider.specs.CellValues.{grid_values, micropolygons_of};
+ghost use Rattle.hider.specs.CellValues.{grid_values, micropolygons_of, values_of};
 ghost use Rattle.hider.specs.Cells.{still, cells_of};
 ghost use Rattle.hider.specs.Composite.{composite};
+ghost use Rattle.hider.specs.Flat.{IsSeenBy};
 ghost use Rattle.hider.specs.Kept.{blocks};
 ghost use Rattle.hider.specs.Tiles.{TileValue, IsTile, IsSampleGrid, Shows, BlocksAll, HidesGrid, grid_of, sample_count, sample_of, with_covering};
 
 use crate::cells::Cells;
+use crate::flat_hiding::hide_grid;
 use crate::grid_cells::GridCells;
 use crate::hiding::hide_cells;
 use crate::list::FragmentList;
 use crate::places::Places;
-use crate::raster_point::RasterPoint;
 use crate::rooms::{all_block, fill_lists, fill_places, next_open};
 use crate::sample_grid::SampleGrid;
+use crate::seen_grid::SeenGrid;
 use crate::spot::Spot;
 use fixed_math::{NoMemory, Num, Vec3};
 use std::alloc::Global;
@@ -30,8 +33,6 @@ pub struct Tile {
     // of at least as many samples as the grid has, so that the memory serves for further grids
     spots: Vec<Spot>,
     lists: Vec<FragmentList>,
-    // room for the points of a grid
-    points: Vec<RasterPoint>,
     // the first sample without an opaque fragment, mostly
     open: usize,
 }
@@ -72,12 +73,10 @@ impl Tile {
         let mut lists = Vec::with_capacity(alloc, grid.count())?;
         fill_places(&mut spots, &grid);
         fill_lists(&mut lists, grid.count());
-        let points = Vec::new(alloc);
         Ok(Tile {
             grid,
             spots,
             lists,
-            points,
             open: 0,
         })
     }
@@ -113,6 +112,7 @@ impl Tile {
         ensures grid { self.new.grid ≡ self.old.grid }
         ensures shows { OnOk result ((f : Sample → List Fragment) → Shows self.old f → Shows self.new (with_covering camera.now (micropolygons_of (C.values cells.now) one_sided flip) f)) }
     {
+        let alloc = *self.lists.allocator();
         let places = Places {
             grid: self.grid,
             spots: self.spots.as_slice(),
@@ -120,12 +120,31 @@ impl Tile {
         hide_cells(
             &mut self.lists,
             &places,
-            &mut self.points,
+            alloc,
             cells,
             camera,
             one_sided,
             flip,
         )?;
+        self.open = next_open(self.lists.as_slice(), self.open, self.grid.count());
+        Ok(())
+    }
+
+    /// Adds what the cells of a grid show that a camera sees, as `hide` does: what is the same for all tiles is known before.
+    pub fn hide_seen(
+        &mut self,
+        seen: &SeenGrid<'_>,
+        one_sided: bool,
+        flip: bool,
+    ) -> Result<(), NoMemory>
+        ensures grid { self.new.grid ≡ self.old.grid }
+        ensures shows { OnOk result ((v : View) (f : Sample → List Fragment) → IsSeenBy v seen.now → Shows self.old f → Shows self.new (with_covering v (micropolygons_of (values_of seen.now.grid) one_sided flip) f)) }
+    {
+        let places = Places {
+            grid: self.grid,
+            spots: self.spots.as_slice(),
+        };
+        hide_grid(&mut self.lists, &places, seen, one_sided, flip)?;
         self.open = next_open(self.lists.as_slice(), self.open, self.grid.count());
         Ok(())
     }

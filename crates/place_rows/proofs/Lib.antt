@@ -1,5 +1,3 @@
 pub mod Sets
 pub mod Rows
-mod Views
-pub mod Totals
 mod Zeroed

@@ -101,12 +101,18 @@ fn fill_words(word: usize, words: &mut [usize])
     }
 }
 
-// So many zeros.
+// So many zeros. They are put a kilobyte at a time, for which no instruction has to go through memory byte by byte.
 fn zero_row<'a>(arena: &'a Bump, count: usize) -> Result<Vec<Raw, &'a Bump>, NoMemory>
     ensures long { IfOk result (λ v. length v.items ≡ count) }
     ensures zero { IfOk result (λ v. (k : ℕ) → get_or v.items k (pos 0) ≡ pos 0) }
 {
-    Ok(vec![in arena; Raw::zero(); count]?)
+    let zeros = [Raw::zero(); 256];
+    let mut row = Vec::with_capacity(arena, count)?;
+    for _ in 0..count / 256 {
+        row.extend_from_slice(&zeros)?;
+    }
+    row.extend_from_slice(&zeros[..count % 256])?;
+    Ok(row)
 }
 
 // So many empty texts.

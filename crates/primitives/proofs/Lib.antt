@@ -2,5 +2,6 @@ pub mod Lists
 pub mod Runs
 pub mod Distinct
 pub mod Values
+pub mod Spreading
 pub mod Seating
 pub mod Room

@@ -8,8 +8,13 @@ use Rattle.std.proofs.lemmas.List.FromFn.{length-map-range_with_len}
 use Rattle.std.proofs.lemmas.List.Sums.{sum_by-cons}
 use Rattle.fixed_math.specs.declared.vec3.Vec3.{Vec3}
 use Rattle.patches.specs.declared.patch.Patch.{Patch}
+use Rattle.quadrics.specs.declared.any_patch.AnyPatch.{AnyPatch}
+use Rattle.quadrics.specs.declared.any_patch.AnyPatch.TheVariants.{Plain, Quadric}
 use Rattle.scene.specs.declared.params.Param.{Param}
+use Rattle.transforms.specs.Map.{Map}
 use Rattle.rib_reader.specs.declared.args.Arg.{Arg}
+use Rattle.rib_reader.specs.Table.{row_of}
+use Rattle.rib_reader.specs.Lists.{is_geometry, has_points}
 use Rattle.rib_reader.specs.declared.req.Req.{Req}
 use Rattle.rib_reader.specs.declared.req.Req.TheVariants as reqs
 use Rattle.mesh_basis.specs.declared.shape.Shape.{Shape}
@@ -25,9 +30,12 @@ use Rattle.scene_parts.specs.declared.code.StateCode.TheVariants.{G5, M3, M7}
 use Rattle.scene.specs.declared.seat.Seat.{Seat}
 use Rattle.primitives.specs.declared.fault.PrimitiveFault.{PrimitiveFault}
 use Rattle.primitives.specs.declared.fault.PrimitiveFault.TheVariants as faults
-use Rattle.primitives.specs.Variables.{are_counted, mesh_extent, mesh_seat, faces_extent, face_seat}
+use Rattle.primitives.specs.Variables.{are_counted, mesh_extent, mesh_seat, quadric_extent, quadric_seat, faces_extent, face_seat}
 use Rattle.primitives.specs.Points.{face_points}
-use Rattle.primitives.specs.Patches.{PatchValue, Made, seated, mesh_seated, mesh_counted, face_patches, faces_from, faces_patches, patches_over}
+use Rattle.primitives.specs.Patches.{PatchValue, Made, seated, all_seated, mesh_counted, face_patches, faces_from, faces_patches, quadric_patches, patches_over}
+use Rattle.primitives.specs.declared.forms.Form.{Form}
+use Rattle.primitives.specs.Quadrics.{form_of, halves, patch_at}
+use Rattle.primitives.specs.Spread.{spread}
 use Rattle.primitives.specs.Answers.{GivesMade}
 
 abbrev refused : StateCode → Made
@@ -36,31 +44,31 @@ refused code = Err code
 abbrev made : List PatchValue → Made
 made patches = Ok patches
 
-seated_length : (params : List Param) (flat : Option Vec3) (seats : ℕ → Seat) (k : ℕ) (ps : List Patch) → length (seated params flat seats k ps) ≡ length ps
+seated_length : {A : Type 0} (kind : A → AnyPatch) (params : List Param) (flat : Option Vec3) (seats : ℕ → Seat) (k : ℕ) (ps : List A) → length (seated kind params flat seats k ps) ≡ length ps
 unfolding seated
-seated_length params flat seats k [] = refl
-seated_length params flat seats k (p ∷ ps) = ap suc (seated_length params flat seats (k + 1) ps)
+seated_length kind params flat seats k [] = refl
+seated_length kind params flat seats k (p ∷ ps) = ap suc (seated_length kind params flat seats (k + 1) ps)
 
 -- ---- meshes
 
-all_length : (f : ℕ → Option Patch) (k n : ℕ) (ps : List Patch) → all_from f k n ≡ Some ps → length ps ≡ n
+all_length : {A : Type 0} (f : ℕ → Option A) (k n : ℕ) (ps : List A) → all_from f k n ≡ Some ps → length ps ≡ n
 unfolding all_from
 all_length f k zero ps e = let same : [] ≡ ps = cc in sym (ap length same)
 all_length f k (suc n) ps e = by_parts (f k) (all_from f (k + 1) n) (λ qs r. all_length f (k + 1) n qs r) refl e
   where
-    by_parts : (o : Option Patch) (rest : Option (List Patch)) → ((qs : List Patch) → all_from f (k + 1) n ≡ Some qs → length qs ≡ n)
+    by_parts : (o : Option A) (rest : Option (List A)) → ((qs : List A) → all_from f (k + 1) n ≡ Some qs → length qs ≡ n)
         → all_from f (k + 1) n ≡ rest → with_next o rest ≡ Some ps → length ps ≡ suc n
     by_parts (Some q) (Some qs) long r e = let same : q ∷ qs ≡ ps = cc in sym (ap length same) ∙ ap suc (long qs r)
     by_parts (Some q) None long r e = absurd cc
     by_parts None (Some qs) long r e = absurd cc
     by_parts None None long r e = absurd cc
 
-few_seated : (params : List Param) (seats : ℕ → Seat) (o : Option (List Patch)) (n room : ℕ) (qs : List PatchValue) → ((ps : List Patch) → o ≡ Some ps → length ps ≡ n) → n ≤ room →
-    mesh_seated params seats o ≡ made qs → length qs ≤ room
-few_seated params seats None n room qs long fits e = absurd cc
-few_seated params seats (Some ps) n room qs long fits e =
-    let same : seated params None seats 0 ps ≡ qs = cc in
-    subst (λ m. m ≤ room) (sym (ap length (sym same) ∙ seated_length params None seats 0 ps ∙ long ps refl)) fits
+few_seated : {A : Type 0} (kind : A → AnyPatch) (params : List Param) (seats : ℕ → Seat) (o : Option (List A)) (n room : ℕ) (qs : List PatchValue) → ((ps : List A) → o ≡ Some ps → length ps ≡ n) → n ≤ room →
+    all_seated kind params seats o ≡ made qs → length qs ≤ room
+few_seated kind params seats None n room qs long fits e = absurd cc
+few_seated kind params seats (Some ps) n room qs long fits e =
+    let same : seated kind params None seats 0 ps ≡ qs = cc in
+    subst (λ m. m ≤ room) (sym (ap length (sym same) ∙ seated_length kind params None seats 0 ps ∙ long ps refl)) fits
 
 few_counted : (params : List Param) (shape : Shape) (room : ℕ) (ps : List Vec3) (o : Option Counts) (qs : List PatchValue) → mesh_counted params shape room ps o ≡ made qs → length qs ≤ room
 few_counted params shape room ps None qs e = absurd cc
@@ -72,11 +80,11 @@ few_counted params shape room ps (Some c) qs e =
     in_range false n rs e = absurd cc
 
     by_tests : (a b : Bool) → nat_lt room (c.along_u * c.along_v) ≡ b
-        → cond (not a) (refused G5) (cond b (refused M3) (mesh_seated params (mesh_seat shape c) (patches_in ps shape c))) ≡ made qs → length qs ≤ room
+        → cond (not a) (refused G5) (cond b (refused M3) (all_seated Plain params (mesh_seat shape c) (patches_in ps shape c))) ≡ made qs → length qs ≤ room
     by_tests false b low e = absurd cc
     by_tests true true low e = absurd cc
     by_tests true false low e =
-        few_seated params (mesh_seat shape c) (patches_in ps shape c) (c.along_u * c.along_v) room qs
+        few_seated Plain params (mesh_seat shape c) (patches_in ps shape c) (c.along_u * c.along_v) room qs
         (λ rs is. in_range (are_in_range ps) (c.along_u * c.along_v) rs is) (grind (arith, nat_tests, low)) e
 
 -- ---- faces
@@ -97,7 +105,7 @@ faces_length params ps j first (n ∷ ns) corners =
     let rest = faces_from params ps (j + 1) (first + n) ns (drop n corners) in
     let both = length-append here rest in
     let this : length here ≡ piece_count (length (take n corners)) =
-    seated_length params (Some (flat_normal face)) seats 0 (pieces_of face)
+    seated_length Plain params (Some (flat_normal face)) seats 0 (pieces_of face)
     ∙ length-map-range_with_len (piece_of face) 0 (piece_count (length face))
     ∙ ap piece_count (length-map (take n corners) (point ps)) in
     let short = take_short n corners in
@@ -136,3 +144,30 @@ pub few_made : (result : Result (List PatchValue) PrimitiveFault) (name : Req) (
 few_made (Ok qs) name args bases params room ps is = few_over name args bases params room ps qs is
 few_made (Err (faults.Refused code)) name args bases params room ps is = tt
 few_made (Err faults.NoMemory) name args bases params room ps is = tt
+
+few_quadric : (params : List Param) (form : Form) (object : Map) (room : ℕ) (qs : List PatchValue) → quadric_patches params form object room ≡ made qs → length qs ≤ room
+few_quadric params form object room qs e = by_tests (are_counted quadric_extent params) (nat_lt room (4 * halves form)) refl e
+  where
+    by_tests : (a b : Bool) → nat_lt room (4 * halves form) ≡ b
+        → cond (not a) (refused G5) (cond b (refused M3) (all_seated Quadric (spread (halves form) params) (quadric_seat (halves form)) (all_from (patch_at object form) 0 (4 * halves form)))) ≡ made qs → length qs ≤ room
+    by_tests false b low e = absurd cc
+    by_tests true true low e = absurd cc
+    by_tests true false low e =
+        few_seated Quadric (spread (halves form) params) (quadric_seat (halves form)) (all_from (patch_at object form) 0 (4 * halves form)) (4 * halves form) room qs
+        (λ rs is. all_length (patch_at object form) 0 (4 * halves form) rs is) (grind (arith, nat_tests, low)) e
+
+pub few_quadric_made : (result : Result (List PatchValue) PrimitiveFault) (params : List Param) (form : Form) (object : Map) (room : ℕ) →
+    GivesMade result (quadric_patches params form object room) → IfOk result (λ qs. length qs ≤ room)
+few_quadric_made (Ok qs) params form object room is = few_quadric params form object room qs is
+few_quadric_made (Err (faults.Refused code)) params form object room is = tt
+few_quadric_made (Err faults.NoMemory) params form object room is = tt
+
+-- ---- requests with points
+
+-- a primitive that is no quadric has points
+pub others_have_points : (name : Req) (args : List Arg) → is_geometry (row_of name).tail ≡ true → form_of name args ≡ None → has_points (row_of name).tail ≡ true
+others_have_points reqs.Sphere args g n = absurd cc
+others_have_points reqs.Cylinder args g n = absurd cc
+others_have_points reqs.Cone args g n = absurd cc
+others_have_points reqs.Disk args g n = absurd cc
+others_have_points _ args g n = g

@@ -9,6 +9,8 @@ use borrow.Author.Tests.{leb-true}
 use Rattle.fixed_math.specs.declared.vec3.Vec3.{Vec3}
 use Rattle.fixed_math.specs.Axes.{origin}
 use Rattle.patches.specs.declared.patch.Patch.{Patch}
+use Rattle.quadrics.specs.declared.any_patch.AnyPatch.{AnyPatch}
+use Rattle.quadrics.specs.declared.any_patch.AnyPatch.TheVariants.{Plain}
 use Rattle.scene.specs.declared.params.Param.{Param}
 use Rattle.mesh_basis.specs.declared.counts.Counts.{Counts}
 use Rattle.mesh_basis.specs.Ranges.{with_next, is_in_range, are_in_range}
@@ -22,72 +24,72 @@ use Rattle.scene_parts.specs.declared.code.StateCode.TheVariants.{G5, M3, M7}
 use Rattle.scene.specs.declared.seat.Seat.{Seat}
 use Rattle.primitives.specs.Variables.{are_counted, mesh_extent, mesh_seat, faces_extent, face_seat}
 use Rattle.primitives.specs.Points.{face_points}
-use Rattle.primitives.specs.Patches.{PatchValue, Made, patch_with, seated, mesh_seated, mesh_counted, mesh_patches, face_patches, faces_from, faces_patches}
+use Rattle.primitives.specs.Patches.{PatchValue, Made, patch_with, seated, all_seated, mesh_counted, mesh_patches, face_patches, faces_from, faces_patches}
 
 abbrev made : List PatchValue → Made
 made patches = Ok patches
 
--- ---- the patches of a mesh
+-- ---- the patches of a mesh, and of a quadric
 
 -- those from patch k on, behind these
-abbrev pub mesh_behind : List Param → (ℕ → Seat) → List PatchValue → ℕ → Option (List Patch) → Made
-mesh_behind params seats done k None = Err M7
-mesh_behind params seats done k (Some ps) = Ok (done ++ seated params None seats k ps)
+abbrev pub mesh_behind : {A : Type 0} → (A → AnyPatch) → List Param → (ℕ → Seat) → List PatchValue → ℕ → Option (List A) → Made
+mesh_behind kind params seats done k None = Err M7
+mesh_behind kind params seats done k (Some ps) = Ok (done ++ seated kind params None seats k ps)
 
-pub mesh_start : (params : List Param) (seats : ℕ → Seat) (o : Option (List Patch)) → mesh_behind params seats [] 0 o ≡ mesh_seated params seats o
-mesh_start params seats None = refl
-mesh_start params seats (Some ps) = refl
+pub mesh_start : {A : Type 0} (kind : A → AnyPatch) (params : List Param) (seats : ℕ → Seat) (o : Option (List A)) → mesh_behind kind params seats [] 0 o ≡ all_seated kind params seats o
+mesh_start kind params seats None = refl
+mesh_start kind params seats (Some ps) = refl
 
-behind_next : (params : List Param) (seats : ℕ → Seat) (done : List PatchValue) (k : ℕ) (p : Patch) (o : Option (List Patch)) →
-    mesh_behind params seats done k (with_next (Some p) o) ≡ mesh_behind params seats (done ++ patch_with params None (seats k) p ∷ []) (k + 1) o
+behind_next : {A : Type 0} (kind : A → AnyPatch) (params : List Param) (seats : ℕ → Seat) (done : List PatchValue) (k : ℕ) (p : A) (o : Option (List A)) →
+    mesh_behind kind params seats done k (with_next (Some p) o) ≡ mesh_behind kind params seats (done ++ patch_with params None (seats k) (kind p) ∷ []) (k + 1) o
 unfolding seated
-behind_next params seats done k p None = refl
-behind_next params seats done k p (Some ps) = ap made (sym (append_assoc done (patch_with params None (seats k) p ∷ []) (seated params None seats (k + 1) ps)))
+behind_next kind params seats done k p None = refl
+behind_next kind params seats done k p (Some ps) = ap made (sym (append_assoc done (patch_with params None (seats k) (kind p) ∷ []) (seated kind params None seats (k + 1) ps)))
 
-behind_none : (params : List Param) (seats : ℕ → Seat) (done : List PatchValue) (k : ℕ) (o : Option (List Patch)) → mesh_behind params seats done k (with_next None o) ≡ Err M7
-behind_none params seats done k None = refl
-behind_none params seats done k (Some ps) = refl
+behind_none : {A : Type 0} (kind : A → AnyPatch) (params : List Param) (seats : ℕ → Seat) (done : List PatchValue) (k : ℕ) (o : Option (List A)) → mesh_behind kind params seats done k (with_next None o) ≡ Err M7
+behind_none kind params seats done k None = refl
+behind_none kind params seats done k (Some ps) = refl
 
-pub mesh_next : (f : ℕ → Option Patch) (params : List Param) (seats : ℕ → Seat) (k n : ℕ) (p : Patch) (done more : List PatchValue) (all : Made) → k < n → f k ≡ Some p →
-    more ≡ done ++ patch_with params None (seats k) p ∷ [] → mesh_behind params seats done k (all_from f k (n - k)) ≡ all
-    → mesh_behind params seats more (k + 1) (all_from f (k + 1) (n - (k + 1))) ≡ all
-mesh_next f params seats k n p done more all h e g inv =
+pub mesh_next : {A : Type 0} (kind : A → AnyPatch) (f : ℕ → Option A) (params : List Param) (seats : ℕ → Seat) (k n : ℕ) (p : A) (done more : List PatchValue) (all : Made) → k < n → f k ≡ Some p →
+    more ≡ done ++ patch_with params None (seats k) (kind p) ∷ [] → mesh_behind kind params seats done k (all_from f k (n - k)) ≡ all
+    → mesh_behind kind params seats more (k + 1) (all_from f (k + 1) (n - (k + 1))) ≡ all
+mesh_next kind f params seats k n p done more all h e g inv =
     let rest = all_from f (k + 1) (n - (k + 1)) in
-    ap (λ ds. mesh_behind params seats ds (k + 1) rest) g
-    ∙ sym (ap (mesh_behind params seats done k) (all_step f k n h ∙ ap (λ o. with_next o rest) e) ∙ behind_next params seats done k p rest) ∙ inv
+    ap (λ ds. mesh_behind kind params seats ds (k + 1) rest) g
+    ∙ sym (ap (mesh_behind kind params seats done k) (all_step f k n h ∙ ap (λ o. with_next o rest) e) ∙ behind_next kind params seats done k p rest) ∙ inv
 
-pub mesh_none : (f : ℕ → Option Patch) (params : List Param) (seats : ℕ → Seat) (k n : ℕ) (done : List PatchValue) (all : Made) → k < n → f k ≡ None →
-    mesh_behind params seats done k (all_from f k (n - k)) ≡ all → all ≡ Err M7
-mesh_none f params seats k n done all h e inv =
+pub mesh_none : {A : Type 0} (kind : A → AnyPatch) (f : ℕ → Option A) (params : List Param) (seats : ℕ → Seat) (k n : ℕ) (done : List PatchValue) (all : Made) → k < n → f k ≡ None →
+    mesh_behind kind params seats done k (all_from f k (n - k)) ≡ all → all ≡ Err M7
+mesh_none kind f params seats k n done all h e inv =
     let rest = all_from f (k + 1) (n - (k + 1)) in
-    sym inv ∙ ap (mesh_behind params seats done k) (all_step f k n h ∙ ap (λ o. with_next o rest) e) ∙ behind_none params seats done k rest
+    sym inv ∙ ap (mesh_behind kind params seats done k) (all_step f k n h ∙ ap (λ o. with_next o rest) e) ∙ behind_none kind params seats done k rest
 
-pub mesh_end : (f : ℕ → Option Patch) (params : List Param) (seats : ℕ → Seat) (k n : ℕ) (done : List PatchValue) (all : Made) → n ≤ k →
-    mesh_behind params seats done k (all_from f k (n - k)) ≡ all → all ≡ Ok done
+pub mesh_end : {A : Type 0} (kind : A → AnyPatch) (f : ℕ → Option A) (params : List Param) (seats : ℕ → Seat) (k n : ℕ) (done : List PatchValue) (all : Made) → n ≤ k →
+    mesh_behind kind params seats done k (all_from f k (n - k)) ≡ all → all ≡ Ok done
 unfolding all_from seated
-mesh_end f params seats k n done all h inv =
+mesh_end kind f params seats k n done all h inv =
     let e : n - k ≡ 0 = omega arith in
-    sym inv ∙ ap (λ m. mesh_behind params seats done k (all_from f k m)) e ∙ ap made (append-nil done)
+    sym inv ∙ ap (λ m. mesh_behind kind params seats done k (all_from f k m)) e ∙ ap made (append-nil done)
 
 -- ---- the pieces of a face
 
 pub piece_next : (f : ℕ → Patch) (params : List Param) (flat : Option Vec3) (seats : ℕ → Seat) (i n : ℕ) (done more all : List PatchValue) → i < n →
-    more ≡ done ++ patch_with params flat (seats i) (f i) ∷ [] → done ++ seated params flat seats i (map f (range_with_len i (n - i))) ≡ all
-    → more ++ seated params flat seats (i + 1) (map f (range_with_len (i + 1) (n - (i + 1)))) ≡ all
+    more ≡ done ++ patch_with params flat (seats i) (Plain (f i)) ∷ [] → done ++ seated Plain params flat seats i (map f (range_with_len i (n - i))) ≡ all
+    → more ++ seated Plain params flat seats (i + 1) (map f (range_with_len (i + 1) (n - (i + 1)))) ≡ all
 unfolding seated
 piece_next f params flat seats i n done more all h g inv =
     let e : n - i ≡ suc (n - (i + 1)) = omega arith in
-    let rest = seated params flat seats (i + 1) (map f (range_with_len (i + 1) (n - (i + 1)))) in
+    let rest = seated Plain params flat seats (i + 1) (map f (range_with_len (i + 1) (n - (i + 1)))) in
     ap (λ (l : List PatchValue). l ++ rest) g
-    ∙ append_assoc done (patch_with params flat (seats i) (f i) ∷ []) rest
-    ∙ sym (ap (λ m. done ++ seated params flat seats i (map f (range_with_len i m))) e) ∙ inv
+    ∙ append_assoc done (patch_with params flat (seats i) (Plain (f i)) ∷ []) rest
+    ∙ sym (ap (λ m. done ++ seated Plain params flat seats i (map f (range_with_len i m))) e) ∙ inv
 
 pub piece_end : (f : ℕ → Patch) (params : List Param) (flat : Option Vec3) (seats : ℕ → Seat) (i n : ℕ) (done all : List PatchValue) → n ≤ i →
-    done ++ seated params flat seats i (map f (range_with_len i (n - i))) ≡ all → done ≡ all
+    done ++ seated Plain params flat seats i (map f (range_with_len i (n - i))) ≡ all → done ≡ all
 unfolding seated
 piece_end f params flat seats i n done all h inv =
     let e : n - i ≡ 0 = omega arith in
-    sym (append-nil done) ∙ sym (ap (λ m. done ++ seated params flat seats i (map f (range_with_len i m))) e) ∙ inv
+    sym (append-nil done) ∙ sym (ap (λ m. done ++ seated Plain params flat seats i (map f (range_with_len i m))) e) ∙ inv
 
 -- ---- faces
 
@@ -190,15 +192,15 @@ face_near ps (k ∷ ks) h = and_true (is_in_range (point ps k)) (are_in_range (f
 
 -- a mesh with room, whose points are in range
 pub mesh_is : (params : List Param) (shape : Shape) (room : ℕ) (ps : List Vec3) (c : Counts) → counts_of shape (length ps) ≡ Some c → are_counted (mesh_extent shape c) params ≡ true → nat_lt room (c.along_u * c.along_v) ≡ false → are_in_range ps ≡ true →
-    mesh_patches params shape room ps ≡ mesh_seated params (mesh_seat shape c) (all_from (patch_at ps shape c.along_u) 0 (c.along_u * c.along_v))
+    mesh_patches params shape room ps ≡ all_seated Plain params (mesh_seat shape c) (all_from (patch_at ps shape c.along_u) 0 (c.along_u * c.along_v))
 mesh_is params shape room ps c e n f g =
     let all = all_from (patch_at ps shape c.along_u) 0 (c.along_u * c.along_v) in
     let seats = mesh_seat shape c in
-    let laid = mesh_seated params seats (patches_in ps shape c) in
+    let laid = all_seated Plain params seats (patches_in ps shape c) in
     ap (mesh_counted params shape room ps) e
     ∙ ap (λ b. if not b then Err G5 else (if nat_lt room (c.along_u * c.along_v) then Err M3 else laid)) n
     ∙ ap (λ b. if b then Err M3 else laid) f
-    ∙ ap (λ b. mesh_seated params seats (if b then all else None)) g
+    ∙ ap (λ b. all_seated Plain params seats (if b then all else None)) g
 
 -- faces with room, whose points are in range
 pub faces_are : (params : List Param) (room : ℕ) (ps : List Vec3) (f : FaceValues) → are_counted (faces_extent (length ps) f) params ≡ true → nat_lt room (sum_by piece_count f.sizes) ≡ false → are_in_range ps ≡ true →

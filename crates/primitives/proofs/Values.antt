@@ -53,7 +53,7 @@ each_all : {A : Type 0} (P : A → Type 0) (xs : List A) → ((k : ℕ) (x : A) 
 each_all P [] each = all_none P
 each_all P (x ∷ xs) each = all_first P x xs (each 0 x refl) (each_all P xs (λ k y there. each (suc k) y there))
 
-all_rest : {A : Type 0} (P : A → Type 0) (x : A) (xs : List A) → All P (x ∷ xs) → (P x) × (All P xs)
+pub all_rest : {A : Type 0} (P : A → Type 0) (x : A) (xs : List A) → All P (x ∷ xs) → (P x) × (All P xs)
 all_rest P x xs all = (all 0 x (omega arith), λ k d h. all (suc k) d (omega (arith, h)))
 
 holding_all : (P : Param → Type 0) (ps : List Param) → All P ps → All P (holding ps)
@@ -102,7 +102,7 @@ all_there e seat (p ∷ ps) inside kinds counted =
 
 -- ---- patches of meshes
 
-corner_below : (u v a b : ℕ) → a < v → b < u → u * a + b < u * v
+pub corner_below : (u v a b : ℕ) → a < v → b < u → u * a + b < u * v
 corner_below u v a b h g =
     let most : u * (a + 1) ≤ u * v = mul-le-mul_left u (omega (arith, h)) in
     let next : u * (a + 1) ≡ u * a + u = grind arith in
@@ -112,7 +112,7 @@ along_some : (periodic : Bool) (m : ℕ) → 1 ≤ m → 1 ≤ corners_along per
 along_some true m h = h
 along_some false m h = omega (arith, h)
 
-four_below : (l a b c d : ℕ) → a < l → b < l → c < l → d < l → All (IsBelow l) (a ∷ b ∷ c ∷ d ∷ [])
+pub four_below : (l a b c d : ℕ) → a < l → b < l → c < l → d < l → All (IsBelow l) (a ∷ b ∷ c ∷ d ∷ [])
 four_below l a b c d ha hb hc hd =
     let P = IsBelow l in
     all_first P a (b ∷ c ∷ d ∷ []) ha (all_first P b (c ∷ d ∷ []) hb (all_first P c (d ∷ []) hc (all_one P d hd)))

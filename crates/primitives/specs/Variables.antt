@@ -86,6 +86,19 @@ mesh_corners s c k = patch_corners (corners_along s.periodic_u c.along_u) (corne
 abbrev pub mesh_seat : Shape → Counts → ℕ → Seat
 mesh_seat s c k = record { place = mesh_place c k; face = k; points = mesh_corners s c k; corners = mesh_corners s c k }
 
+-- ---- quadrics
+
+-- a quadric has one value of a uniform variable, and four of one that varies
+abbrev pub quadric_extent : Extent
+quadric_extent = record { faces = 1; points = 4; corners = 4 }
+
+-- patch k of a quadric of so many halves: by halves, the quarter fastest; the corners are five in a row
+abbrev pub quadric_corners : ℕ → ℕ → List ℕ
+quadric_corners halves k = patch_corners 5 (halves + 1) (k % 4) (k / 4)
+
+abbrev pub quadric_seat : ℕ → ℕ → Seat
+quadric_seat halves k = record { place = (k % 4) ∷ 4 ∷ (k / 4) ∷ halves ∷ []; face = 0; points = quadric_corners halves k; corners = quadric_corners halves k }
+
 -- ---- faces
 
 -- the place of a patch that is no mesh's

@@ -3,6 +3,7 @@ ghost use Rattle.std.specs.Prelude.{◌≡◌, ◌<◌, ◌≤◌, ◌+◌, ◌^
 ghost use Rattle.std.specs.List.{sum_by};
 ghost use Rattle.mesh_basis.specs.Ranges.{are_in_range};
 ghost use Rattle.mesh_basis.specs.Polygons.{piece_count, pieces_of};
+ghost use Rattle.quadrics.specs.declared.any_patch.AnyPatch.TheVariants.{Plain};
 ghost use Rattle.scene.specs.Scene.{most_prims};
 ghost use Rattle.scene_parts.specs.Faces.{use_up, are_places};
 ghost use Rattle.scene.specs.Seats.{IsOfKind, IsThere};
@@ -17,6 +18,7 @@ use crate::seat::{Face, face_seat, faces_extent};
 use crate::variables::are_counted;
 use fixed_math::{List, NoMemory, Vec3};
 use mesh_basis::{are_in_range, flat_normal, piece_of};
+use quadrics::AnyPatch;
 use scene::{RequestVariables, Shared};
 use scene_parts::{Faces, StateCode, piece_total};
 use std::alloc::Global;
@@ -36,12 +38,12 @@ fn add_seated(
     requires same { length face.now.points.now ≡ length points.now }
     requires few { face.now.first + length points.now < 2 ^ 64 }
     requires there { (i : ℕ) → i < piece_count (length face.now.points.now) → All (IsThere (face_seat face.now.index face.now.first face.now.points.now i)) variables.now }
-    ensures { IfOk result (λ _. all.new.items ≡ all.old.items ++ seated variables.now (Some flat.now) (face_seat face.now.index face.now.first face.now.points.now) 0 (pieces_of points.now)) }
+    ensures { IfOk result (λ _. all.new.items ≡ all.old.items ++ seated Plain variables.now (Some flat.now) (face_seat face.now.index face.now.first face.now.points.now) 0 (pieces_of points.now)) }
 {
     for i in 0..(points.len() - 1) / 2 {
         let patch = piece_of(points, i);
         let seat = face_seat(face.index, face.first, face.points, i);
-        let placed = patch_with(variables, Some(*flat), seat, patch)?;
+        let placed = patch_with(variables, Some(*flat), seat, AnyPatch::Plain(patch))?;
         all.push(placed)?;
     }
     Ok(())

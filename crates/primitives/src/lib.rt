@@ -4,11 +4,14 @@
 
 mod faces;
 mod fault;
+mod forms;
 mod meshes;
 mod patch;
 mod points;
+mod quadrics;
 mod requests;
 mod seat;
+mod spread;
 mod variables;
 
 pub use fault::PrimitiveFault;

@@ -3,10 +3,11 @@ ghost use Rattle.std.specs.Prelude.{◌≡◌, ◌<◌, ◌≤◌, ◌*◌, ◌^
 ghost use Rattle.mesh_basis.specs.Counts.{counts_of};
 ghost use Rattle.mesh_basis.specs.Ranges.{are_in_range};
 ghost use Rattle.mesh_basis.specs.Meshes.{patch_at, all_from};
+ghost use Rattle.quadrics.specs.declared.any_patch.AnyPatch.TheVariants.{Plain};
 ghost use Rattle.scene.specs.Scene.{most_prims};
 ghost use Rattle.scene.specs.Seats.{IsOfKind, IsThere};
 ghost use Rattle.primitives.specs.Variables.{mesh_seat, HasSides};
-ghost use Rattle.primitives.specs.Patches.{mesh_seated, mesh_patches};
+ghost use Rattle.primitives.specs.Patches.{all_seated, mesh_patches};
 ghost use Rattle.primitives.specs.Answers.{GivesMade};
 
 use crate::fault::PrimitiveFault;
@@ -15,6 +16,7 @@ use crate::seat::{mesh_extent, mesh_seat};
 use crate::variables::are_counted;
 use fixed_math::{List, Vec3};
 use mesh_basis::{Counts, Shape, are_in_range, counts_of, patch_at};
+use quadrics::AnyPatch;
 use scene::{RequestVariables, Shared};
 use scene_parts::StateCode;
 use std::alloc::Global;
@@ -32,7 +34,7 @@ fn mesh_seated(
     requires few { counts.along_u * counts.along_v ≤ most_prims }
     requires sides { HasSides shape.now counts }
     requires there { (k : ℕ) → k < counts.along_u * counts.along_v → All (IsThere (mesh_seat shape.now counts k)) variables.now }
-    ensures { GivesMade result (mesh_seated variables.now (mesh_seat shape.now counts) (all_from (patch_at points.now shape.now counts.along_u) 0 (counts.along_u * counts.along_v))) }
+    ensures { GivesMade result (all_seated Plain variables.now (mesh_seat shape.now counts) (all_from (patch_at points.now shape.now counts.along_u) 0 (counts.along_u * counts.along_v))) }
 {
     let mut all = Vec::new(alloc);
     for k in 0..counts.along_u as u64 * counts.along_v as u64 {
@@ -40,7 +42,7 @@ fn mesh_seated(
             return Err(PrimitiveFault::Refused(StateCode::M7));
         };
         let seat = mesh_seat(shape, counts, k);
-        let placed = patch_with(variables, None, seat, patch)?;
+        let placed = patch_with(variables, None, seat, AnyPatch::Plain(patch))?;
         all.push(placed)?;
     }
     Ok(List(all))

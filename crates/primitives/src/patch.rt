@@ -5,7 +5,7 @@ ghost use Rattle.scene.specs.Seats.{IsThere};
 ghost use Rattle.primitives.specs.Patches.{PatchValue, patch_with};
 
 use fixed_math::{NoMemory, Vec3};
-use patches::Patch;
+use quadrics::AnyPatch;
 use scene::{PrimitiveVariables, RequestVariables, Seat, Shared};
 use std::marker::Model;
 
@@ -13,7 +13,7 @@ use std::marker::Model;
 /// row d of n that it has in its mesh, as [c, m, d, n], and its values of the primitive's variables. Contracts see it as a record.
 #[derive(Drop)]
 pub struct PrimitivePatch {
-    pub patch: Patch,
+    pub patch: AnyPatch,
     pub flat: Option<Vec3>,
     pub place: [u32; 4],
     pub vars: PrimitiveVariables,
@@ -32,7 +32,7 @@ pub(crate) fn patch_with(
     variables: &Shared<RequestVariables>,
     flat: Option<Vec3>,
     seat: Seat,
-    patch: Patch,
+    patch: AnyPatch,
 ) -> Result<PrimitivePatch, NoMemory>
     requires place { IsPlace seat.place }
     requires there { All (IsThere seat) variables.now }

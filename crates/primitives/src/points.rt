@@ -1,7 +1,7 @@
 // The points of primitives in camera space.
 ghost use Rattle.std.specs.Prelude.{◌≡◌, true, IfOk};
 ghost use Rattle.rib_reader.specs.Table.{row_of};
-ghost use Rattle.rib_reader.specs.Lists.{is_geometry, points_in};
+ghost use Rattle.rib_reader.specs.Lists.{has_points, points_in};
 ghost use Rattle.mesh_basis.specs.Polygons.{point};
 ghost use Rattle.primitives.specs.Points.{saturated, camera_point, points_from, placed_points, face_points};
 
@@ -21,8 +21,8 @@ fn saturated(raw: [i64; 3]) -> Vec3
     }
 }
 
-// The image of a point.
-fn camera_point(object: &Affine, point: Vec3) -> Vec3
+/// The image of a point.
+pub(crate) fn camera_point(object: &Affine, point: Vec3) -> Vec3
     ensures { result ≡ camera_point object.now point }
 {
     saturated(object.point(point))
@@ -81,7 +81,7 @@ pub(crate) fn placed_points(
     object: &Affine,
     request: &Request,
 ) -> Result<Option<List<Vec3>>, NoMemory>
-    requires { is_geometry (row_of request.now.name).tail ≡ true }
+    requires { has_points (row_of request.now.name).tail ≡ true }
     ensures { IfOk result (λ r. r ≡ placed_points object.now (points_in request.now.params)) }
 {
     points_from(alloc, object, request.points())

@@ -10,9 +10,11 @@ ghost use Rattle.primitives.specs.Answers.{GivesMade};
 
 use crate::faces::faces_patches;
 use crate::fault::PrimitiveFault;
+use crate::forms::form_of;
 use crate::meshes::mesh_patches;
 use crate::patch::PrimitivePatch;
 use crate::points::placed_points;
+use crate::quadrics::quadric_patches;
 use crate::variables::variables_in;
 use fixed_math::{List, Vec3};
 use rib_reader::{Req, Request};
@@ -73,6 +75,9 @@ pub fn patches_of(
     ensures made { GivesMade result (patches_of (plain request.now) bases object.now room) }
     ensures few { IfOk result (λ patches. length patches ≤ room) }
 {
+    if let Some(form) = form_of(request) {
+        return quadric_patches(alloc, request, form, object, room);
+    }
     let Some(points) = placed_points(alloc, object, request)? else {
         return Err(PrimitiveFault::Refused(StateCode::G5));
     };

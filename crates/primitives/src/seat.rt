@@ -2,7 +2,7 @@
 ghost use Rattle.std.specs.Prelude.{◌≡◌, ◌<◌, ◌≤◌, ◌+◌, ◌*◌, ◌^◌, length};
 ghost use Rattle.mesh_basis.specs.Polygons.{piece_count};
 ghost use Rattle.scene.specs.Scene.{IsPlace, most_prims};
-ghost use Rattle.primitives.specs.Variables.{corners_along, corner_in, patch_corners, mesh_extent, mesh_place, mesh_corners, mesh_seat, faces_extent, face_seat, HasSides};
+ghost use Rattle.primitives.specs.Variables.{corners_along, corner_in, patch_corners, mesh_extent, mesh_place, mesh_corners, mesh_seat, quadric_seat, faces_extent, face_seat, HasSides};
 
 use mesh_basis::{Counts, Shape, piece_corners};
 use scene::Seat;
@@ -110,6 +110,24 @@ pub(crate) fn mesh_seat(shape: &Shape, counts: Counts, k: u64) -> Seat
     Seat {
         place: [column, counts.along_u, row, counts.along_v],
         face: k as usize,
+        points: corners,
+        corners,
+    }
+}
+
+/// Where patch `k` of a quadric of so many halves stands.
+pub(crate) fn quadric_seat(halves: u32, k: u64) -> Seat
+    requires some { 1 ≤ halves }
+    requires few { halves ≤ 2 }
+    requires there { k < 4 * halves }
+    ensures value { result ≡ quadric_seat halves k }
+    ensures place { IsPlace result.place }
+{
+    let (quarter, half) = ((k % 4) as u32, (k / 4) as u32);
+    let corners = patch_corners(5, halves + 1, quarter, half);
+    Seat {
+        place: [quarter, 4, half, halves],
+        face: 0,
         points: corners,
         corners,
     }

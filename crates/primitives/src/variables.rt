@@ -45,8 +45,8 @@ pub(crate) fn variables_in(
     Shared::new(alloc, variables)
 }
 
-// How many numbers or strings a value of that kind has.
-fn width(kind: Kind) -> usize
+/// How many numbers or strings a value of that kind has.
+pub(crate) fn width(kind: Kind) -> usize
     ensures { result ≡ width kind }
 {
     match kind {

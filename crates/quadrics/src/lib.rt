@@ -1,6 +1,7 @@
 //! Quadrics: rational patches of spheres, cylinders, cones and disks. A point is the exact quotient of two Bernstein sums, rounded down once.
 #![tactic(auto)]
 
+mod any_patch;
 mod mixing;
 mod quadric;
 mod quotient;
@@ -9,6 +10,7 @@ mod rows;
 mod ruled;
 mod spans;
 
+pub use any_patch::AnyPatch;
 pub use quadric::Quadric;
 pub use round::Round;
 pub use ruled::Ruled;

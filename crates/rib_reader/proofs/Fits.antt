@@ -16,7 +16,7 @@ use Rattle.rib_reader.specs.declared.table.Shape.{Shape}
 use Rattle.rib_reader.specs.declared.table.Shape.TheVariants as shapes
 use Rattle.rib_reader.specs.declared.table.Words.{Words}
 use Rattle.rib_reader.specs.declared.table.Rule.{Rule}
-use Rattle.rib_reader.specs.declared.table.Rule.TheVariants.{Within, AtLeast, Rising, OneOf, NoneOf, Levels}
+use Rattle.rib_reader.specs.declared.table.Rule.TheVariants.{Within, AtLeast, Rising, Between, OneOf, NoneOf, Levels}
 use Rattle.rib_reader.specs.declared.table.Words.TheVariants.{Modes, Bicubic}
 use Rattle.rib_reader.specs.declared.table.Tail.{Tail}
 use Rattle.rib_reader.specs.declared.table.Tail.TheVariants as tails
@@ -32,7 +32,7 @@ use Rattle.rib_reader.specs.declared.faults.RibCode.TheVariants.{S2, S3}
 use Rattle.rib_reader.specs.Table.{row_of, shapes_of, rules_of, words_in}
 use Rattle.rib_reader.specs.Rules.{when, lowest, are_whole, fits, fit, word_in, word_at, number_in, raw_at, whole_in, whole_at, numbers_in, numbers_at, is_outside, is_below, is_not_less, is_among, is_one, is_none_of, rule_code, args_code, levels_code, tail_with, follows_of}
 use Rattle.rib_reader.specs.Holding.{is_named, last_named}
-use Rattle.rib_reader.specs.Lists.{is_points, needed, is_as_needed, is_vertex, kind_code, name_code, count_code, is_geometry, numbers_held, numbers_given, points_in, own_code, param_code, whole_code, params_code, request_code}
+use Rattle.rib_reader.specs.Lists.{is_points, needed, is_as_needed, is_vertex, kind_code, name_code, count_code, has_points, numbers_held, numbers_given, points_in, own_code, param_code, whole_code, params_code, request_code}
 use Rattle.scene.specs.Kinds.{is_of_kind}
 use Rattle.rib_reader.proofs.Lowest.{lower_none, when_none, lowest_none}
 
@@ -207,6 +207,15 @@ rising name args params place x e there k other y h behind =
     let here : not (int_lt x y) ≡ false = sym (ap (λ o. is_not_less o (Some y)) there) ∙ sym (ap (is_not_less (raw_at args place)) behind) ∙ less in
     is_less_than x y (not_false (int_lt x y) here)
 
+-- a number lies between those that its row says
+pub between : (name : Req) (args : List Arg) (params : List Param) (place : ℕ) (x : ℤ) → request_code name args params ≡ None → raw_at args place ≡ Some x
+    → (k : ℕ) (least most : ℤ) → slice_get (rules_of name) k ≡ Some (Between place least most) → (least ≤ℤ x) × (x ≤ℤ most)
+between name args params place x e there k least most h =
+    let holds = rule_holds name args params e k (Between place least most) h in
+    let inside = when_none (is_outside (raw_at args place) least most) S3 holds in
+    let here : (int_lt x least || int_lt most x) ≡ false = sym (ap (λ o. is_outside o least most) there) ∙ inside in
+    (not_less x least (or_left (int_lt x least) (int_lt most x) here), not_less most x (or_right (int_lt x least) (int_lt most x) here))
+
 -- a string is one of the words that its row has
 pub one_of : (name : Req) (args : List Arg) (params : List Param) (place : ℕ) (t : List ℕ) → request_code name args params ≡ None → word_at args place ≡ Some t
     → (k : ℕ) (words : Words) (code : RibCode) → slice_get (rules_of name) k ≡ Some (OneOf place words code) → is_among (words_in words) t ≡ true
@@ -239,20 +248,20 @@ param_holds follows p e =
 -- the levels of a request
 pub record InRange (one least most : ℤ) : Type 0 where
   pub some : pos 1 ≤ℤ one
-  pub small : one ≤ℤ pos 255
+  pub small : one ≤ℤ pos 65535
   pub low : pos 0 ≤ℤ least
   pub ordered : least ≤ℤ most
   pub within : most ≤ℤ one
 
 in_range : (a b c : ℤ) → levels_code (Some a) (Some b) (Some c) ≡ None → InRange a b c
 in_range a b c e =
-    let both = lower_none (when (int_lt (pos 255) a) S2) (when (int_lt a (pos 1) || int_lt b (pos 0) || int_lt c b || int_lt a c) S3) e in
+    let both = lower_none (when (int_lt (pos 65535) a) S2) (when (int_lt a (pos 1) || int_lt b (pos 0) || int_lt c b || int_lt a c) S3) e in
     let wrong = when_none (int_lt a (pos 1) || int_lt b (pos 0) || int_lt c b || int_lt a c) S3 both.1 in
     let three = or_left (int_lt a (pos 1) || int_lt b (pos 0) || int_lt c b) (int_lt a c) wrong in
     let two = or_left (int_lt a (pos 1) || int_lt b (pos 0)) (int_lt c b) three in
     record {
       some = not_less a (pos 1) (or_left (int_lt a (pos 1)) (int_lt b (pos 0)) two);
-      small = not_less (pos 255) a (when_none (int_lt (pos 255) a) S2 both.0);
+      small = not_less (pos 65535) a (when_none (int_lt (pos 65535) a) S2 both.0);
       low = not_less b (pos 0) (or_right (int_lt a (pos 1)) (int_lt b (pos 0)) two);
       ordered = not_less c b (or_right (int_lt a (pos 1) || int_lt b (pos 0)) (int_lt c b) three);
       within = not_less a c (or_right (int_lt a (pos 1) || int_lt b (pos 0) || int_lt c b) (int_lt a c) wrong);
@@ -282,15 +291,16 @@ unfolding needs_points
 either_bicubic true = refl
 either_bicubic false = refl
 
-geometry_needs : (t : Tail) (word : Option (List ℕ)) → is_geometry t ≡ true → needs_points (tail_with t word) ≡ true
+points_needed_by : (t : Tail) (word : Option (List ℕ)) → has_points t ≡ true → needs_points (tail_with t word) ≡ true
 unfolding needs_points
-geometry_needs tails.Empty word h = absurd cc
-geometry_needs tails.Anything word h = absurd cc
-geometry_needs tails.Free word h = absurd cc
-geometry_needs tails.Attribute word h = absurd cc
-geometry_needs tails.Parameters word h = absurd cc
-geometry_needs tails.Variables word h = refl
-geometry_needs tails.PatchVariables word h = either_bicubic (is_one Bicubic word)
+points_needed_by tails.Empty word h = absurd cc
+points_needed_by tails.Anything word h = absurd cc
+points_needed_by tails.Free word h = absurd cc
+points_needed_by tails.Attribute word h = absurd cc
+points_needed_by tails.Parameters word h = absurd cc
+points_needed_by tails.Variables word h = refl
+points_needed_by tails.QuadricVariables word h = absurd cc
+points_needed_by tails.PatchVariables word h = either_bicubic (is_one Bicubic word)
 
 -- a primitive's points are there
 points_there : (f : Follows) (ps : List Param) → needs_points f ≡ true → whole_code f ps ≡ None → is_named (codes "P") ps ≡ true
@@ -302,6 +312,7 @@ points_there follows.Anything ps n e = absurd cc
 points_there follows.Free ps n e = absurd cc
 points_there follows.Bound ps n e = absurd cc
 points_there follows.Parameters ps n e = absurd cc
+points_there follows.Quadric ps n e = absurd cc
 
 -- each variable is of the kind that its name needs
 kind_stands : (f : Follows) (name : List ℕ) (class : Class) (k : Kind) → needs_points f ≡ true → name_code f name class k ≡ None → kind_code name k ≡ None
@@ -313,6 +324,7 @@ kind_stands follows.Anything name class k n e = absurd cc
 kind_stands follows.Free name class k n e = absurd cc
 kind_stands follows.Bound name class k n e = absurd cc
 kind_stands follows.Parameters name class k n e = absurd cc
+kind_stands follows.Quadric name class k n e = absurd cc
 
 numbers_of_points : (k : Kind) (v : Values) → is_as_needed (Some kinds.Point) k ≡ true → is_of_kind k v ≡ true → is_some (numbers_held v) ≡ true
 numbers_of_points k (held.Numbers xs) a b = refl
@@ -365,10 +377,10 @@ last_stands (p ∷ ps) each h = behind (last_stands ps (λ k q there. each (suc 
         ∙ each zero p refl named
 
 -- the points of a primitive stand in its list
-pub points_stand : (name : Req) (args : List Arg) (params : List Param) → request_code name args params ≡ None → is_geometry (row_of name).tail ≡ true → points_in params ≡ None → ⊥
+pub points_stand : (name : Req) (args : List Arg) (params : List Param) → request_code name args params ≡ None → has_points (row_of name).tail ≡ true → points_in params ≡ None → ⊥
 points_stand name args params e h none =
     let f : Follows = follows_of name args in
-    let needs : needs_points f ≡ true = geometry_needs (row_of name).tail (word_at args 0) h in
+    let needs : needs_points f ≡ true = points_needed_by (row_of name).tail (word_at args 0) h in
     let list = list_holds name args params e in
     let stands = last_stands params (λ k p there named. point_numbers f p needs (list.1 k p there) named) (points_there f params needs list.0) in
     empty_is (points_in params) stands none

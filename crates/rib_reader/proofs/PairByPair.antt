@@ -6,7 +6,7 @@ use Rattle.rib_reader.specs.declared.args.Arg.{Arg}
 use Rattle.rib_reader.specs.declared.args.Arg.TheVariants.{Str}
 use Rattle.scene.specs.declared.params.Param.{Param}
 use Rattle.rib_reader.specs.declared.follows.Follows.{Follows}
-use Rattle.rib_reader.specs.declared.follows.Follows.TheVariants.{Nothing, Anything, Free, Bound, Parameters, Variables, Bicubic}
+use Rattle.rib_reader.specs.declared.follows.Follows.TheVariants.{Nothing, Anything, Free, Bound, Parameters, Variables, Bicubic, Quadric}
 use Rattle.rib_reader.specs.declared.faults.RibCode.{RibCode}
 use Rattle.rib_reader.specs.declared.faults.RibCode.TheVariants.{S3}
 use Rattle.rib_reader.specs.declared.declared.Declared.{Declared}
@@ -68,3 +68,4 @@ looked_up Bound dict vs n a = refl
 looked_up Parameters dict vs n a = refl
 looked_up Variables dict vs n a = refl
 looked_up Bicubic dict vs n a = refl
+looked_up Quadric dict vs n a = refl

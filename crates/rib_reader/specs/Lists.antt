@@ -16,7 +16,7 @@ use Rattle.rib_reader.specs.declared.req.Req.{Req}
 use Rattle.rib_reader.specs.declared.table.Tail.{Tail}
 use Rattle.rib_reader.specs.declared.table.Tail.TheVariants as tails
 use Rattle.rib_reader.specs.declared.follows.Follows.{Follows}
-use Rattle.rib_reader.specs.declared.follows.Follows.TheVariants.{Nothing, Anything, Free, Bound, Parameters, Variables, Bicubic}
+use Rattle.rib_reader.specs.declared.follows.Follows.TheVariants.{Nothing, Anything, Free, Bound, Parameters, Variables, Bicubic, Quadric}
 use Rattle.rib_reader.specs.declared.faults.RibCode.{RibCode}
 use Rattle.rib_reader.specs.declared.faults.RibCode.TheVariants.{S2, S3, S5}
 use Rattle.rib_reader.specs.declared.declared.Declared.{Declared}
@@ -93,6 +93,7 @@ abbrev pub name_code : Follows → List ℕ → Class → Kind → Option RibCod
 name_code Bound name class k = when (not (is_bound name k)) S5
 name_code Variables name class k = kind_code name k
 name_code Bicubic name class k = lower (kind_code name k) (when (is_vertex class && not (is_points name)) S2)
+name_code Quadric name class k = lower (kind_code name k) (when (is_points name) S3)
 name_code _ name class k = None
 
 abbrev pub is_counted : Follows → Bool
@@ -187,6 +188,7 @@ whole_code Bound ps = when (length ps == 0) S5
 whole_code Variables ps = when (not (is_named (codes "P") ps)) S3
 whole_code Bicubic ps = when (not (is_named (codes "P") ps)) S3
 whole_code Parameters ps = None
+whole_code Quadric ps = None
 whole_code _ ps = when (not (length ps == 0)) S3
 
 abbrev pub params_code : Follows → List Param → Option RibCode
@@ -200,7 +202,14 @@ request_code name args params = lower (args_code name args) (params_code (follow
 abbrev pub is_geometry : Tail → Bool
 is_geometry tails.Variables = true
 is_geometry tails.PatchVariables = true
+is_geometry tails.QuadricVariables = true
 is_geometry _ = false
+
+-- whether a list with the points P follows
+abbrev pub has_points : Tail → Bool
+has_points tails.Variables = true
+has_points tails.PatchVariables = true
+has_points _ = false
 
 abbrev pub numbers_held : Values → Option (List ℤ)
 numbers_held (held.Numbers xs) = Some xs

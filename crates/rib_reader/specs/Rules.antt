@@ -1,6 +1,6 @@
 -- What a row of the table says of a request's arguments. Each condition is looked at by itself, whatever else is wrong, and
 -- the lowest code that stands is the request's.
-use Rattle.std.specs.Prelude.{ℕ, ℤ, pos, Bool, true, false, not, ◌||◌, ◌&&◌, ◌==◌, nat_le, int_lt, is_some, List, [], ◌∷◌, ◌++◌, Option, Some, None, Result, Ok, Err, if◌then◌else◌, length, option_map}
+use Rattle.std.specs.Prelude.{ℕ, ℤ, pos, neg_ℤ, Bool, true, false, not, ◌||◌, ◌&&◌, ◌==◌, nat_le, int_lt, is_some, List, [], ◌∷◌, ◌++◌, Option, Some, None, Result, Ok, Err, if◌then◌else◌, length, map, option_map}
 use Rattle.std.specs.List.{slice_get, list_any, list_all}
 use Rattle.std.specs.Str.{bytes_eq}
 use Rattle.fixed_math.specs.declared.decimal.Decimal.{Decimal}
@@ -14,7 +14,7 @@ use Rattle.rib_reader.specs.declared.table.Shape.TheVariants as shapes
 use Rattle.rib_reader.specs.declared.table.Words.{Words}
 use Rattle.rib_reader.specs.declared.table.Words.TheVariants.{Modes, Bicubic, Bounds}
 use Rattle.rib_reader.specs.declared.table.Rule.{Rule}
-use Rattle.rib_reader.specs.declared.table.Rule.TheVariants.{Within, AtLeast, Rising, Only, OneOf, NoneOf, NoArray, Levels, Declaration}
+use Rattle.rib_reader.specs.declared.table.Rule.TheVariants.{Within, AtLeast, Rising, Only, Between, OneOf, NoneOf, NoArray, Levels, WholeSphere, Declaration}
 use Rattle.rib_reader.specs.declared.table.Tail.{Tail}
 use Rattle.rib_reader.specs.declared.table.Tail.TheVariants as tails
 use Rattle.rib_reader.specs.declared.follows.Follows.{Follows}
@@ -148,8 +148,12 @@ is_array_at args n = is_array (slice_get args n)
 -- the greatest level, and the range that is written
 abbrev pub levels_code : Option ℤ → Option ℤ → Option ℤ → Option RibCode
 levels_code one low high = lower
-    (when (is_less (Some (pos 255)) one) S2)
+    (when (is_less (Some (pos 65535)) one) S2)
     (when (is_below one (pos 1) || is_below low (pos 0) || is_less high low || is_less one high) S3)
+
+-- no part of a sphere of this radius is left out below the one height or above the other
+abbrev pub sphere_code : Option ℤ → Option ℤ → Option ℤ → Option RibCode
+sphere_code radius low high = when (is_less (option_map neg_ℤ radius) low || is_less high radius) S2
 
 abbrev pub code_in : Result (Class × Kind) RibCode → Option RibCode
 code_in (Ok type) = None
@@ -165,11 +169,13 @@ abbrev pub rule_code : Rule → List Arg → Option RibCode
 rule_code (Within place least most) args = when (is_outside (whole_at args place) least most) S3
 rule_code (AtLeast place raw) args = when (is_below (raw_at args place) raw) S3
 rule_code (Rising first second) args = when (is_not_less (raw_at args first) (raw_at args second)) S3
-rule_code (Only place raw) args = when (is_outside (raw_at args place) raw raw) S2
+rule_code (Only place same) args = when (is_outside (raw_at args place) same same) S2
+rule_code (Between place least most) args = when (is_outside (raw_at args place) least most) S3
 rule_code (OneOf place words code) args = when (is_none_of words (word_at args place)) code
 rule_code (NoneOf place words) args = when (is_one words (word_at args place)) S2
 rule_code (NoArray place) args = when (is_array_at args place) S2
 rule_code Levels args = if is_one Modes (word_at args 0) then levels_code (whole_at args 1) (whole_at args 2) (whole_at args 3) else None
+rule_code WholeSphere args = sphere_code (raw_at args 0) (raw_at args 1) (raw_at args 2)
 rule_code Declaration args = declare_code (word_at args 1)
 
 -- the lowest code that stands in the arguments
@@ -184,6 +190,7 @@ tail_with tails.Free word = follows.Free
 tail_with tails.Attribute word = if is_one Bounds word then follows.Bound else follows.Free
 tail_with tails.Parameters word = follows.Parameters
 tail_with tails.Variables word = follows.Variables
+tail_with tails.QuadricVariables word = follows.Quadric
 tail_with tails.PatchVariables word = if is_one Bicubic word then follows.Bicubic else follows.Variables
 
 -- what follows the arguments
@@ -195,9 +202,18 @@ abbrev pub three_as_one : List Arg → List Arg
 three_as_one (Number a ∷ Number b ∷ Number c ∷ []) = Numbers (a ∷ b ∷ c ∷ []) ∷ []
 three_as_one values = values
 
+-- an array of so many numbers stands for them
+abbrev pub as_numbers : ℕ → List Arg → List Arg
+as_numbers n (Numbers ds ∷ rest) = if length ds == n then map (λ d. Number d) ds ++ rest else Numbers ds ∷ rest
+as_numbers n values = values
+
 abbrev pub joined : Req → List Arg → List Arg
 joined reqs.Color values = three_as_one values
 joined reqs.Opacity values = three_as_one values
+joined reqs.Sphere values = as_numbers 4 values
+joined reqs.Cylinder values = as_numbers 4 values
+joined reqs.Cone values = as_numbers 3 values
+joined reqs.Disk values = as_numbers 3 values
 joined _ values = values
 
 -- the names that are declared behind a request

@@ -8,7 +8,7 @@ use Rattle.rib_reader.specs.declared.table.Shape.TheVariants.{Whole, Number, Wor
 use Rattle.rib_reader.specs.declared.table.Words.{Words}
 use Rattle.rib_reader.specs.declared.table.Words.TheVariants.{Projections, Filters, Modes, Interpolations, Smooth, Orientations, Handed, Bases, Patches, Bicubic, Wraps, Bounds}
 use Rattle.rib_reader.specs.declared.table.Rule.{Rule}
-use Rattle.rib_reader.specs.declared.table.Rule.TheVariants.{Within, AtLeast, Rising, Only, OneOf, NoneOf, NoArray, Levels, Declaration}
+use Rattle.rib_reader.specs.declared.table.Rule.TheVariants.{Within, AtLeast, Rising, Only, Between, OneOf, NoneOf, NoArray, Levels, WholeSphere, Declaration}
 use Rattle.rib_reader.specs.declared.table.Tail.{Tail}
 use Rattle.rib_reader.specs.declared.table.Tail.TheVariants as tails
 use Rattle.rib_reader.specs.declared.faults.RibCode.TheVariants.{S2, S3}
@@ -49,6 +49,10 @@ passed_over = row [] [] tails.Anything
 abbrev pub greatest : ℤ
 greatest = pos 2147483647
 
+-- 360 degrees
+abbrev pub full_turn : ℤ
+full_turn = pos 23592960
+
 abbrev pub row_of : Req → TableRow
 row_of reqs.FrameBegin = plain_row (Whole ∷ [])
 row_of reqs.FrameEnd = plain_row []
@@ -64,7 +68,8 @@ row_of reqs.Declare = row (Word ∷ Word ∷ []) (Declaration ∷ []) tails.Empt
 row_of reqs.Format = row (Whole ∷ Whole ∷ Number ∷ []) (Within 0 (pos 1) greatest ∷ Within 1 (pos 1) greatest ∷ []) tails.Empty
 row_of reqs.FrameAspectRatio = row (Number ∷ []) (AtLeast 0 (pos 1) ∷ []) tails.Empty
 row_of reqs.ScreenWindow = row (Number ∷ Number ∷ Number ∷ Number ∷ []) (Rising 0 1 ∷ Rising 2 3 ∷ []) tails.Empty
-row_of reqs.CropWindow = row (Number ∷ Number ∷ Number ∷ Number ∷ []) (Only 0 (pos 0) ∷ Only 1 (pos 65536) ∷ Only 2 (pos 0) ∷ Only 3 (pos 65536) ∷ []) tails.Empty
+row_of reqs.CropWindow = row (Number ∷ Number ∷ Number ∷ Number ∷ [])
+    (Between 0 (pos 0) (pos 65536) ∷ Between 1 (pos 0) (pos 65536) ∷ Rising 0 1 ∷ Between 2 (pos 0) (pos 65536) ∷ Between 3 (pos 0) (pos 65536) ∷ Rising 2 3 ∷ []) tails.Empty
 row_of reqs.Clipping = row (Number ∷ Number ∷ []) (AtLeast 0 (pos 1) ∷ Rising 0 1 ∷ []) tails.Empty
 row_of reqs.Projection = row (Word ∷ []) (OneOf 0 Projections S2 ∷ []) tails.Parameters
 row_of reqs.PixelSamples = row (Number ∷ Number ∷ []) (AtLeast 0 (pos 65536) ∷ AtLeast 1 (pos 65536) ∷ []) tails.Empty
@@ -96,6 +101,10 @@ row_of reqs.PatchMesh = row (Word ∷ Whole ∷ Word ∷ Whole ∷ Word ∷ [])
     (OneOf 0 Patches S3 ∷ Within 1 (pos 1) (pos 65536) ∷ OneOf 2 Wraps S3 ∷ Within 3 (pos 1) (pos 65536) ∷ OneOf 4 Wraps S3 ∷ []) tails.PatchVariables
 row_of reqs.Polygon = row [] [] tails.Variables
 row_of reqs.PointsPolygons = row (Wholes ∷ Wholes ∷ []) [] tails.Variables
+row_of reqs.Sphere = row (Number ∷ Number ∷ Number ∷ Number ∷ []) (AtLeast 0 (pos 1) ∷ WholeSphere ∷ Only 3 full_turn ∷ []) tails.QuadricVariables
+row_of reqs.Cylinder = row (Number ∷ Number ∷ Number ∷ Number ∷ []) (AtLeast 0 (pos 1) ∷ Only 3 full_turn ∷ []) tails.QuadricVariables
+row_of reqs.Cone = row (Number ∷ Number ∷ Number ∷ []) (AtLeast 1 (pos 1) ∷ Only 2 full_turn ∷ []) tails.QuadricVariables
+row_of reqs.Disk = row (Number ∷ Number ∷ Number ∷ []) (AtLeast 1 (pos 1) ∷ Only 2 full_turn ∷ []) tails.QuadricVariables
 row_of reqs.Version = passed_over
 row_of reqs.ErrorHandler = passed_over
 row_of reqs.Hider = passed_over

@@ -15,4 +15,6 @@ pub enum Follows {
     Variables,
     /// The variables of a bicubic primitive: no variable other than P is a vertex variable.
     Bicubic,
+    /// The variables of a quadric, without P.
+    Quadric,
 }

@@ -1,10 +1,10 @@
 // The requests of a scene's tokens.
-ghost use Rattle.std.specs.Prelude.{◌≡◌, ◌≤◌, [], ◌∷◌, IfOk, OnOk, length, take, drop, option_map};
+ghost use Rattle.std.specs.Prelude.{◌≡◌, ◌≤◌, [], ◌∷◌, IfOk, OnOk, length, map, take, drop, option_map};
 ghost use Rattle.std.specs.List.{prefix_len};
 ghost use Rattle.rib_reader.specs.Values.{scan_of};
-ghost use Rattle.rib_reader.specs.Rules.{joined, three_as_one, word_at, dict_after};
+ghost use Rattle.rib_reader.specs.Rules.{joined, three_as_one, as_numbers, word_at, dict_after};
 ghost use Rattle.rib_reader.specs.declared.req.Req.TheVariants.{Declare};
-ghost use Rattle.rib_reader.specs.declared.args.Arg.TheVariants.{Numbers};
+ghost use Rattle.rib_reader.specs.declared.args.Arg.TheVariants.{Number, Numbers};
 ghost use Rattle.rib_reader.specs.Laws.{JoinLaw, SpellLaw, ReadLaw};
 ghost use Rattle.rib_reader.specs.Reading.{is_value, first_word, list_in, checked, of_values, of_scan, of_group, requests_of, GivesOne, GivesAll};
 
@@ -49,11 +49,41 @@ fn join_three(alloc: Global, values: List<Arg>) -> Result<List<Arg>, NoMemory>
     Ok(values)
 }
 
+// Numbers as values.
+fn each_number(alloc: Global, numbers: &[Decimal]) -> Result<List<Arg>, NoMemory>
+    ensures { IfOk result (λ r. r ≡ map (λ d. Number d) numbers.now) }
+{
+    let mut values = Vec::new(alloc);
+    for number in numbers {
+        values.push(Arg::Number(*number))?;
+    }
+    Ok(List(values))
+}
+
+// An array of so many numbers stands for them.
+fn as_numbers(alloc: Global, n: usize, values: List<Arg>) -> Result<List<Arg>, NoMemory>
+    ensures { IfOk result (λ r. r ≡ as_numbers n values) }
+{
+    let Some(Arg::Numbers(numbers)) = values.0.first() else {
+        return Ok(values);
+    };
+    if numbers.0.len() != n {
+        return Ok(values);
+    }
+    let mut spread = each_number(alloc, numbers.as_slice())?;
+    let mut values = values;
+    values.0.remove(0);
+    spread.0.append(&mut values.0)?;
+    Ok(spread)
+}
+
 fn join(alloc: Global, name: Req, values: List<Arg>) -> Result<List<Arg>, NoMemory>
     ensures { IfOk result (λ r. r ≡ joined name values) }
 {
     match name {
         Req::Color | Req::Opacity => join_three(alloc, values),
+        Req::Sphere | Req::Cylinder => as_numbers(alloc, 4, values),
+        Req::Cone | Req::Disk => as_numbers(alloc, 3, values),
         _ => Ok(values),
     }
 }

@@ -8,7 +8,7 @@ pub struct Levels {
     pub least: u32,
     pub most: u32,
     pub ghost some: { 1 ≤ one },
-    pub ghost small: { one ≤ 255 },
+    pub ghost small: { one ≤ 65535 },
     pub ghost ordered: { least ≤ most },
     pub ghost within: { most ≤ one },
 }
@@ -16,7 +16,7 @@ pub struct Levels {
 /// These levels.
 pub fn levels_of(one: i64, least: i64, most: i64) -> Levels
     requires some { pos 1 ≤ℤ one }
-    requires small { one ≤ℤ pos 255 }
+    requires small { one ≤ℤ pos 65535 }
     requires low { pos 0 ≤ℤ least }
     requires ordered { least ≤ℤ most }
     requires within { most ≤ℤ one }

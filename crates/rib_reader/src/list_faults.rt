@@ -118,6 +118,10 @@ pub fn name_fault(follows: Follows, name: &Text, class: Class, kind: Kind) -> Op
             kind_fault(name, kind),
             code_when(is_vertex(class) && !is_points(name), RibCode::S2),
         ),
+        Follows::Quadric => lower_of(
+            kind_fault(name, kind),
+            code_when(is_points(name), RibCode::S3),
+        ),
         _ => None,
     }
 }
@@ -170,7 +174,7 @@ fn whole_fault(follows: Follows, params: &[Param]) -> Option<RibCode>
     match follows {
         Follows::Bound => code_when(params.is_empty(), RibCode::S5),
         Follows::Variables | Follows::Bicubic => code_when(!has_points(params), RibCode::S3),
-        Follows::Parameters => None,
+        Follows::Parameters | Follows::Quadric => None,
         _ => code_when(!params.is_empty(), RibCode::S3),
     }
 }

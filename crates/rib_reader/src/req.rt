@@ -45,6 +45,10 @@ pub enum Req {
     PatchMesh,
     Polygon,
     PointsPolygons,
+    Sphere,
+    Cylinder,
+    Cone,
+    Disk,
     /// `version`
     Version,
     ErrorHandler,

@@ -3,14 +3,14 @@ ghost use Rattle.std.specs.Prelude.{◌≡◌, ◌≤ℤ◌, ◌<ℤ◌, ℕ, �
 ghost use Rattle.std.specs.List.{slice_get};
 ghost use Rattle.rib_reader.specs.Table.{row_of, shapes_of, rules_of, words_in};
 ghost use Rattle.rib_reader.specs.Rules.{word_at, raw_at, whole_at, numbers_at, are_whole, is_among, rule_code, follows_of};
-ghost use Rattle.rib_reader.specs.Lists.{param_code, own_code, whole_code, request_code, is_geometry, points_in};
+ghost use Rattle.rib_reader.specs.Lists.{param_code, own_code, whole_code, request_code, has_points, points_in};
 ghost use Rattle.scene.specs.Kinds.{is_of_kind};
 ghost use Rattle.scene.specs.declared.params.Param.{Param as AParam};
 ghost use Rattle.rib_reader.specs.Levels.{GivesLevels};
 ghost use Rattle.rib_reader.specs.declared.req.Req.TheVariants.{Quantize};
 ghost use Rattle.rib_reader.specs.declared.table.Words.{Words as WordSet};
 ghost use Rattle.rib_reader.specs.declared.table.Rule.{Rule};
-ghost use Rattle.rib_reader.specs.declared.table.Rule.TheVariants.{Within, AtLeast, Rising, OneOf, NoneOf};
+ghost use Rattle.rib_reader.specs.declared.table.Rule.TheVariants.{Within, AtLeast, Rising, Between, OneOf, NoneOf};
 ghost use Rattle.rib_reader.specs.declared.table.Shape.TheVariants.{Whole, Number, Word, Array, Wholes};
 ghost use Rattle.rib_reader.specs.declared.faults.RibCode.{RibCode};
 
@@ -50,11 +50,13 @@ impl Request {
         }
     }
 
-    /// The number that the row has at that place, at least as great as the row says, and less than the one that it says.
+    /// The number that the row has at that place, at least as great as the row says or within its limits, and less than the one that
+    /// it says.
     pub fn number(&self, place: usize) -> Num
         requires { slice_get (shapes_of self.now.name) place ≡ Some Number }
         ensures value { raw_at self.now.args place ≡ Some result }
         ensures limits { (k : ℕ) (least : ℤ) → slice_get (rules_of self.now.name) k ≡ Some (AtLeast place least) → least ≤ℤ result }
+        ensures between { (k : ℕ) (least most : ℤ) → slice_get (rules_of self.now.name) k ≡ Some (Between place least most) → (least ≤ℤ result) × (result ≤ℤ most) }
         ensures rising { (k other : ℕ) (y : ℤ) → slice_get (rules_of self.now.name) k ≡ Some (Rising place other) → raw_at self.now.args other ≡ Some y → result <ℤ y }
     {
         match num(self.args.as_slice(), place) {
@@ -113,7 +115,7 @@ impl Request {
 
     /// The numbers of a primitive's points P, the last ones where there are several: x, y and z of each point.
     pub fn points(&self) -> &[Num]
-        requires { is_geometry (row_of self.now.name).tail ≡ true }
+        requires { has_points (row_of self.now.name).tail ≡ true }
         ensures { points_in self.now.params ≡ Some result.now }
     {
         match last_points(self.params.as_slice()) {

@@ -6,6 +6,9 @@ use crate::faults::RibCode;
 use crate::req::Req;
 use crate::table::{Row, Rule, Shape, Tail, Words};
 
+// 360 degrees, as a raw.
+const FULL_TURN: i64 = 23_592_960;
+
 /// The row of a request.
 pub fn row(name: Req) -> Row
     ensures shapes { result.shapes.now ≡ shapes_of name }
@@ -57,10 +60,12 @@ pub fn row(name: Req) -> Row
         Req::CropWindow => Row {
             shapes: &[Shape::Number, Shape::Number, Shape::Number, Shape::Number],
             rules: &[
-                Rule::Only(0, 0),
-                Rule::Only(1, 65_536),
-                Rule::Only(2, 0),
-                Rule::Only(3, 65_536),
+                Rule::Between(0, 0, 65_536),
+                Rule::Between(1, 0, 65_536),
+                Rule::Rising(0, 1),
+                Rule::Between(2, 0, 65_536),
+                Rule::Between(3, 0, 65_536),
+                Rule::Rising(2, 3),
             ],
             tail: Tail::Empty,
         },
@@ -218,6 +223,25 @@ pub fn row(name: Req) -> Row
             shapes: &[Shape::Wholes, Shape::Wholes],
             rules: &[],
             tail: Tail::Variables,
+        },
+        Req::Sphere => Row {
+            shapes: &[Shape::Number, Shape::Number, Shape::Number, Shape::Number],
+            rules: &[
+                Rule::AtLeast(0, 1),
+                Rule::WholeSphere,
+                Rule::Only(3, FULL_TURN),
+            ],
+            tail: Tail::QuadricVariables,
+        },
+        Req::Cylinder => Row {
+            shapes: &[Shape::Number, Shape::Number, Shape::Number, Shape::Number],
+            rules: &[Rule::AtLeast(0, 1), Rule::Only(3, FULL_TURN)],
+            tail: Tail::QuadricVariables,
+        },
+        Req::Cone | Req::Disk => Row {
+            shapes: &[Shape::Number, Shape::Number, Shape::Number],
+            rules: &[Rule::AtLeast(1, 1), Rule::Only(2, FULL_TURN)],
+            tail: Tail::QuadricVariables,
         },
         Req::Version
         | Req::ErrorHandler

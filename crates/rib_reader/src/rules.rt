@@ -1,9 +1,9 @@
 // What a row says of arguments.
-ghost use Rattle.std.specs.Prelude.{◌≡◌, IfOk};
-ghost use Rattle.rib_reader.specs.Rules.{is_outside, is_below, is_less, is_not_less, is_one, is_none_of, word_at, levels_code, declare_code, lowest, rule_code, args_code, follows_of};
+ghost use Rattle.std.specs.Prelude.{◌≡◌, neg_ℤ, option_map, IfOk};
+ghost use Rattle.rib_reader.specs.Rules.{is_outside, is_below, is_less, is_not_less, is_one, is_none_of, word_at, raw_at, levels_code, sphere_code, declare_code, lowest, rule_code, args_code, follows_of};
 
 use crate::args::Arg;
-use crate::arguments::{is_array_at, raw, shapes_fit, whole, word};
+use crate::arguments::{is_array_at, num, raw, shapes_fit, whole, word};
 use crate::codes::{code_when, lower_of};
 use crate::declarations::declared_type;
 use crate::faults::RibCode;
@@ -75,11 +75,28 @@ fn levels(one: Option<i64>, low: Option<i64>, high: Option<i64>) -> Option<RibCo
     ensures { result ≡ levels_code one low high }
 {
     lower_of(
-        code_when(is_less(Some(255), one), RibCode::S2),
+        code_when(is_less(Some(65_535), one), RibCode::S2),
         code_when(
             is_below(one, 1) || is_below(low, 0) || is_less(high, low) || is_less(one, high),
             RibCode::S3,
         ),
+    )
+}
+
+// The number at that place with the other sign, where one is there.
+fn negated(args: &[Arg], place: usize) -> Option<i64>
+    ensures { result ≡ option_map neg_ℤ (raw_at args.now place) }
+{
+    Some(num(args, place)?.neg().raw())
+}
+
+// What is said of a sphere's ends.
+fn sphere(args: &[Arg]) -> Option<RibCode>
+    ensures { result ≡ sphere_code (raw_at args.now 0) (raw_at args.now 1) (raw_at args.now 2) }
+{
+    code_when(
+        is_less(negated(args, 0), raw(args, 1)) || is_less(raw(args, 2), raw(args, 0)),
+        RibCode::S2,
     )
 }
 
@@ -110,6 +127,9 @@ fn rule_fault(alloc: Global, rule: Rule, args: &[Arg]) -> Result<Option<RibCode>
         Rule::Only(place, same) => {
             code_when(is_outside(raw(args, place), same, same), RibCode::S2)
         }
+        Rule::Between(place, least, most) => {
+            code_when(is_outside(raw(args, place), least, most), RibCode::S3)
+        }
         Rule::OneOf(place, words, code) => code_when(is_none_of(words, args, place), code),
         Rule::NoneOf(place, words) => code_when(is_one(words, args, place), RibCode::S2),
         Rule::NoArray(place) => code_when(is_array_at(args, place), RibCode::S2),
@@ -120,6 +140,7 @@ fn rule_fault(alloc: Global, rule: Rule, args: &[Arg]) -> Result<Option<RibCode>
                 None
             }
         }
+        Rule::WholeSphere => sphere(args),
         Rule::Declaration => declaration(alloc, args)?,
     })
 }
@@ -161,6 +182,7 @@ pub fn following(name: Req, args: &[Arg]) -> Follows
         }
         Tail::Parameters => Follows::Parameters,
         Tail::Variables => Follows::Variables,
+        Tail::QuadricVariables => Follows::Quadric,
         Tail::PatchVariables => {
             if is_one(Words::Bicubic, args, 0) {
                 Follows::Bicubic

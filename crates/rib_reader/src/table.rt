@@ -43,6 +43,8 @@ pub enum Rule {
     Rising(usize, usize),
     /// The number there has this raw, or S2.
     Only(usize, i64),
+    /// The number there has a raw from the first number to the second, or S3.
+    Between(usize, i64, i64),
     /// The string there is one of these words, or that code.
     OneOf(usize, Words, RibCode),
     /// The string there is none of these words, or S2.
@@ -51,6 +53,8 @@ pub enum Rule {
     NoArray(usize),
     /// What `Quantize` says of its numbers.
     Levels,
+    /// What `Sphere` says of its radius and of the heights at which it ends: none of it is cut off, or S2.
+    WholeSphere,
     /// What `Declare` says of its second word.
     Declaration,
 }
@@ -72,6 +76,8 @@ pub enum Tail {
     Variables,
     /// Those of a patch or a mesh: where it is bicubic, no variable other than P is a vertex variable.
     PatchVariables,
+    /// Those of a quadric, without P.
+    QuadricVariables,
 }
 
 /// A row of the table: the kinds of the arguments, what is said of their values, and what follows them.

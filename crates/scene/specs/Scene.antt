@@ -1,14 +1,14 @@
 -- The scene as plain data: frames with their primitives in camera space, and the uses of shaders
 -- (RenderMan Interface 3.2, sections 3 to 5).
-use Rattle.std.specs.Prelude.{◌≡◌, ℕ, ◌*◌, ◌≤◌, ◌<◌, ℤ, pos, ◌≤ℤ◌, Bool, true, false, List, Option, Some, None, All, slice_get, slice_index_or}
+use Rattle.std.specs.Prelude.{◌≡◌, ℕ, ◌*◌, ◌≤◌, ◌<◌, ℤ, pos, ◌≤ℤ◌, Bool, true, false, List, Option, Some, None, All, length, slice_get, slice_index_or}
 use Rattle.fixed_math.specs.declared.vec3.Vec3.{Vec3}
 use Rattle.transforms.specs.Map.{Map}
 use Rattle.transforms.specs.declared.view.View.{View}
-use Rattle.patches.specs.declared.patch.Patch.{Patch}
+use Rattle.quadrics.specs.declared.any_patch.AnyPatch.{AnyPatch}
 use Rattle.scene.specs.declared.params.Kind.{Kind}
 use Rattle.scene.specs.declared.params.Values.{Values}
 use Rattle.scene.specs.Kinds.{count, width, is_of_kind}
-use Rattle.scene.specs.Settings.{OptionValues}
+use Rattle.scene.specs.Settings.{OptionValues, crop_of, IsCrop}
 use Rattle.scene.specs.declared.uses.ShaderKind.{ShaderKind}
 use Rattle.scene.specs.declared.uses.ShaderKind.TheVariants.{Surface, Displacement, Light, Volume}
 use Rattle.scene.specs.declared.uses.ShaderUse.{ShaderUse}
@@ -34,7 +34,7 @@ pub record IsVariable (v : VariableValue) : Type 0 where
 -- is turned; its variables; the map from its object space to camera space; the column c of m and row d of n that the patch has
 -- in its mesh, as c, m, d, n; and the line of its request.
 pub record PrimValue : Type 0 where
-  pub patch : Patch
+  pub patch : AnyPatch
   pub flat : Option Vec3
   pub cs : Vec3
   pub os : Vec3
@@ -77,6 +77,11 @@ pub record FrameValue : Type 0 where
 -- the most primitives of a frame
 abbrev pub most_prims : ℕ
 most_prims = 65536
+
+-- the picture has some pixels of what the camera sees
+pub record IsFrame (f : FrameValue) : Type 0 where
+  pub few : length f.prims ≤ most_prims
+  pub crop : IsCrop f.camera.width f.camera.height (crop_of f.options)
 
 -- the frames in order, and the shader requests that some primitive has, each once, in the order of their first use: frame by
 -- frame, primitive by primitive, and for each its displacement, surface, atmosphere and then its lights in order

@@ -1,6 +1,5 @@
 // Frames, primitives and their variables.
-ghost use Rattle.std.specs.Prelude.{◌≤◌, length};
-ghost use Rattle.scene.specs.Scene.{PrimValue, FrameValue, SceneValue, IsPrim, IsScene, most_prims};
+ghost use Rattle.scene.specs.Scene.{PrimValue, FrameValue, SceneValue, IsPrim, IsFrame, IsScene};
 
 use crate::lights::LightPlaces;
 use crate::options::Options;
@@ -8,7 +7,7 @@ use crate::shared::Shared;
 use crate::uses::ShaderUse;
 use crate::variables::PrimitiveVariables;
 use fixed_math::{List, Num, Text, Vec3};
-use patches::Patch;
+use quadrics::AnyPatch;
 use std::marker::Model;
 use transforms::{Affine, Camera};
 
@@ -21,7 +20,7 @@ use transforms::{Affine, Camera};
 /// the row d of n that the patch has in its mesh, as [c, m, d, n], with m and n at most 65,536. `line` is that of its request.
 #[derive(Drop)]
 pub struct Primitive {
-    pub patch: Patch,
+    pub patch: AnyPatch,
     pub flat: Option<Vec3>,
     pub cs: Vec3,
     pub os: Vec3,
@@ -48,7 +47,7 @@ impl Model for Primitive {
 }
 
 /// A frame: the name of its picture, its options, its camera, the map from world space to camera space, and at most
-/// 65,536 primitives in the order of the scene.
+/// 65,536 primitives in the order of the scene. The options' crop has a pixel, and lies in what the camera sees.
 #[derive(Drop)]
 pub struct Frame {
     pub name: Shared<Text>,
@@ -63,7 +62,7 @@ impl Model for Frame {
 
     ghost view = { λ f. record { name = f.name; options = f.options; camera = f.camera; world = f.world; prims = f.prims } };
 
-    ghost invariant = { λ f. length f.prims ≤ most_prims };
+    ghost invariant = { λ f. IsFrame (record { name = f.name; options = f.options; camera = f.camera; world = f.world; prims = f.prims }) };
 }
 
 /// A scene: its frames in order, and the shader requests that some primitive has, each once, in the order of first use.

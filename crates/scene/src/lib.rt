@@ -20,6 +20,6 @@ pub use options::Options;
 pub use params::{Class, Kind, Param, Values};
 pub use seat::Seat;
 pub use shared::Shared;
-pub use uses::{ShaderKind, ShaderUse, params_copy};
+pub use uses::{ShaderKind, ShaderUse, param_copy, params_copy};
 pub use variable::Variable;
 pub use variables::{PrimitiveVariables, RequestVariables};

@@ -52,7 +52,8 @@ fn values_copy(alloc: Global, values: &Values) -> Result<Values, NoMemory>
     })
 }
 
-pub(crate) fn param_copy(alloc: Global, param: &Param) -> Result<Param, NoMemory>
+/// A copy of a parameter.
+pub fn param_copy(alloc: Global, param: &Param) -> Result<Param, NoMemory>
     ensures { IfOk result (λ p. p ≡ param.now) }
 {
     Ok(Param {

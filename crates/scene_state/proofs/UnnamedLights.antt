@@ -766,6 +766,10 @@ lit_step reqs.Patch r s some g l = lit_primitive r s g l
 lit_step reqs.PatchMesh r s some g l = lit_primitive r s g l
 lit_step reqs.Polygon r s some g l = lit_primitive r s g l
 lit_step reqs.PointsPolygons r s some g l = lit_primitive r s g l
+lit_step reqs.Sphere r s some g l = lit_primitive r s g l
+lit_step reqs.Cylinder r s some g l = lit_primitive r s g l
+lit_step reqs.Cone r s some g l = lit_primitive r s g l
+lit_step reqs.Disk r s some g l = lit_primitive r s g l
 
 pub first_lit : IsLit first_state
 first_lit = record {

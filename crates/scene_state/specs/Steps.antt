@@ -75,6 +75,10 @@ step reqs.Patch r s = primitive_set r s
 step reqs.PatchMesh r s = primitive_set r s
 step reqs.Polygon r s = primitive_set r s
 step reqs.PointsPolygons r s = primitive_set r s
+step reqs.Sphere r s = primitive_set r s
+step reqs.Cylinder r s = primitive_set r s
+step reqs.Cone r s = primitive_set r s
+step reqs.Disk r s = primitive_set r s
 step _ r s = Ok s
 
 abbrev pub after : Read → State → Stepped

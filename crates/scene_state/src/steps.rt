@@ -115,6 +115,10 @@ impl State {
             Req::PatchMesh => self.place_primitive(alloc, request),
             Req::Polygon => self.place_primitive(alloc, request),
             Req::PointsPolygons => self.place_primitive(alloc, request),
+            Req::Sphere => self.place_primitive(alloc, request),
+            Req::Cylinder => self.place_primitive(alloc, request),
+            Req::Cone => self.place_primitive(alloc, request),
+            Req::Disk => self.place_primitive(alloc, request),
             _ => Ok(()),
         }
     }

@@ -1,5 +1,4 @@
 use Rattle.std.proofs.Common.{◌∙◌, List, sym, ap, subst, map}
-use Rattle.scene.specs.Scene.{FrameValue}
 use Rattle.hider.specs.declared.cell.Cell.{Cell}
 use Rattle.hider.specs.Cells.{Micropolygon, still}
 use Rattle.bound_split.specs.declared.splits.Decision.{Decision}
@@ -15,7 +14,7 @@ returns-clause-shows g c =
     let p = c.args.prim.now in
     let leaf = c.args.leaf.now in
     let seen : List Cell → List Micropolygon = map (still p.one_sided p.flip) in
-    let made = ap (λ (v : GridValue). seen (grid_cells v)) (c.requires.1.1.1 p leaf.p leaf.q c.requires.1.0 c.requires.1.1.0)
-    ∙ ap (λ (e : Decision). seen (leaf_cells d.accepted d.frame p leaf.piece e)) (sym c.requires.1.1.0) in
-    subst (λ (f : FrameValue). ShowsMore f.camera (leaf_micropolygons d.accepted d.frame p leaf.piece) c.args.tile.now c.hide_grid.new.tile) c.requires.0
-    (subst (λ ns. ShowsMore c.args.shown.now.frame.now.camera ns c.args.tile.now c.hide_grid.new.tile) made c.in_ok-hide_grid.ensures.shows)
+    let is = c.requires.1.1 in
+    let made = ap (λ (v : GridValue). seen (grid_cells v)) (is.1 p leaf.p leaf.q c.requires.0 c.requires.1.0)
+    ∙ ap (λ (e : Decision). seen (leaf_cells d.accepted d.frame p leaf.piece e)) (sym c.requires.1.0) in
+    subst (λ ns. ShowsMore d.frame.camera ns c.args.tile.now c.hide_grid.new.tile) made (c.in_ok-hide_grid.ensures.shows d.frame.camera is.0)

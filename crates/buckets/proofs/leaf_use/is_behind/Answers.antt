@@ -1,7 +1,7 @@
 use Rattle.std.proofs.Common.{◌≡◌, ◌∙◌, sym, ap, subst, ◌↔◌}
 use Rattle.std.specs.Prelude.{ℤ, IsTrue}
 use Rattle.patches.specs.Parts.{rect_of}
-use Rattle.patches.specs.Patches.{patch_box}
+use Rattle.quadrics.specs.AnyPatches.{patch_box}
 use Rattle.bound_split.specs.Extents.{extent_of}
 use Rattle.bound_split.specs.declared.extents.Extent.{Extent}
 use Rattle.scene.specs.Scene.{FrameValue}

@@ -1,26 +1,24 @@
-use Rattle.std.proofs.Common.{◌≡◌, ◌∙◌, ◌*◌, ap, arith}
-use Rattle.std.specs.Prelude.{slice_get, Some}
-use Rattle.scene.specs.Scene.{FrameValue}
+use Rattle.std.proofs.Common.{◌≡◌, ◌∙◌, ◌*◌, ap, arith, subst, sym}
 use Rattle.dice.specs.Grids.{line_count}
-use Rattle.displace_shade.specs.Shaded.{GridValue}
-use Rattle.displace_shade.specs.Shop.{set_value}
-use Rattle.buckets.proofs.Using.{shaded_points}
+use Rattle.dice.specs.declared.diced.GridRef.{GridRef}
+use Rattle.transforms.specs.declared.view.View.{View}
+use Rattle.scene.specs.Scene.{FrameValue}
+use Rattle.hider.specs.Flat.{IsSeenBy}
+use Rattle.buckets.specs.Standing.{IsShadedOf}
 use Rattle.buckets.proofs.leaf_use.shade_leaf.Goals as goal
-
-pub returns-clause-points : goal.returns-clause-points
-returns-clause-points g c =
-    let shown = c.args.shown.now in
-    let leaf = c.args.leaf.now in
-    let there : slice_get shown.frame.now.prims leaf.piece.prim ≡ Some c.args.prim.now = ap (λ (f : FrameValue). slice_get f.prims leaf.piece.prim) c.requires.0.frame ∙ c.requires.1.1.0 in
-    ap (λ (v : GridValue). v.columns * v.rows) (c.in_ok-grid.ensures.grid shown.frame.now c.args.prim.now shown.there there)
-    ∙ shaded_points shown.frame.now c.args.prim.now leaf.piece leaf.p leaf.q (set_value c.args.shop.now.set) shown.scene.now.uses
 
 pub add-requires-clause-room : goal.add-requires-clause-room
 add-requires-clause-room g c =
-    let shown = c.args.shown.now in
+    let seen = c.in_ok-seen.seen in
     let leaf = c.args.leaf.now in
-    let there : slice_get shown.frame.now.prims leaf.piece.prim ≡ Some c.args.prim.now = ap (λ (f : FrameValue). slice_get f.prims leaf.piece.prim) c.requires.0.frame ∙ c.requires.1.1.0 in
-    let points : c.in_ok-grid.grid.columns * c.in_ok-grid.grid.rows ≡ line_count leaf.p * line_count leaf.q =
-    ap (λ (v : GridValue). v.columns * v.rows) (c.in_ok-grid.ensures.grid shown.frame.now c.args.prim.now shown.there there)
-    ∙ shaded_points shown.frame.now c.args.prim.now leaf.piece leaf.p leaf.q (set_value c.args.shop.now.set) shown.scene.now.uses in
+    let points : seen.grid.columns * seen.grid.rows ≡ line_count leaf.p * line_count leaf.q = ap (λ (h : GridRef). h.columns * h.rows) c.in_ok-seen.ensures.grid ∙ c.in_ok-grid.ensures.points in
     omega (arith, points, c.requires.1.1.1.1.1.1.1.0)
+
+pub returns-clause-points : goal.returns-clause-points
+returns-clause-points g c = ap (λ (h : GridRef). h.columns * h.rows) c.in_ok-seen.ensures.grid ∙ c.in_ok-grid.ensures.points
+
+pub returns-clause-grid : goal.returns-clause-grid
+returns-clause-grid g c =
+    let seen = c.in_ok-seen.seen in
+    let camera = ap (λ (f : FrameValue). f.camera) (c.frame.view_is ∙ c.requires.0.frame) in
+    (subst (λ (v : View). IsSeenBy v seen) camera c.in_ok-seen.ensures.seen, subst (λ (h : GridRef). IsShadedOf g.begun.drawing c.args.leaf.now.piece h) (sym c.in_ok-seen.ensures.grid) c.in_ok-grid.ensures.grid)

@@ -7,14 +7,11 @@ use Rattle.buckets.proofs.leaf_use.use_leaf.Goals as goal
 
 pub hide_leaf-requires : goal.hide_leaf-requires
 hide_leaf-requires g c = (
-  c.requires.0.frame,
+  c.requires.1.1.0,
   (
-    c.requires.1.1.0,
+    c.requires.1.1.1.0,
     (
-      c.requires.1.1.1.0,
-      (
-          grid_at g.begun.drawing c.args.epoch.now.kept c.in-Some.at c.args.leaf.now.piece c.grid.result c.requires.1.1.1.1.1.1.1.1 c.in-Some.ensures.place c.grid.ensures),
-    ),
+        grid_at g.begun.drawing c.args.epoch.now.kept c.in-Some.at c.args.leaf.now.piece c.grid.result c.requires.1.1.1.1.1.1.1.1 c.in-Some.ensures.place c.grid.ensures),
   ),
 )
 
@@ -38,8 +35,8 @@ returns-then-not-room-clause-used g c = (
       c.requires.1.1.1.0 c.points_of.ensures c.requires.1.1.1.1.1.1.1.0 c.room.ensures.value c.if-not-room.true,
 )
 
-pub returns-in_err-grid-clause-part : goal.returns-in_err-grid-clause-part
-returns-in_err-grid-clause-part g c =
+pub returns-in_err-seen-clause-part : goal.returns-in_err-seen-clause-part
+returns-in_err-seen-clause-part g c =
     let room = has_room_as g.begun.drawing (leaf_in c.args.prim.now c.args.leaf.now.piece) c.args.leaf.now.p c.args.leaf.now.q c.args.epoch.now.kept c.args.epoch.now.limit c.points_of.result c.room.result true
     c.requires.1.1.1.0 c.points_of.ensures c.requires.1.1.1.1.1.1.1.0 c.room.ensures.value c.if-not-room.false in
     let part : UsesInPart g.begun.drawing (leaf_in c.args.prim.now c.args.leaf.now.piece) c.args.epoch.now.kept c.args.shop.now.count c.shade_leaf.new.shop.count = (
@@ -67,5 +64,5 @@ returns-clause-used g c =
     let x = leaf_in c.args.prim.now leaf.piece in
     let room = has_room_as d x leaf.p leaf.q c.args.epoch.now.kept c.args.epoch.now.limit c.points_of.result c.room.result true
     c.requires.1.1.1.0 c.points_of.ensures c.requires.1.1.1.1.1.1.1.0 c.room.ensures.value c.if-not-room.false in
-    uses_new d x c.args.epoch.now.kept c.shade_leaf.new.epoch.kept c.args.shop.now.count c.shade_leaf.new.shop.count c.args.tile.now c.hide_leaf-2.new.tile c.in_ok-grid.grid c.requires.1.1.1.1.1.1.1.1
-    c.in_default.ensures.there room c.in_ok-grid.ensures.grid (c.in_ok-grid.ensures.points ∙ sym (points_of_leaf d x leaf.p leaf.q c.requires.1.1.1.0)) c.in_ok-grid.ensures.kept c.in_ok-grid.ensures.count c.in_ok-hide_leaf-2.ensures.shows
+    uses_new d x c.args.epoch.now.kept c.shade_leaf.new.epoch.kept c.args.shop.now.count c.shade_leaf.new.shop.count c.args.tile.now c.hide_leaf-2.new.tile c.in_ok-seen.seen c.requires.1.1.1.1.1.1.1.1
+    c.in_default.ensures.there room c.in_ok-seen.ensures.grid (c.in_ok-seen.ensures.points ∙ sym (points_of_leaf d x leaf.p leaf.q c.requires.1.1.1.0)) c.in_ok-seen.ensures.kept c.in_ok-seen.ensures.count c.in_ok-hide_leaf-2.ensures.shows

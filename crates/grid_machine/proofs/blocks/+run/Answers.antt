@@ -1,18 +1,23 @@
 use Rattle.std.proofs.Common.{arith, ◌≡◌, ◌<◌, ◌+◌, ◌-◌, ℕ, suc, get_or, true, false, refl, sym, ap, ◌∙◌, subst}
 use Rattle.std.specs.List.{list_all}
 use Rattle.grid_code.specs.Code.{end, branch, sum, lights}
-use Rattle.std.specs.Prelude.{◌||◌, Option, is_some}
+use Rattle.std.specs.Prelude.{◌||◌, Option, Some, is_some}
 use Rattle.fixed_math.specs.declared.vec3.Vec3.{Vec3}
-use Rattle.fixed_math.specs.Axes.{origin}
 use Rattle.sl_ast.specs.declared.kinds.LightStmt.TheVariants.{Illuminance, Illuminate, Solar}
 use Rattle.sl_ast.specs.declared.kinds.Predefined.TheVariants as names
 use Rattle.builtins.specs.Lights.{is_in_cone}
 use Rattle.builtins.specs.Values.{triple_of}
 use Rattle.grid_code.specs.Names.{name_at, lit_at}
 use Rattle.grid_code.proofs.Both.{left, right}
-use Rattle.place_rows.specs.Seen.{unasked, shown_by, cone_at, Views}
+use Rattle.builtins.specs.Lights.{Light}
+use Rattle.light_rows.specs.Seen.{unasked, shown_by, cone_at, HasPlanes, IsShown}
+use Rattle.light_rows.proofs.Views.{shown_there}
+use Rattle.number_rows.specs.Planes.{triple_at, ArePlanes}
+use Rattle.grid_machine.specs.Writes.{aimed_at}
+use Rattle.grid_machine.proofs.HeldReads.{reads_held}
+use Rattle.grid_machine.proofs.Shapes.{read_held}
 use Rattle.grid_machine.proofs.Near.{read_near, reads_near}
-use Rattle.grid_machine.proofs.Lit.{from_near, in_cone_near, shown_is, view_from, part_steps, showing_init, showing_next, showing_end}
+use Rattle.grid_machine.proofs.Lit.{from_near, in_cone_near, shown_is, view_from, part_steps, lit_kept, showing_init, showing_next, showing_end}
 use Rattle.grid_code.specs.Masked.{State, read, reads, from_light, entered, kindled}
 use Rattle.grid_code.specs.Masked.{going as going_of}
 use Rattle.grid_code.specs.Uses.{has}
@@ -258,8 +263,31 @@ pub run_seen-enter-requires : goal.run_seen-enter-requires
 run_seen-enter-requires g t c =
     let m = c.args.m.now in
     let m1 = record c.loop-n.m { live = c.and-m.result } in
-    let k1 = kept_live m c.loop-n.m c.and-m.result c.loop-n.invariant.0.0 in
-    record { whole = k1.whole; direction = has_kept m m1 (name_at names.L) k1 c.requires.direction; colour = has_kept m m1 (name_at names.Cl) k1 c.requires.colour }
+    let inv = c.loop-n.invariant in
+    let k1 = kept_live m c.loop-n.m c.and-m.result inv.0.0 in
+    let ans = c.answers-answers.result in
+    let of = c.answers-answers.ensures in
+    let e2 = c.ask.ensures.same ∙ inv.0.1 in
+    record {
+      whole = k1.whole;
+      direction = has_kept m m1 (name_at names.L) k1 c.requires.direction;
+      colour = has_kept m m1 (name_at names.Cl) k1 c.requires.colour;
+      planes = subst (λ p. HasPlanes p ans) (ap (λ s. s.places) e2 ∙ c.requires.places ∙ sym (ap (λ f. f.now.places) k1.frame)) of.planes;
+    }
+
+pub run_seen-seen-seen-requires : goal.run_seen-seen-seen-requires
+run_seen-seen-seen-requires g t c =
+    let inv = c.loop-n.invariant in
+    let ans = c.answers-answers.result in
+    let few = c.args.m.now.registers.frame.now.few in
+    let of = c.answers-answers.ensures in
+    let e2 = c.ask.ensures.same ∙ inv.0.1 in
+    record { planes = subst (λ p. HasPlanes p ans) (ap (λ s. s.places) e2 ∙ c.requires.places) of.planes; count = few; cone = c.cone.ensures.cone _ few }
+
+pub run_seen-ask-requires-clause-points : goal.run_seen-ask-requires-clause-points
+run_seen-ask-requires-clause-points g t c =
+    let few = c.args.m.now.registers.frame.now.few in
+    subst (λ p. ArePlanes p c.planes.result) (sym (ap (λ s. s.places) c.loop-n.invariant.0.1 ∙ c.requires.places)) (c.planes.ensures.planes _ few)
 
 pub run_seen-run_block-requires : goal.run_seen-run_block-requires
 run_seen-run_block-requires g t c =
@@ -275,7 +303,7 @@ run_seen-run_block-requires g t c =
           c.enter.ensures.kept.whole,
           (
             ready_kept m c.enter.new.self (block_of c.args.body.now) k2 c.requires.body,
-            places_kept m c.enter.new.self (g.L.Illumination.lighting c.args.lights.now) (g.L.Illumination.lighting c.ask-answers.new.self) k2 (c.ask-answers.ensures.same ∙ inv.0.1) c.requires.places,
+            places_kept m c.enter.new.self (g.L.Illumination.lighting c.args.lights.now) (g.L.Illumination.lighting c.ask.new.self) k2 (c.ask.ensures.same ∙ inv.0.1) c.requires.places,
           ),
         ),
       ),
@@ -284,7 +312,7 @@ run_seen-run_block-requires g t c =
 pub run_seen-loop-n-preserved : goal.run_seen-loop-n-preserved
 run_seen-loop-n-preserved g t c =
     let ls = g.L.Illumination.lighting c.args.lights.now in
-    let ls2 = g.L.Illumination.lighting c.ask-answers.new.self in
+    let ls2 = g.L.Illumination.lighting c.ask.new.self in
     let m0 = c.args.m.now in
     let r = m0.registers.frame.now in
     let v = r.varying.now in
@@ -298,21 +326,31 @@ run_seen-loop-n-preserved g t c =
     let place = c.args.place in
     let qs = c.args.args.now in
     let body = block_of c.args.body.now in
-    let view = c.view-view.result in
+    let seen = c.seen-seen.result.places in
     let k2 = kept_on m0 m1 m2 (kept_live m0 m c.and-m.result inv.0.0) c.enter.ensures.kept in
-    let e2 = c.ask-answers.ensures.same ∙ inv.0.1 in
+    let e2 = c.ask.ensures.same ∙ inv.0.1 in
     let same = ap (λ s. s.places) inv.0.1 ∙ c.requires.places in
-    let seen : (s : State) → Near r.places v u s (state_of m0) → (j : ℕ) → j < r.places → Views view j (view_from ls.lights n place qs s j) = λ s near j l.
-    let q : ℕ → Vec3 = λ i. triple_of (read s place i) in
-    let light = c.ask-answers.ensures.each q (λ i k. let b = subst (λ p. i < p) same k in ap triple_of (read_near r.places v u s (state_of m0) place i near c.requires.place b) ∙ sym (c.points-points.ensures i b)) j (subst (λ p. j < p) (sym same) l)
-    ∙ ap (λ x. get_or x.lights n unasked q j) inv.0.1 in
-    let cone = shown_is (reads s qs j) (cone_at c.cone-cone.result j) (get_or ls.lights n unasked q j) (λ d. c.cone-cone.ensures j d l ∙ ap (λ vs. is_in_cone vs d) (sym (reads_near r.places v u s (state_of m0) qs j near c.requires.args l))) in
-    subst (λ o. Views view j o) (ap (λ x. shown_by (cone_at c.cone-cone.result j) x) light ∙ cone) (c.view-view.ensures j l) in
-    let entering = subst (λ x. (s : State) (f : ℕ → Option (Vec3 × Vec3)) → NearBy x s (state_of m1) → ((i : ℕ) → i < x.now.places → Views view i (f i)) → NearBy x (entered x.now.places f s) (state_of m2)) inv.0.0.frame c.enter.ensures.near in (
+    let ans = c.answers-answers.result in
+    let of = c.answers-answers.ensures in
+    let same2 = ap (λ s. s.places) e2 ∙ c.requires.places in
+    let light : State → ℕ → Light = λ s j. get_or ls.lights n unasked (λ i. triple_of (read s place i)) j in
+    let is : (s : State) → Near r.places v u s (state_of m0) → (j : ℕ) → j < r.places → IsShown ans j (light s j) = λ s near j l.
+    subst (λ w. IsShown ans j (get_or w.lights n unasked (λ i. triple_of (read s place i)) j)) e2
+    (of.each (λ i. triple_of (read s place i)) (λ i k.
+    let b = subst (λ p. i < p) same2 k in
+    ap triple_of (read_near r.places v u s (state_of m0) place i near c.requires.place b ∙ sym (read_held m0 place i)) ∙ sym (c.scope_of-scope.ensures.points i b) ∙ sym (c.planes.ensures.each i)
+    ∙ sym (c.ask.ensures.turned i (subst (λ p. i < p) (sym same) b))) j (subst (λ p. j < p) (sym same2) l)) in
+    let shows : (s : State) → Near r.places v u s (state_of m0) → (j : ℕ) → j < r.places → shown_by (cone_at c.cone.result j) (light s j) ≡ view_from ls.lights n place qs s j = λ s near j l.
+    shown_is (reads s qs j) (cone_at c.cone.result j) (light s j) (λ d.
+    c.cone.ensures.each j d ∙ c.scope_of-scope.ensures.cone j d l ∙ ap (λ vs. is_in_cone vs d) (reads_held m0 qs j ∙ sym (reads_near r.places v u s (state_of m0) qs j near c.requires.args l))) in
+    let there : (s : State) → Near r.places v u s (state_of m0) → (j : ℕ) → j < r.places → get_or c.and-m.result.places j false ≡ true → view_from ls.lights n place qs s j ≡ Some (triple_at ans.towards j, triple_at ans.colours j) = λ s near j l on.
+    sym (shows s near j l)
+    ∙ shown_there ans j (light s j) (cone_at c.cone.result j) (is s near j l) (sym (c.seen-seen.ensures (light s j) j l (is s near j l)) ∙ right (get_or m.live.places j false) (get_or seen j false) (sym (c.and-m.ensures j l) ∙ on)) in
+    let entering = subst (λ x. (s : State) (f : ℕ → Option (Vec3 × Vec3)) → NearBy x s (state_of m1) → ((i : ℕ) → i < x.now.places → (state_of m1).live i ≡ true → f i ≡ Some (triple_at ans.towards i, triple_at ans.colours i)) → NearBy x (entered x.now.places f s) (state_of m2)) inv.0.0.frame c.enter.ensures.near in (
       (kept_live m0 m3 c.or-m.result (kept_on m0 m2 m3 k2 c.run_block.ensures.kept), c.run_block.ensures.same ∙ e2),
       showing_next (lit_ground ls.lights r) r.places v u c.args.most place qs body n (state_of m0) (state_of m) (state_of record m3 { live = c.or-m.result }) (let z = c.count-n-end.ensures in omega arith) inv.1 (λ s h ns nh.
-          part_steps (lit_ground ls.lights r) r.places v u c.args.most (λ j. is_some (view_from ls.lights n place qs s j)) (λ j. get_or view.seen.places j false) (λ x. entered r.places (view_from ls.lights n place qs s) x) body h (state_of m) (state_of m2) (state_of m3)
-          (λ i. get_or c.and-m.result.places i false) (λ i. get_or c.or-m.result.places i false) nh (λ j l. sym (seen s ns j l).seen) c.and-m.ensures (λ k nk. entering k (view_from ls.lights n place qs s) nk (seen s ns))
+          part_steps (lit_ground ls.lights r) r.places v u c.args.most (λ j. is_some (view_from ls.lights n place qs s j)) (λ j. get_or seen j false) (λ x. entered r.places (view_from ls.lights n place qs s) x) body h (state_of m) (state_of m2) (state_of m3)
+          (λ i. get_or c.and-m.result.places i false) (λ i. get_or c.or-m.result.places i false) nh (λ j l. sym (c.seen-seen.ensures (light s j) j l (is s ns j l) ∙ ap is_some (shows s ns j l))) c.and-m.ensures (λ k nk. entering k (view_from ls.lights n place qs s) nk (there s ns))
           (runs_kept ls.lights ls2.lights m0 m2 m3 c.args.most body k2 (ap (λ s. s.lights) e2) c.run_block.ensures.masked)
           (λ i l. c.or-m.ensures i l ∙ ap (λ b. get_or m3.live.places i false || b) (c.without-others.ensures i l))),
     )
@@ -324,11 +362,18 @@ run_seen-returns-clause-masked g t c =
     let r = m.registers.frame.now in
     showing_end (lit_ground ls r) r.places r.varying.now r.uniform.now c.args.most c.args.place c.args.args.now (block_of c.args.body.now) c.loop-n.n (state_of m) (state_of c.loop-n.m) (let z = c.count-n-end.ensures in omega arith) c.loop-n.invariant.1
 
+pub run_lights-returns-in-Illuminate-clause-kept : goal.run_lights-returns-in-Illuminate-clause-kept
+run_lights-returns-in-Illuminate-clause-kept g t c = kept_on c.args.m.now c.aim.new.self c.run_lit.new.m c.aim.ensures.kept c.run_lit.ensures.kept
+
+pub run_lights-returns-in-Solar-clause-kept : goal.run_lights-returns-in-Solar-clause-kept
+run_lights-returns-in-Solar-clause-kept g t c = kept_on c.args.m.now c.aim_along.new.self c.run_lit-in-Solar.new.m c.aim_along.ensures.kept c.run_lit-in-Solar.ensures.kept
+
 pub run_lights-returns-in-Illuminate-clause-masked : goal.run_lights-returns-in-Illuminate-clause-masked
 run_lights-returns-in-Illuminate-clause-masked g t c =
     let ls = (g.L.Illumination.lighting c.args.lights.now).lights in
     let m = c.args.m.now in
-    let m1 = c.run_lit.new.m in
+    let m1 = c.aim.new.self in
+    let m2 = c.run_lit.new.m in
     let r = m.registers.frame.now in
     let v = r.varying.now in
     let u = r.uniform.now in
@@ -341,16 +386,20 @@ run_lights-returns-in-Illuminate-clause-masked g t c =
     let hc = right (has v u place) _ h in
     let given = subst (λ w. list_all (has v u) (lights_registers w) ≡ true) c.in-Illuminate.is c.requires.has in
     let points = left (has v u (name_at names.Ps)) _ (right (has v u lit_at) _ (right (has v u (name_at names.L)) _ given)) in
-    subst (λ w. Runs ls c.args.most (lights w c.args.args.now body end) m m1) (sym c.in-Illuminate.is) (subst (λ x. Runs ls c.args.most (lights Illuminate x body end) m m1) (sym e) (λ s near.
-    c.run_lit.ensures.near s (λ i. is_in_cone (reads s qs i) (from_light s place i)) (from_light s place) near
-    (λ i l. in_cone_near r.places v u s (state_of m) place qs near hp hc points i l ∙ sym (c.mask-seen.ensures i l ∙ c.cone.ensures i (get_or c.from_light-directions.result.at i origin) l ∙ ap (is_in_cone (reads (state_of m) qs i)) (c.from_light-directions.ensures i l)))
-    (λ i l. from_near r.places v u s (state_of m) place qs near hp hc points i l ∙ sym (c.from_light-directions.ensures i l))))
+    let k1 = c.aim.ensures.kept in
+    let lit = lit_kept ls c.args.most body c.within-seen.result.places m m1 m2 k1 c.run_lit.ensures.near in
+    subst (λ w. Runs ls c.args.most (lights w c.args.args.now body end) m m2) (sym c.in-Illuminate.is) (subst (λ x. Runs ls c.args.most (lights Illuminate x body end) m m2) (sym e) (λ s near.
+    lit s (λ i. is_in_cone (reads s qs i) (from_light s place i)) (from_light s place) (subst (λ x. NearBy m.registers.frame s x) (sym c.aim.ensures.same) near)
+    (λ i l. in_cone_near r.places v u s (state_of m) place qs near hp hc points i l
+    ∙ sym (c.within-seen.ensures i (subst (λ f. i < f.now.places) (sym k1.frame) l) ∙ ap (λ x. is_in_cone (reads x qs i) (aimed_at m1 i)) c.aim.ensures.same ∙ ap (is_in_cone (reads (state_of m) qs i)) (c.aim.ensures.aimed i l)))
+    (λ i l. from_near r.places v u s (state_of m) place qs near hp hc points i l ∙ sym (c.aim.ensures.aimed i l))))
 
 pub run_lights-returns-in-Solar-clause-masked : goal.run_lights-returns-in-Solar-clause-masked
 run_lights-returns-in-Solar-clause-masked g t c =
     let ls = (g.L.Illumination.lighting c.args.lights.now).lights in
     let m = c.args.m.now in
-    let m1 = c.run_lit-in-Solar.new.m in
+    let m1 = c.aim_along.new.self in
+    let m2 = c.run_lit-in-Solar.new.m in
     let r = m.registers.frame.now in
     let v = r.varying.now in
     let u = r.uniform.now in
@@ -360,9 +409,10 @@ run_lights-returns-in-Solar-clause-masked g t c =
     let qs = c.in-Some.cone.now in
     let e = c.in-Some.ensures.cases.0 in
     let hp = left (has v u axis) _ (subst (λ x. list_all (has v u) x ≡ true) e c.requires.args) in
-    subst (λ w. Runs ls c.args.most (lights w c.args.args.now body end) m m1) (sym c.in-Solar.is) (subst (λ x. Runs ls c.args.most (lights Solar x body end) m m1) (sym e) (λ s near.
-    c.run_lit-in-Solar.ensures.near s (λ i. true) (λ i. triple_of (read s axis i)) near (λ i l. sym (c.full.ensures i (omega arith)))
-    (λ i l. ap triple_of (read_near r.places v u s (state_of m) axis i near hp l) ∙ sym (c.points-directions.ensures i l))))
+    let lit = lit_kept ls c.args.most body c.full.result.places m m1 m2 c.aim_along.ensures.kept c.run_lit-in-Solar.ensures.near in
+    subst (λ w. Runs ls c.args.most (lights w c.args.args.now body end) m m2) (sym c.in-Solar.is) (subst (λ x. Runs ls c.args.most (lights Solar x body end) m m2) (sym e) (λ s near.
+    lit s (λ i. true) (λ i. triple_of (read s axis i)) (subst (λ x. NearBy m.registers.frame s x) (sym c.aim_along.ensures.same) near) (λ i l. sym (c.full.ensures i (omega arith)))
+    (λ i l. ap triple_of (read_near r.places v u s (state_of m) axis i near hp l) ∙ sym (c.aim_along.ensures.aimed i l))))
 
 pub run_branch-run_block-requires : goal.run_branch-run_block-requires
 run_branch-run_block-requires g t c = λ κs lives. (omega (arith, c.decreases), (lives, (c.requires.whole, (c.requires.then, c.requires.places))))
@@ -560,26 +610,56 @@ run_lights-run_seen-requires g t c =
 
 pub run_lights-run_lit-requires : goal.run_lights-run_lit-requires
 run_lights-run_lit-requires g t c =
-    let r = c.args.m.now.registers.frame.now in
+    let m = c.args.m.now in
+    let m1 = c.aim.new.self in
+    let r = m.registers.frame.now in
     let v = r.varying.now in
     let u = r.uniform.now in
+    let k1 = c.aim.ensures.kept in
     let given = subst (λ w. list_all (has v u) (lights_registers w) ≡ true) c.in-Illuminate.is c.requires.has in
     let direction = has v u (name_at names.L) in
     λ κs lives. (
       omega (arith, c.decreases),
-      (lives, (c.requires.whole, (left direction _ given, (left (has v u lit_at) _ (right direction _ given), (c.requires.body, c.requires.places))))),
+      (
+        lives,
+        (
+          k1.whole,
+          (
+            has_kept m m1 (name_at names.L) k1 (left direction _ given),
+            (
+              has_kept m m1 lit_at k1 (left (has v u lit_at) _ (right direction _ given)),
+              (ready_kept m m1 (block_of c.args.body.now) k1 c.requires.body, places_kept m m1 (g.L.Illumination.lighting c.args.lights.now) (g.L.Illumination.lighting c.args.lights.now) k1 refl c.requires.places),
+            ),
+          ),
+        ),
+      ),
     )
 
 pub run_lights-run_lit-requires-in-Solar : goal.run_lights-run_lit-requires-in-Solar
 run_lights-run_lit-requires-in-Solar g t c =
-    let r = c.args.m.now.registers.frame.now in
+    let m = c.args.m.now in
+    let m1 = c.aim_along.new.self in
+    let r = m.registers.frame.now in
     let v = r.varying.now in
     let u = r.uniform.now in
+    let k1 = c.aim_along.ensures.kept in
     let given = subst (λ w. list_all (has v u) (lights_registers w) ≡ true) c.in-Solar.is c.requires.has in
     let direction = has v u (name_at names.L) in
     λ κs lives. (
       omega (arith, c.decreases),
-      (lives, (c.requires.whole, (left direction _ given, (left (has v u lit_at) _ (right direction _ given), (c.requires.body, c.requires.places))))),
+      (
+        lives,
+        (
+          k1.whole,
+          (
+            has_kept m m1 (name_at names.L) k1 (left direction _ given),
+            (
+              has_kept m m1 lit_at k1 (left (has v u lit_at) _ (right direction _ given)),
+              (ready_kept m m1 (block_of c.args.body.now) k1 c.requires.body, places_kept m m1 (g.L.Illumination.lighting c.args.lights.now) (g.L.Illumination.lighting c.args.lights.now) k1 refl c.requires.places),
+            ),
+          ),
+        ),
+      ),
     )
 
 pub run_node-put-requires : goal.run_node-put-requires
@@ -592,8 +672,8 @@ run_node-differ-requires g t c =
     let f = subst (λ x. ReadyIn c.args.m.now (with_node x end)) c.in-Differ.is c.requires.ready in
     record { whole = c.requires.whole; has = f.0; of = f.1.0; shape = f.1.1.0 }
 
-pub run_lights-from_light-directions-requires : goal.run_lights-from_light-directions-requires
-run_lights-from_light-directions-requires g t c =
+pub run_lights-aim-requires : goal.run_lights-aim-requires
+run_lights-aim-requires g t c =
     let r = c.args.m.now.registers.frame.now in
     let v = r.varying.now in
     let u = r.uniform.now in
@@ -601,25 +681,20 @@ run_lights-from_light-directions-requires g t c =
     let given = subst (λ w. list_all (has v u) (lights_registers w) ≡ true) c.in-Illuminate.is c.requires.has in
     record { whole = c.requires.whole; has = left (has v u c.in-Some.place.now) _ h; points = left (has v u (name_at names.Ps)) _ (right (has v u lit_at) _ (right (has v u (name_at names.L)) _ given)) }
 
-pub run_lights-cone-requires : goal.run_lights-cone-requires
-run_lights-cone-requires g t c =
-    let r = c.args.m.now.registers.frame.now in
-    let v = r.varying.now in
-    let u = r.uniform.now in
-    record { whole = c.requires.whole; has = right (has v u c.in-Some.place.now) _ (subst (λ x. list_all (has v u) x ≡ true) c.in-Some.ensures.cases.0 c.requires.args) }
+pub run_lights-within-seen-requires : goal.run_lights-within-seen-requires
+run_lights-within-seen-requires g t c =
+    let m = c.args.m.now in
+    let r = m.registers.frame.now in
+    let k1 = c.aim.ensures.kept in
+    let h = subst (λ x. list_all (has r.varying.now r.uniform.now) x ≡ true) c.in-Some.ensures.cases.0 c.requires.args in
+    record { whole = k1.whole; has = subst (λ f. list_all (has f.now.varying.now f.now.uniform.now) c.in-Some.cone.now ≡ true) (sym k1.frame) (right (has r.varying.now r.uniform.now c.in-Some.place.now) _ h) }
 
-pub run_lights-points-directions-requires : goal.run_lights-points-directions-requires
-run_lights-points-directions-requires g t c =
+pub run_lights-aim_along-requires : goal.run_lights-aim_along-requires
+run_lights-aim_along-requires g t c =
     let r = c.args.m.now.registers.frame.now in
     let v = r.varying.now in
     let u = r.uniform.now in
     record { whole = c.requires.whole; has = left (has v u c.in-Some.place.now) _ (subst (λ x. list_all (has v u) x ≡ true) c.in-Some.ensures.cases.0 c.requires.args) }
-
-pub run_seen-points-points-requires : goal.run_seen-points-points-requires
-run_seen-points-points-requires g t c = record { whole = c.requires.whole; has = c.requires.place }
-
-pub run_seen-cone-cone-requires : goal.run_seen-cone-cone-requires
-run_seen-cone-cone-requires g t c = record { whole = c.requires.whole; has = c.requires.args }
 
 pub run_lit-kindle-requires : goal.run_lit-kindle-requires
 run_lit-kindle-requires g t c =

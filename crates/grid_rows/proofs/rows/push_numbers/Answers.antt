@@ -1,16 +1,15 @@
-use Rattle.std.proofs.Common.{◌≡◌, ◌++◌, length, pos, subst, ◌∙◌, arith}
-use Rattle.std.specs.Prelude.{IfOk}
-use Rattle.std.proofs.lemmas.List.{length-replicate}
-use Rattle.place_rows.proofs.Sets.{all_default}
-use Rattle.grid_rows.proofs.Filled.{row_by}
+use Rattle.std.proofs.Common.{length, take, refl, sym, ap, ◌∙◌}
+use Rattle.std.proofs.lemmas.List.{with_items_is}
+use Rattle.place_rows.specs.Layout.{row_length}
+use Rattle.grid_rows.specs.Rows.{row_of}
+use Rattle.grid_variables.proofs.Results.{if_ok}
+use Rattle.grid_rows.proofs.UnderWay.{row_pushed, appended}
 use Rattle.grid_rows.proofs.rows.push_numbers.Goals as goal
-
-pub write_numbers-requires-clause-zero : goal.write_numbers-requires-clause-zero
-write_numbers-requires-clause-zero c k = all_default 296 k (pos 0)
 
 pub returns : goal.returns
 returns c =
     let row = c.write_numbers.new.row in
-    let long : length row ≡ 296 = c.write_numbers.ensures.long ∙ length-replicate 296 (pos 0) in
-    let most = c.length_of_row.ensures.to in
-    subst (λ zs. IfOk c.extend.result (λ x. c.extend.new.self ≡ c.args.rows.now ++ zs)) (row_by c.args.numbers.now row c.length_of_row.result c.length_of_row.ensures.value (omega arith) c.write_numbers.ensures.same) c.extend.ensures
+    let xs = c.args.numbers.now in
+    let same = c.deref.ensures.value ∙ with_items_is c.rows.inside.x row (c.write_numbers.ensures.room.0 ∙ sym c.rows.invariant.2.0 ∙ sym c.rows.inside.x.ok.0) in
+    let taken = ap (take (row_length (length c.args.numbers.now))) same ∙ row_pushed row xs (length c.args.numbers.now) refl c.requires c.write_numbers.ensures.room.0 c.write_numbers.ensures.row in
+    if_ok c.append.result _ _ (λ x e. appended _ c.args.rows.now _ _ (row_of xs) c.rows.view_is taken e) c.append.ensures.value

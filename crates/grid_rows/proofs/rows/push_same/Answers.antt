@@ -1,17 +1,15 @@
-use Rattle.std.proofs.Common.{◌≡◌, ◌++◌, length, pos, subst, ◌∙◌, arith, sym, ap, replicate}
-use Rattle.std.specs.Prelude.{IfOk}
-use Rattle.std.proofs.lemmas.List.{length-replicate}
-use Rattle.place_rows.proofs.Sets.{all_default}
+use Rattle.std.proofs.Common.{take, replicate, sym, ap, ◌∙◌}
+use Rattle.std.proofs.lemmas.List.{with_items_is, length-replicate}
 use Rattle.place_rows.specs.Layout.{row_length}
-use Rattle.grid_rows.proofs.Filled.{row_by}
+use Rattle.grid_rows.specs.Rows.{row_of}
+use Rattle.grid_variables.proofs.Results.{if_ok}
+use Rattle.grid_rows.proofs.UnderWay.{row_pushed, appended}
 use Rattle.grid_rows.proofs.rows.push_same.Goals as goal
-
-pub write_same-requires-clause-zero : goal.write_same-requires-clause-zero
-write_same-requires-clause-zero c k = all_default 296 k (pos 0)
 
 pub returns : goal.returns
 returns c =
     let row = c.write_same.new.row in
-    let long : length row ≡ 296 = c.write_same.ensures.long ∙ length-replicate 296 (pos 0) in
-    let most = c.length_of_row.ensures.to in
-    subst (λ zs. IfOk c.extend.result (λ x. c.extend.new.self ≡ c.args.rows.now ++ zs)) (row_by (replicate c.args.points c.args.number) row c.length_of_row.result (c.length_of_row.ensures.value ∙ ap row_length (sym (length-replicate c.args.points c.args.number))) (omega arith) c.write_same.ensures.same) c.extend.ensures
+    let xs = replicate c.args.points c.args.number in
+    let same = c.deref.ensures.value ∙ with_items_is c.rows.inside.x row (c.write_same.ensures.room.0 ∙ sym c.rows.invariant.2.0 ∙ sym c.rows.inside.x.ok.0) in
+    let taken = ap (take (row_length c.args.points)) same ∙ row_pushed row xs c.args.points (sym (length-replicate c.args.points c.args.number)) c.requires c.write_same.ensures.room.0 c.write_same.ensures.row in
+    if_ok c.append.result _ _ (λ x e. appended _ c.args.rows.now _ _ (row_of xs) c.rows.view_is taken e) c.append.ensures.value

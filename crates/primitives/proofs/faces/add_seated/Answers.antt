@@ -1,5 +1,6 @@
 use Rattle.std.proofs.Common.{◌<◌, ◌∙◌, ap, sym, subst, ◌++◌, [], ◌∷◌, Some, All, length}
 use Rattle.patches.specs.declared.patch.Patch.{Patch}
+use Rattle.quadrics.specs.declared.any_patch.AnyPatch.TheVariants.{Plain}
 use Rattle.mesh_basis.specs.Polygons.{piece_of, piece_count}
 use Rattle.scene.specs.declared.seat.Seat.{Seat}
 use Rattle.scene.specs.Seats.{IsThere}
@@ -18,8 +19,8 @@ loop-i-preserved c =
     let done = c.loop-i.all.items in
     piece_next (piece_of c.args.points.now) params flat seats c.loop-i.i n done c.push.new.self.items _ c.loop-i-test.true
     (c.in_ok-push.ensures.items ∙ ap (λ (x : PatchValue). done ++ x ∷ [])
-    (c.in_ok-placed.ensures ∙ ap (λ (seat : Seat). patch_with params flat seat c.piece_of-patch.result) c.face_seat-seat.ensures.value
-    ∙ ap (λ (p : Patch). patch_with params flat (seats c.loop-i.i) p) c.piece_of-patch.ensures))
+    (c.in_ok-placed.ensures ∙ ap (λ (seat : Seat). patch_with params flat seat (Plain c.piece_of-patch.result)) c.face_seat-seat.ensures.value
+    ∙ ap (λ (p : Patch). patch_with params flat (seats c.loop-i.i) (Plain p)) c.piece_of-patch.ensures))
     c.loop-i.invariant
 
 pub returns : goal.returns

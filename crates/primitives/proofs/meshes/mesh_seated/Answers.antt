@@ -1,4 +1,5 @@
 use Rattle.std.proofs.Common.{◌∙◌, ap, sym, subst, ◌*◌, ◌++◌, [], ◌∷◌, None, All}
+use Rattle.quadrics.specs.declared.any_patch.AnyPatch.TheVariants.{Plain}
 use Rattle.mesh_basis.specs.Meshes.{patch_at, all_from}
 use Rattle.scene.specs.declared.seat.Seat.{Seat}
 use Rattle.scene.specs.Seats.{IsThere}
@@ -13,8 +14,8 @@ returns-in_default c =
     let f = patch_at c.args.points.now c.args.shape.now c.args.counts.along_u in
     let seats = mesh_seat c.args.shape.now c.args.counts in
     let params = c.args.variables.now in
-    sym (mesh_start params seats (all_from f 0 n))
-    ∙ mesh_none f params seats c.loop-k.k n c.loop-k.all.items _ c.loop-k-test.true (sym c.patch_at.ensures ∙ c.in_default.is) c.loop-k.invariant
+    sym (mesh_start Plain params seats (all_from f 0 n))
+    ∙ mesh_none Plain f params seats c.loop-k.k n c.loop-k.all.items _ c.loop-k-test.true (sym c.patch_at.ensures ∙ c.in_default.is) c.loop-k.invariant
 
 pub loop-k-preserved : goal.loop-k-preserved
 loop-k-preserved c =
@@ -24,8 +25,8 @@ loop-k-preserved c =
     let params = c.args.variables.now in
     let p = c.in-Some.patch in
     let done = c.loop-k.all.items in
-    mesh_next f params seats c.loop-k.k n p done c.push.new.self.items _ c.loop-k-test.true (sym c.patch_at.ensures ∙ c.in-Some.is)
-    (c.in_ok-push.ensures.items ∙ ap (λ (x : PatchValue). done ++ x ∷ []) (c.in_ok-placed.ensures ∙ ap (λ (seat : Seat). patch_with params None seat p) c.mesh_seat-seat.ensures.value))
+    mesh_next Plain f params seats c.loop-k.k n p done c.push.new.self.items _ c.loop-k-test.true (sym c.patch_at.ensures ∙ c.in-Some.is)
+    (c.in_ok-push.ensures.items ∙ ap (λ (x : PatchValue). done ++ x ∷ []) (c.in_ok-placed.ensures ∙ ap (λ (seat : Seat). patch_with params None seat (Plain p)) c.mesh_seat-seat.ensures.value))
     c.loop-k.invariant
 
 pub returns : goal.returns
@@ -34,8 +35,8 @@ returns c =
     let f = patch_at c.args.points.now c.args.shape.now c.args.counts.along_u in
     let seats = mesh_seat c.args.shape.now c.args.counts in
     let params = c.args.variables.now in
-    sym (mesh_start params seats (all_from f 0 n))
-    ∙ mesh_end f params seats c.loop-k.k n c.loop-k.all.items _ c.loop-k-test.false c.loop-k.invariant
+    sym (mesh_start Plain params seats (all_from f 0 n))
+    ∙ mesh_end Plain f params seats c.loop-k.k n c.loop-k.all.items _ c.loop-k-test.false c.loop-k.invariant
 
 pub patch_with-requires-clause-there : goal.patch_with-requires-clause-there
 patch_with-requires-clause-there c =

@@ -1,4 +1,5 @@
 use Rattle.std.proofs.Common.{◌≡◌, ◌-◌, ◌*◌, []}
+use Rattle.quadrics.specs.declared.any_patch.AnyPatch.TheVariants.{Plain}
 use Rattle.mesh_basis.specs.Meshes.{patch_at, all_from}
 use Rattle.primitives.specs.Variables.{mesh_seat}
 use Rattle.primitives.proofs.Seating.{mesh_behind}
@@ -9,4 +10,4 @@ invariant-loop-k l =
     let n = l.counts.along_u * l.counts.along_v in
     let f = patch_at l.points l.shape l.counts.along_u in
     let seats = mesh_seat l.shape l.counts in
-    mesh_behind l.variables seats l.all.items l.k (all_from f l.k (n - l.k)) ≡ mesh_behind l.variables seats [] 0 (all_from f 0 n)
+    mesh_behind Plain l.variables seats l.all.items l.k (all_from f l.k (n - l.k)) ≡ mesh_behind Plain l.variables seats [] 0 (all_from f 0 n)

@@ -9,4 +9,8 @@ only_none C other None c = refl
 only_none C other (Some k) c = absurd (other k c)
 
 pub invariant_of-result : goal.invariant_of-result
-invariant_of-result c = none_known c.args.frame.now 16384 c.in_ok-vec.field-0.items (c.in_ok-vec.ensures.items_if_clones_equal (only_none _ (λ k other. other))) refl
+invariant_of-result c = record {
+  known = none_known c.args.frame.now 16384 c.in_ok-vec.field-0.items (c.in_ok-vec.ensures.items_if_clones_equal (only_none _ (λ k other. other))) refl;
+  extents = c.in_ok-extents_of.ensures;
+  narrowed = c.in_ok-first_narrowed.ensures;
+}

@@ -25,4 +25,4 @@ returns-clause-next g c = λ back tells.
     let d = g.begun.drawing in
     let leaves = c.restart.new.self in
     gives_first c.next-self.result leaves.sights d.frame (pixels_of c.tile_at-self.result) (tile_rect d c.args.self.now.at) back (λ v. to_come v leaves.number leaves.pieces) (λ v. to_come v c.next-self.new.self.number c.next-self.new.self.pieces)
-    (c.restart.ensures.frame ∙ c.requires.1.1.1) c.tile_at-self.ensures c.restart.ensures.all (c.next-self.ensures.next back tells)
+    (c.restart.ensures.frame ∙ c.requires.1.1.1) c.tile_at-self.ensures c.in_ok-restart.ensures.all (c.next-self.ensures.next back tells)

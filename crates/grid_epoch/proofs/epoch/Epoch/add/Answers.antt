@@ -18,10 +18,10 @@ invariant_of-self-2 c =
     let k : c.args.self.now.kept ≡ zip pieces grids = ap (λ v. v.kept) (sym c.self.view_is) in
     let p : pieces_in c.args.self.now.kept ≡ pieces = ap pieces_in k ∙ firsts-zip pieces grids c.self.invariant.alike in
     let h : has c.args.piece pieces ≡ false = subst (λ ps. has c.args.piece ps ≡ false) p c.requires.fresh in
-    let r : points_in (zip pieces grids) + c.args.grid.columns * c.args.grid.rows ≤ c.self.inside.limit =
-    subst (λ v. points_in v.kept + c.args.grid.columns * c.args.grid.rows ≤ v.limit) (sym c.self.view_is) c.requires.room in
+    let r : points_in (zip pieces grids) + c.args.seen.grid.columns * c.args.seen.grid.rows ≤ c.self.inside.limit =
+    subst (λ v. points_in v.kept + c.args.seen.grid.columns * c.args.seen.grid.rows ≤ v.limit) (sym c.self.view_is) c.requires.room in
     rw (c.in_default.ensures.keys ∙ keys_are _ pieces c.args.piece h)
-    (rw c.in_ok-push.ensures.items (keeps c.self.inside.limit c.self.inside.live pieces grids c.args.piece c.args.grid c.self.invariant h r))
+    (rw c.in_ok-push.ensures.items (keeps c.self.inside.limit c.self.inside.live pieces grids c.args.piece c.args.seen c.self.invariant h r))
 
 pub returns-clause-place : goal.returns-clause-place
 returns-clause-place c =
@@ -38,4 +38,4 @@ returns-clause-kept c =
     let p : pieces_in c.args.self.now.kept ≡ pieces = ap pieces_in k ∙ firsts-zip pieces grids c.self.invariant.alike in
     let h : has c.args.piece pieces ≡ false = subst (λ ps. has c.args.piece ps ≡ false) p c.requires.fresh in
     rw (c.in_default.ensures.keys ∙ keys_are _ pieces c.args.piece h)
-    (rw c.in_ok-push.ensures.items (rw k (zip-push pieces grids c.args.piece c.args.grid c.self.invariant.alike)))
+    (rw c.in_ok-push.ensures.items (rw k (zip-push pieces grids c.args.piece c.args.seen c.self.invariant.alike)))

@@ -1,11 +1,10 @@
-use Rattle.std.proofs.Common.{◌≡◌, ℕ, ◌<◌, true, [], get_or, map, refl, sym, ap, ◌∙◌, subst}
+use Rattle.std.proofs.Common.{◌≡◌, ℕ, ◌<◌, true, [], map, refl, sym, ap, ◌∙◌, subst, arith}
 use Rattle.std.specs.List.{list_all}
 use Rattle.std.specs.Prelude.{not}
-use Rattle.fixed_math.specs.Axes.{origin}
 use Rattle.sl_ast.specs.declared.kinds.Predefined.TheVariants as names
 use Rattle.sl_ast.specs.declared.typed.Value.{Value}
 use Rattle.sl_ast.specs.declared.typed.Value.TheVariants.{Triple}
-use Rattle.grid_code.specs.Masked.{State, write, masked}
+use Rattle.grid_code.specs.Masked.{State, masked}
 use Rattle.grid_code.specs.Names.{name_at, lit_at, first_free}
 use Rattle.grid_code.specs.Shapes.{register_shape}
 use Rattle.grid_code.specs.Uses.{has, registers_from}
@@ -15,7 +14,10 @@ use Rattle.grid_machine.specs.Run.{assigned, fresh}
 use Rattle.place_values.specs.Cells.{is_known}
 use Rattle.grid_machine.specs.State.{state_of, lit_ground, ReadyIn}
 use Rattle.grid_machine.proofs.Answering.{answer_near, class_is}
-use Rattle.grid_machine.proofs.Kept.{kept_on, has_kept, ready_kept, runs_kept, NearBy, StepsBy}
+use Rattle.grid_machine.proofs.Kept.{kept_on, has_kept, ready_kept, runs_kept, written_kept, NearBy, StepsBy}
+use Rattle.grid_machine.proofs.Near.{near_on, write_near}
+use Rattle.light_rows.specs.Seen.{HasPlaces, IsAnswer}
+use Rattle.number_rows.specs.Planes.{triple_at, ArePlanes}
 use Rattle.grid_machine.proofs.Validity.{light_registers_pass}
 use Rattle.grid_machine.proofs.machine.Machine.asked.Goals as goal
 
@@ -34,7 +36,12 @@ set_triples-requires c =
     let m0 = c.args.self.now in
     let m2 = c.assign_all.new.self in
     let k2 = kept_on m0 c.reset.new.self m2 c.reset.ensures.kept c.assign_all.ensures.kept in
-    record { whole = k2.whole; has = has_kept m0 m2 (name_at names.Ps) k2 (light_registers_pass _ c.args.code.now.kind c.requires.light.kind c.requires.names).1.1.1; triple = refl }
+    record {
+      whole = k2.whole;
+      has = has_kept m0 m2 (name_at names.Ps) k2 (light_registers_pass _ c.args.code.now.kind c.requires.light.kind c.requires.names).1.1.1;
+      triple = refl;
+      planes = subst (λ f. ArePlanes f.now.places c.args.points.now) (sym k2.frame) c.requires.points;
+    }
 
 pub run_block-requires-clause-ready : goal.run_block-requires-clause-ready
 run_block-requires-clause-ready c =
@@ -43,8 +50,8 @@ run_block-requires-clause-ready c =
     let k4 = kept_on m0 c.assign_all.new.self c.set_triples.new.self k2 c.set_triples.ensures.kept in
     ready_kept m0 c.set_triples.new.self (block_of c.as_slice.result.now) k4 (subst (λ ns. ReadyIn m0 (block_of ns)) (sym c.as_slice.ensures) c.requires.ready)
 
-pub left-requires : goal.left-requires
-left-requires c =
+pub answer-requires : goal.answer-requires
+answer-requires c =
     let m0 = c.args.self.now in
     let m2 = c.assign_all.new.self in
     let m4 = c.set_triples.new.self in
@@ -52,7 +59,17 @@ left-requires c =
     let k4 = kept_on m0 m2 m4 (kept_on m0 c.reset.new.self m2 c.reset.ensures.kept c.assign_all.ensures.kept) c.set_triples.ensures.kept in
     let k5 = kept_on m0 m4 m5 k4 c.run_block.ensures.kept in
     let all = light_registers_pass _ c.args.code.now.kind c.requires.light.kind c.requires.names in
-    record { whole = k5.whole; direction = has_kept m0 m5 (name_at names.L) k5 all.0; colour = has_kept m0 m5 (name_at names.Cl) k5 all.1.0; lit = has_kept m0 m5 lit_at k5 all.1.1.0 }
+    record { whole = k5.whole; direction = has_kept m0 m5 (name_at names.L) k5 all.0; colour = has_kept m0 m5 (name_at names.Cl) k5 all.1.0; lit = has_kept m0 m5 lit_at k5 all.1.1.0; places = subst (λ f. HasPlaces f.now.places c.args.answers.now) (sym k5.frame) c.requires.places }
+
+pub returns-clause-places : goal.returns-clause-places
+returns-clause-places c =
+    let m0 = c.args.self.now in
+    let m2 = c.assign_all.new.self in
+    let m4 = c.set_triples.new.self in
+    let m5 = c.run_block.new.m in
+    let k4 = kept_on m0 m2 m4 (kept_on m0 c.reset.new.self m2 c.reset.ensures.kept c.assign_all.ensures.kept) c.set_triples.ensures.kept in
+    let k5 = kept_on m0 m4 m5 k4 c.run_block.ensures.kept in
+    subst (λ f. HasPlaces f.now.places c.answer.new.answers) k5.frame c.answer.ensures.places
 
 pub returns-clause-kept : goal.returns-clause-kept
 returns-clause-kept c =
@@ -81,11 +98,14 @@ returns-clause-each c q e i l =
     let regs = registers_from first_free code.params in
     let g2 : State = assigned p regs values fresh in
     let n2 = subst (λ rs. NearBy f (assigned p rs values fresh) (state_of m2)) c.requires.registers (subst (λ x. (g : State) → NearBy x g (state_of m1) → NearBy x (assigned x.now.places c.args.registers.now values g) (state_of m2)) k1.frame c.assign_all.ensures.near fresh c.reset.ensures.near) in
-    let n4 = subst (λ x. (g : State) (h : ℕ → Value) → NearBy x g (state_of m2) → ((j : ℕ) → j < x.now.places → h j ≡ Triple (get_or c.args.points.now.at j origin)) → NearBy x (write x.now.places (name_at names.Ps) h g) (state_of m4)) k2.frame c.set_triples.ensures.near g2 (λ j. Triple (q j)) n2 (λ j b. ap (λ t. Triple t) (e j b)) in
+    let some : 0 < p = let s = f.now.some in omega arith in
+    let row : ℕ → Value = λ j. Triple (triple_at c.args.points.now j) in
+    let n4 = near_on p v u _ _ _ (write_near p v u (name_at names.Ps) (λ j. Triple (q j)) row g2 (state_of m2) some n2 (λ j b. ap (λ t. Triple t) (e j b))) (written_kept m0 m2 (name_at names.Ps) row (state_of m4) k2 c.set_triples.ensures.near) in
     let run = subst (λ ns. StepsBy [] f 65536 (block_of ns) (state_of m4) (state_of m5)) c.as_slice.ensures (runs_kept [] [] m0 m4 m5 65536 (block_of c.as_slice.result.now) k4 refl c.run_block.ensures.masked) in
     let g5 : State = masked (block_of code.nodes) (lit_ground [] f.now) p 65536 (begun_at code.params p values q) in
     let n5 = run (begun_at code.params p values q) n4 in
     let has_all = light_registers_pass _ code.kind c.requires.light.kind c.requires.names in
-    c.left.ensures i (subst (λ x. i < x.now.places) (sym k5.frame) l)
-    ∙ answer_near p v u g5 (state_of m5) i (not code.ambient) n5 l has_all.0 has_all.1.0 has_all.1.1.0
-    ∙ ap (λ b. answer_at b g5 i) (class_is code.kind (block_of code.nodes) code.ambient c.requires.light.kind code.lit)
+    subst (IsAnswer c.answer.new.answers i)
+    (ap (λ b. answer_at (not b) (state_of m5) i) c.requires.ambient ∙ answer_near p v u g5 (state_of m5) i (not code.ambient) n5 l has_all.0 has_all.1.0 has_all.1.1.0
+    ∙ ap (λ b. answer_at b g5 i) (class_is code.kind (block_of code.nodes) code.ambient c.requires.light.kind code.lit))
+    (c.answer.ensures.each i (subst (λ x. i < x.now.places) (sym k5.frame) l))

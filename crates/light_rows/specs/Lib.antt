@@ -1,0 +1,4 @@
+pub mod Seen
+pub mod Loops
+pub mod Scopes
+pub mod Shares

@@ -1,0 +1,22 @@
+//! What lights answer at the places of a grid, what is seen of them, and sums over them.
+//!
+//! Answers lie in rows, one number for each place. A sum over lights is a few loops over rows a light.
+#![tactic(auto)]
+
+mod answers;
+mod illumination;
+mod loops;
+mod points;
+mod sums;
+mod taking;
+mod triples;
+mod viewing;
+mod workroom;
+
+pub use answers::Answers;
+pub use illumination::{Dark, Illumination};
+pub use points::{Numbers, Points, Scope};
+pub use sums::Sum;
+pub use triples::Triples;
+pub use viewing::{Cone, View};
+pub use workroom::Workroom;

@@ -1,0 +1,174 @@
+// Loops of sums over lights, one formula a place.
+ghost use Rattle.std.specs.Prelude.{◌≡◌, ℕ, ◌<◌, ◌&&◌, pos, int_le, cond, length, get_or};
+ghost use Rattle.fixed_math.specs.Fixed.{add, mul};
+ghost use Rattle.builtins.specs.Numbers.{max};
+ghost use Rattle.builtins.specs.Triples.{each_two, dot};
+ghost use Rattle.builtins.specs.Values.{is_nonzero};
+ghost use Rattle.number_rows.specs.Truths as truths;
+ghost use Rattle.light_rows.specs.Loops.{half_way, weight, is_before, with_share};
+ghost use Rattle.light_rows.specs.Seen.{size, at_place};
+
+use crate::triples::Triples;
+use builtins::max;
+use fixed_math::{Num, Vec3};
+use number_rows::{Dot, Normalize, OfTriples, Planes, Raw, ToTriple, ToTriples};
+
+// The sum of two triples.
+#[inline(always)]
+fn plus(a: Vec3, b: Vec3) -> Vec3
+    ensures { result ≡ each_two add a b }
+{
+    Vec3 {
+        x: a.x.add(b.x),
+        y: a.y.add(b.y),
+        z: a.z.add(b.z),
+    }
+}
+
+/// The vector of length 1 half way between two directions.
+pub struct HalfWay;
+
+impl ToTriples for HalfWay {
+    ghost formula = { half_way };
+
+    #[inline(always)]
+    fn apply(a: Vec3, b: Vec3) -> Vec3 {
+        Normalize::apply(plus(a, b))
+    }
+}
+
+// A number where it isn't negative, else 0.
+#[inline(always)]
+fn positive(x: Num) -> Num
+    ensures { result ≡ max (pos 0) x }
+{
+    max(Num::sat(0), x)
+}
+
+// The product of two triples where it isn't negative, else 0.
+#[inline(always)]
+#[tactic(auto, unfolding(crate::specs::Loops::weight))]
+fn weight_of(a: Vec3, b: Vec3) -> Raw
+    ensures { result ≡ weight a b }
+{
+    Raw::of(positive(Dot::apply(a, b)))
+}
+
+/// The products of triples where they aren't negative, else 0.
+pub fn weigh(a: &Triples, b: &Triples, out: &mut [Raw])
+    requires a { size a.now ≡ length out.old }
+    requires b { size b.now ≡ length out.old }
+    ensures long { length out.new ≡ length out.old }
+    ensures each { (i : ℕ) → i < length out.old → get_or out.new i (pos 0) ≡ weight (at_place a.now i) (at_place b.now i) }
+{
+    for i in 0..out.len() {
+        out[i] = weight_of(a.at(i), b.at(i));
+    }
+}
+
+// Whether a number isn't 0.
+#[inline(always)]
+fn is_nonzero(x: Raw) -> bool
+    ensures { result ≡ is_nonzero x }
+{
+    x.raw() != 0
+}
+
+// Whether a light is lit in front of a surface, by the cosine between them.
+#[inline(always)]
+fn is_lit_before(lit: Raw, cosine: Num) -> bool
+    ensures { result ≡ (is_nonzero lit && int_le (pos 0) cosine) }
+{
+    is_nonzero(lit) & (0 <= cosine.raw())
+}
+
+// A truth as a number.
+#[inline(always)]
+fn truth(holds: bool) -> Raw
+    ensures { result ≡ truths.truth holds }
+{
+    if holds {
+        Raw::of(Num::sat(65536))
+    } else {
+        Raw::of(Num::sat(0))
+    }
+}
+
+// Whether a light is lit in front of a surface, by the units of the direction to it and of the normal, as a number.
+#[inline(always)]
+#[tactic(auto, unfolding(crate::specs::Loops::is_before))]
+fn mark_of(lit: Raw, unit: Vec3, normal: Vec3) -> Raw
+    ensures { result ≡ truths.truth (is_before lit unit normal) }
+{
+    truth(is_lit_before(lit, Dot::apply(unit, normal)))
+}
+
+/// Where a light is lit in front of surfaces, by the units of the directions to it and of the normals.
+pub fn mark(lit: &[Raw], units: &Triples, normals: &Triples, out: &mut [Raw])
+    requires lit { length lit.now ≡ length out.old }
+    requires units { size units.now ≡ length out.old }
+    requires normals { size normals.now ≡ length out.old }
+    ensures long { length out.new ≡ length out.old }
+    ensures each { (i : ℕ) → i < length out.old → get_or out.new i (pos 0) ≡ truths.truth (is_before (get_or lit.now i (pos 0)) (at_place units.now i) (at_place normals.now i)) }
+{
+    for i in 0..out.len() {
+        out[i] = mark_of(lit[i], units.at(i), normals.at(i));
+    }
+}
+
+// The sum of two numbers.
+#[inline(always)]
+fn sum(x: Raw, y: Raw) -> Raw
+    ensures { result ≡ add x y }
+{
+    Raw::of(x.number().add(y.number()))
+}
+
+// The product of two numbers.
+#[inline(always)]
+fn product(x: Raw, y: Raw) -> Raw
+    ensures { result ≡ mul x y }
+{
+    Raw::of(x.number().mul(y.number()))
+}
+
+#[inline(always)]
+fn one_of(first: bool, x: Raw, y: Raw) -> Raw
+    ensures { result ≡ cond first x y }
+{
+    if first { x } else { y }
+}
+
+// A number with a share of another one, where it is shown.
+#[inline(always)]
+#[tactic(auto, unfolding(crate::specs::Loops::with_share))]
+fn with_share(shown: Raw, total: Raw, colour: Raw, weight: Raw) -> Raw
+    ensures { result ≡ with_share shown total colour weight }
+{
+    let more = sum(total, product(colour, weight));
+    one_of(is_nonzero(shown), more, total)
+}
+
+/// Adds shares of one part of colours where they are shown.
+pub fn add_shares(shown: &[Raw], weights: &[Raw], colours: &[Raw], totals: &mut [Raw])
+    requires shown { length shown.now ≡ length totals.old }
+    requires weights { length weights.now ≡ length totals.old }
+    requires colours { length colours.now ≡ length totals.old }
+    ensures long { length totals.new ≡ length totals.old }
+    ensures each { (i : ℕ) → i < length totals.old → get_or totals.new i (pos 0) ≡ with_share (get_or shown.now i (pos 0)) (get_or totals.old i (pos 0)) (get_or colours.now i (pos 0)) (get_or weights.now i (pos 0)) }
+{
+    for i in 0..totals.len() {
+        totals[i] = with_share(shown[i], totals[i], colours[i], weights[i]);
+    }
+}
+
+/// Adds one part of colours.
+pub fn add_whole(colours: &[Raw], totals: &mut [Raw])
+    requires { length colours.now ≡ length totals.old }
+    ensures long { length totals.new ≡ length totals.old }
+    ensures each { (i : ℕ) → i < length totals.old → get_or totals.new i (pos 0) ≡ add (get_or totals.old i (pos 0)) (get_or colours.now i (pos 0)) }
+{
+    for i in 0..totals.len() {
+        totals[i] = sum(totals[i], colours[i]);
+    }
+}

@@ -1,0 +1,131 @@
+// Rows of numbers and triples that are kept while code runs. A grid has at most 17 columns of 17 places.
+ghost use Rattle.std.specs.Prelude.{◌≡◌, ℕ, ◌<◌, ◌≤◌, pos, length, get_or};
+ghost use Rattle.fixed_math.specs.declared.vec3.Vec3.{Vec3 as AnyVec3};
+ghost use Rattle.number_rows.specs.Planes.{plane_at, triple_at, triple_in, IsPlane, ArePlanes};
+ghost use Rattle.light_rows.specs.Seen.{cone_at, IsCone};
+ghost use Rattle.light_rows.specs.Scopes.{points_at, scope_at};
+
+use crate::viewing::Cone;
+use number_rows::{Plane, Planes, Raw};
+
+/// A number for each place.
+#[derive(Drop)]
+pub struct Numbers {
+    pub row: [Raw; 289],
+}
+
+/// A triple for each place.
+#[derive(Drop)]
+pub struct Points {
+    pub x: Numbers,
+    pub y: Numbers,
+    pub z: Numbers,
+}
+
+impl Numbers {
+    /// Zeros.
+    pub fn zero() -> Numbers
+        ensures { length result.row ≡ 289 }
+    {
+        Numbers {
+            row: [Raw::zero(); 289],
+        }
+    }
+
+    /// Takes the first numbers of a plane.
+    pub fn take(&mut self, plane: &Plane, count: usize)
+        requires count { count ≤ 289 }
+        requires plane { IsPlane count plane.now }
+        ensures long { length self.new.row ≡ 289 }
+        ensures each { (i : ℕ) → i < count → get_or self.new.row i (pos 0) ≡ plane_at plane.now i }
+    {
+        for place in 0..count {
+            self.row[place] = plane.at(place);
+        }
+    }
+
+    /// The numbers as a plane.
+    pub fn plane(&self) -> Plane<'_>
+        ensures plane { (c : ℕ) → c ≤ 289 → IsPlane c result }
+        ensures each { (i : ℕ) → plane_at result i ≡ get_or self.now.row i (pos 0) }
+    {
+        Plane::Row(&self.row)
+    }
+}
+
+impl Points {
+    /// Zeros.
+    pub fn zero() -> Points {
+        Points {
+            x: Numbers::zero(),
+            y: Numbers::zero(),
+            z: Numbers::zero(),
+        }
+    }
+
+    /// Takes the first triples of planes.
+    pub fn take(&mut self, planes: &Planes, count: usize)
+        requires count { count ≤ 289 }
+        requires planes { ArePlanes count planes.now }
+        ensures { (i : ℕ) → i < count → triple_in self.new.x.row self.new.y.row self.new.z.row i ≡ triple_at planes.now i }
+    {
+        self.x.take(&planes.x, count);
+        self.y.take(&planes.y, count);
+        self.z.take(&planes.z, count);
+    }
+
+    /// The triples as planes.
+    pub fn planes(&self) -> Planes<'_>
+        ensures planes { (c : ℕ) → c ≤ 289 → ArePlanes c result }
+        ensures each { (i : ℕ) → triple_at result i ≡ triple_in self.now.x.row self.now.y.row self.now.z.row i }
+    {
+        Planes {
+            x: self.x.plane(),
+            y: self.y.plane(),
+            z: self.z.plane(),
+        }
+    }
+}
+
+/// The points and the cones of a statement over lights, kept while its body runs.
+#[derive(Drop)]
+pub struct Scope {
+    pub points: Points,
+    pub given: bool,
+    pub axis: Points,
+    pub angle: Numbers,
+}
+
+impl Scope {
+    /// Those of the first places.
+    pub fn of(points: &Planes, cone: &Cone, count: usize) -> Scope
+        requires count { count ≤ 289 }
+        requires points { ArePlanes count points.now }
+        requires cone { IsCone count cone.now }
+        ensures points { (i : ℕ) → i < count → points_at result i ≡ triple_at points.now i }
+        ensures cone { (i : ℕ) (l : AnyVec3) → i < count → scope_at result i l ≡ cone_at cone.now i l }
+    {
+        let mut scope = Scope {
+            points: Points::zero(),
+            given: cone.given,
+            axis: Points::zero(),
+            angle: Numbers::zero(),
+        };
+        scope.points.take(points, count);
+        scope.axis.take(&cone.axis, count);
+        scope.angle.take(&cone.angle, count);
+        scope
+    }
+
+    /// The cones.
+    pub fn cone(&self) -> Cone<'_>
+        ensures cone { (c : ℕ) → c ≤ 289 → IsCone c result }
+        ensures each { (i : ℕ) (l : AnyVec3) → cone_at result i l ≡ scope_at self.now i l }
+    {
+        Cone {
+            given: self.given,
+            axis: self.axis.planes(),
+            angle: self.angle.plane(),
+        }
+    }
+}

@@ -1,0 +1,139 @@
+// What rows of triples take and give.
+ghost use Rattle.std.specs.Prelude.{◌≡◌, ℕ, ◌<◌, ◌≤◌, true, pos, length, get_or, IfOk};
+ghost use Rattle.builtins.specs.Triples.{negated, normalize};
+ghost use Rattle.number_rows.specs.Planes.{plane_at, triple_at, IsPlane, ArePlanes};
+ghost use Rattle.light_rows.specs.Seen.{size, at_place};
+
+use crate::triples::Triples;
+use bumpalo::Bump;
+use fixed_math::{NoMemory, Vec3};
+use number_rows::{Normalize, Plane, Planes, Raw, copy, part_row, triple_of_triple};
+use sl_ast::ValueOperation;
+
+// So many zeros, or want of memory.
+pub(crate) fn zeros<'a>(arena: &'a Bump, count: usize) -> Result<Vec<Raw, &'a Bump>, NoMemory>
+    ensures { IfOk result (λ v. length v.items ≡ count) }
+{
+    Ok(vec![in arena; Raw::zero(); count]?)
+}
+
+// Whether two rows begin alike.
+fn are_same(a: &[Raw], b: &[Raw]) -> bool
+    requires { length a.now ≤ length b.now }
+    ensures { result ≡ true → (i : ℕ) → i < length a.now → get_or a.now i (pos 0) ≡ get_or b.now i (pos 0) }
+{
+    let mut same = true;
+    for i in 0..a.len() {
+        same = still(same, a[i], b[i]);
+    }
+    same
+}
+
+// Whether a row is one number throughout.
+fn are_value(a: &[Raw], x: Raw) -> bool
+    ensures { result ≡ true → (i : ℕ) → i < length a.now → get_or a.now i (pos 0) ≡ x }
+{
+    let mut same = true;
+    for i in 0..a.len() {
+        same = still(same, a[i], x);
+    }
+    same
+}
+
+// Whether something holds and two numbers are the same.
+#[inline(always)]
+fn still(holds: bool, x: Raw, y: Raw) -> bool
+    ensures held { result ≡ true → holds ≡ true }
+    ensures same { result ≡ true → x ≡ y }
+{
+    holds & (x.raw() == y.raw())
+}
+
+fn is_plane(a: &[Raw], plane: &Plane) -> bool
+    requires { IsPlane (length a.now) plane.now }
+    ensures { result ≡ true → (i : ℕ) → i < length a.now → get_or a.now i (pos 0) ≡ plane_at plane.now i }
+{
+    match plane {
+        Plane::Row(b) => are_same(a, b),
+        Plane::Value(x) => are_value(a, *x),
+    }
+}
+
+impl<'a> Triples<'a> {
+    /// So many triples, or want of memory.
+    pub fn zeros(arena: &'a Bump, count: usize) -> Result<Triples<'a>, NoMemory>
+        ensures { IfOk result (λ t. size t ≡ count) }
+    {
+        Ok(Triples {
+            x: zeros(arena, count)?,
+            y: zeros(arena, count)?,
+            z: zeros(arena, count)?,
+        })
+    }
+}
+
+impl Triples<'_> {
+    /// The triples as planes.
+    pub fn planes(&self) -> Planes<'_>
+        ensures planes { ArePlanes (size self.now) result }
+        ensures each { (i : ℕ) → triple_at result i ≡ at_place self.now i }
+    {
+        Planes {
+            x: Plane::Row(&self.x),
+            y: Plane::Row(&self.y),
+            z: Plane::Row(&self.z),
+        }
+    }
+
+    /// The triple of a place.
+    #[inline(always)]
+    pub fn at(&self, place: usize) -> Vec3
+        requires { place < size self.now }
+        ensures { result ≡ at_place self.now place }
+    {
+        Vec3 {
+            x: self.x[place].number(),
+            y: self.y[place].number(),
+            z: self.z[place].number(),
+        }
+    }
+
+    /// Takes the triples of planes.
+    pub fn take(&mut self, planes: &Planes)
+        requires { ArePlanes (size self.old) planes.now }
+        ensures size { size self.new ≡ size self.old }
+        ensures each { (i : ℕ) → i < size self.old → at_place self.new i ≡ triple_at planes.now i }
+    {
+        copy(&planes.x, &mut self.x);
+        copy(&planes.y, &mut self.y);
+        copy(&planes.z, &mut self.z);
+    }
+
+    /// Takes the opposites of the triples of planes.
+    pub fn take_turned(&mut self, planes: &Planes)
+        requires { ArePlanes (size self.old) planes.now }
+        ensures size { size self.new ≡ size self.old }
+        ensures each { (i : ℕ) → i < size self.old → at_place self.new i ≡ negated (triple_at planes.now i) }
+    {
+        part_row(ValueOperation::Negate, &planes.x, &mut self.x);
+        part_row(ValueOperation::Negate, &planes.y, &mut self.y);
+        part_row(ValueOperation::Negate, &planes.z, &mut self.z);
+    }
+
+    /// Takes the vectors of length 1 in the directions of planes.
+    pub fn take_units(&mut self, planes: &Planes)
+        requires { ArePlanes (size self.old) planes.now }
+        ensures size { size self.new ≡ size self.old }
+        ensures each { (i : ℕ) → i < size self.old → at_place self.new i ≡ normalize (triple_at planes.now i) }
+    {
+        triple_of_triple::<Normalize>(planes, &mut self.x, &mut self.y, &mut self.z);
+    }
+
+    /// Whether these are the triples of planes.
+    pub fn are(&self, planes: &Planes) -> bool
+        requires { ArePlanes (size self.now) planes.now }
+        ensures { result ≡ true → (i : ℕ) → i < size self.now → at_place self.now i ≡ triple_at planes.now i }
+    {
+        is_plane(&self.x, &planes.x) && is_plane(&self.y, &planes.y) && is_plane(&self.z, &planes.z)
+    }
+}

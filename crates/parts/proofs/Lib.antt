@@ -1,0 +1,11 @@
+mod Words
+mod Headers
+mod Squares
+mod Bucketry
+mod Runs
+mod Places
+mod Standing
+mod Joins
+mod Divided
+mod Pictured
+mod Rows

@@ -1,0 +1,46 @@
+-- Patches of a scene: by their control points, or of quadrics.
+use Rattle.std.specs.Prelude.{ℕ, ℤ, List}
+use Rattle.fixed_math.specs.declared.vec3.Vec3.{Vec3}
+use Rattle.patches.specs.Rects.{Rect}
+use Rattle.patches.specs.Boxes.{Box, PointsLieInBoxes, PartsLieInBoxes, NetsHaveRows}
+use Rattle.patches.specs.Patches.{patch_point as plain_point, patch_du as plain_du, patch_dv as plain_dv, patch_net as plain_net, patch_width as plain_width, patch_box as plain_box, patch_inside as plain_inside, patch_parts as plain_parts, patch_rows as plain_rows}
+use Rattle.quadrics.specs.declared.any_patch.AnyPatch.{AnyPatch}
+use Rattle.quadrics.specs.declared.any_patch.AnyPatch.TheVariants.{Plain, Quadric}
+use Rattle.quadrics.specs.Quadrics.{quadric_point, quadric_du, quadric_dv, quadric_net, quadric_box, quadric_inside, quadric_parts, quadric_rows}
+
+abbrev pub patch_point : AnyPatch → ℕ → ℕ → Vec3
+patch_point (Plain p) u v = plain_point p u v
+patch_point (Quadric q) u v = quadric_point q u v
+
+abbrev pub patch_du : AnyPatch → ℕ → ℕ → List ℤ
+patch_du (Plain p) u v = plain_du p u v
+patch_du (Quadric q) u v = quadric_du q u v
+
+abbrev pub patch_dv : AnyPatch → ℕ → ℕ → List ℤ
+patch_dv (Plain p) u v = plain_dv p u v
+patch_dv (Quadric q) u v = quadric_dv q u v
+
+abbrev pub patch_net : AnyPatch → Rect → List Vec3
+patch_net (Plain p) r = plain_net p r
+patch_net (Quadric q) r = quadric_net q r
+
+-- the number of points in a row of the net
+abbrev pub patch_width : AnyPatch → ℕ
+patch_width (Plain p) = plain_width p
+patch_width (Quadric q) = 3
+
+abbrev pub patch_box : AnyPatch → Rect → Box
+patch_box (Plain p) r = plain_box p r
+patch_box (Quadric q) r = quadric_box q r
+
+pub patch_inside : PointsLieInBoxes patch_point patch_box
+patch_inside (Plain p) r u v h k = plain_inside p r u v h k
+patch_inside (Quadric q) r u v h k = quadric_inside q r u v h k
+
+pub patch_parts : PartsLieInBoxes patch_box
+patch_parts (Plain p) q r hq hr k = plain_parts p q r hq hr k
+patch_parts (Quadric p) q r hq hr k = quadric_parts p q r hq hr k
+
+pub patch_rows : NetsHaveRows patch_width patch_net
+patch_rows (Plain p) r = plain_rows p r
+patch_rows (Quadric q) r = quadric_rows q r
