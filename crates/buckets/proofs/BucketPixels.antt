@@ -9,6 +9,7 @@ use Rattle.hider.specs.Tiles.{TileValue, Shows, IsSampleGrid, grid_of, rect_of}
 use Rattle.filter_ppm.specs.Sampled.{FilmFormat, film_with}
 use Rattle.filter_ppm.specs.Bands.{rect_with, seen_from, grid_over, PutsPixels}
 use Rattle.filter_ppm.proofs.Bands.{columns_more}
+use Rattle.filter_ppm.proofs.Puts.{in_frame}
 use Rattle.buckets.specs.Pictures.{micropolygons, frame_leaves}
 use Rattle.buckets.specs.TileWalk.{Drawing, format_in, bucket_of, tile_rect, tile_grid, tile_count, fragments_of}
 use Rattle.buckets.specs.Standing.{IsDrawable}
@@ -41,8 +42,8 @@ grid_ys d n g is = ap (λ (s : SampleGrid). s.ys) is
 pub is_sample_grid : (d : Drawing) (n : ℕ) → IsDrawable d → n < tile_count d → IsSampleGrid (tile_grid d n)
 unfolding tile_grid
 is_sample_grid d n h low =
-    let p = part_of d n h low in
     let f = h.format in
+    let p = in_frame (format_in d.frame) (bucket_of d n) f (part_of d n h low) in
     let o = h.options in
     record {
       across = omega (arith, p.across, p.in_width);
@@ -69,4 +70,4 @@ bucket_put d n filter r t old new h low same is shows row long puts =
     subst (λ f. PutsPixels f (bucket_of d n) old new) (film_is d)
     (subst (λ (g : FilmFormat). PutsPixels (film_with g (λ s. composite (fragments_of d (frame_leaves d.frame) s))) (bucket_of d n) old new) same
     (subst (λ q. PutsPixels (film_with filter (λ s. composite (fragments_of d (frame_leaves d.frame) s))) q old new) is (puts (fragments_of d (frame_leaves d.frame)) shows))) in
-    record { size = long ∙ row.size; pixels = columns_more (film d) (bucket_of d n) old new row.pixels whole p.in_width }
+    record { size = long ∙ row.size; pixels = columns_more (film d) (bucket_of d n) old new row.pixels whole p.right }

@@ -5,7 +5,7 @@ use Rattle.std.proofs.lemmas.Option.{slice_get-get_or}
 use Rattle.std.proofs.lemmas.List.Elements.{All-push, All-take}
 use Rattle.fixed_math.specs.Spots.{PixelRect}
 use Rattle.patches.specs.Parts.{Part, whole_of, rect_of}
-use Rattle.patches.specs.Patches.{patch_box}
+use Rattle.quadrics.specs.AnyPatches.{patch_box}
 use Rattle.bound_split.specs.declared.extents.Extent.{Extent}
 use Rattle.bound_split.specs.Extents.{extent_of}
 use Rattle.scene.specs.Scene.{PrimValue, FrameValue}

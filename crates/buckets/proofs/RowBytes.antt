@@ -3,15 +3,15 @@ use Rattle.std.proofs.Common.{◌≡◌, ℕ, zero, suc, ◌+◌, ◌<◌, ◌�
 use Rattle.outside.specs.Sink.{Written}
 use Rattle.outside.specs.Frames.{PutsAll, PutsFront}
 use Rattle.outside.proofs.Puts.{puts-none, puts-more}
-use Rattle.filter_ppm.specs.Levels.{band, header}
+use Rattle.filter_ppm.specs.Levels.{band}
 use Rattle.filter_ppm.specs.Film.{pixels}
 use Rattle.filter_ppm.specs.Bands.{rows, ArePixels}
 use Rattle.filter_ppm.proofs.Bands.{band_done, bands_more, bands_none}
-use Rattle.buckets.specs.Pictures.{picture_bytes}
-use Rattle.buckets.specs.TileWalk.{Drawing, format_in, bucket_of, tile_count}
+use Rattle.buckets.specs.Pictures.{picture_bytes, header_of}
+use Rattle.buckets.specs.TileWalk.{Drawing, format_in, picture_rect, bucket_of, tile_count}
 use Rattle.buckets.specs.Standing.{Begun, IsDrawable}
 use Rattle.buckets.specs.Rows.{film, bytes_above, row_top, IsRowTo, PutsTo, PutsInPart}
-use Rattle.buckets.proofs.BucketRows.{part_of, top_is, first_top, all_rows, GoesOnRow, EndsRow}
+use Rattle.buckets.proofs.BucketRows.{some_wide, part_of, top_is, first_top, all_rows, GoesOnRow, EndsRow}
 
 -- ---- fronts of bytes
 take_inside : (n : ℕ) (r s : List ℕ) → (k : ℕ) × (take k (r ++ s) ≡ take n r)
@@ -35,9 +35,9 @@ front_none r x = (0, puts-none x)
 
 -- ---- rows
 -- what is above a row, and what is from there to another one below it
-above_more : (d : Drawing) (top bottom : ℕ) → IsDrawable d → top ≤ bottom → bytes_above d bottom ≡ bytes_above d top ++ band d.frame.options.one (pixels (film d) (rows (format_in d.frame) top bottom))
+above_more : (d : Drawing) (top bottom : ℕ) → IsDrawable d → (picture_rect d.frame).top ≤ top → top ≤ bottom → bytes_above d bottom ≡ bytes_above d top ++ band d.frame.options.one (pixels (film d) (rows (format_in d.frame) top bottom))
 unfolding bytes_above
-above_more d top bottom h l = let w = h.format.some_width in sym (bands_more (film d) 0 top bottom (omega (arith, w)) (omega arith) l)
+above_more d top bottom h k l = sym (bands_more (film d) (picture_rect d.frame).top top bottom (some_wide d h) k l)
 
 -- the bytes of a whole row of buckets
 pub row_is : (d : Drawing) (n : ℕ) (row : List (List ℕ)) → IsDrawable d → n < tile_count d → IsRowTo d n (bucket_of d n).right row → EndsRow d n
@@ -45,8 +45,7 @@ pub row_is : (d : Drawing) (n : ℕ) (row : List (List ℕ)) → IsDrawable d �
 row_is d n row h low is ends =
     let part = part_of d n h low in
     let down = part.down in
-    let w = h.format.some_width in
-    band_done (film d) (bucket_of d n).top (bucket_of d n).bottom row (omega (arith, w)) (omega (arith, down)) is.size
+    band_done (film d) (bucket_of d n).top (bucket_of d n).bottom row (some_wide d h) (omega (arith, down)) is.size
     (subst (λ r. ArePixels (film d) (bucket_of d n).top (bucket_of d n).bottom r row) ends.right is.pixels)
 
 -- a row that is put
@@ -59,7 +58,7 @@ row_put b n row w w' h low is ends before put =
     let down = part.down in
     let here : bytes_above d (row_top d n) ≡ bytes_above d (bucket_of d n).top = ap (bytes_above d) (top_is d n h low) in
     let more : bytes_above d (row_top d (n + 1)) ≡ bytes_above d (row_top d n) ++ band one row =
-    ap (bytes_above d) ends.row ∙ above_more d (bucket_of d n).top (bucket_of d n).bottom h (omega (arith, down))
+    ap (bytes_above d) ends.row ∙ above_more d (bucket_of d n).top (bucket_of d n).bottom h part.top (omega (arith, down))
     ∙ ap (λ a. a ++ band one (pixels (film d) (rows (format_in d.frame) (bucket_of d n).top (bucket_of d n).bottom))) (sym here)
     ∙ ap (λ r. bytes_above d (row_top d n) ++ band one r) (sym (row_is d n row h low is ends)) in
     subst (λ a. PutsAll a b.written w') (sym more) (puts-more (bytes_above d (row_top d n)) (band one row) b.written w w' before put)
@@ -72,26 +71,28 @@ pub rows_in_part : (b : Begun) (n : ℕ) (w : Option (List Written)) → IsDrawa
 unfolding row_top
 rows_in_part b n w h before =
     let d = b.drawing in
-    let height = d.frame.camera.height in
+    let height = (picture_rect d.frame).bottom in
     let rest = band d.frame.options.one (pixels (film d) (rows (format_in d.frame) (row_top d n) height)) in
+    let down = h.format.crop.down in
+    let behind : (picture_rect d.frame).top ≤ row_top d n = omega (arith, down) in
     let below : row_top d n ≤ height = omega arith in
-    front_then (bytes_above d (row_top d n)) [] rest (bytes_above d height) b.written w w (above_more d (row_top d n) height h below) before (front_none [] w)
+    front_then (bytes_above d (row_top d n)) [] rest (bytes_above d height) b.written w w (above_more d (row_top d n) height h behind below) before (front_none [] w)
 
 pub row_in_part : (b : Begun) (n : ℕ) (row : List (List ℕ)) (w w' : Option (List Written)) → IsDrawable b.drawing → n < tile_count b.drawing → IsRowTo b.drawing n (bucket_of b.drawing n).right row → EndsRow b.drawing n
     → PutsTo b n w → PutsFront (band b.drawing.frame.options.one row) w w' → PutsInPart b w'
 row_in_part b n row w w' h low is ends before put =
     let d = b.drawing in
     let one = d.frame.options.one in
-    let height = d.frame.camera.height in
+    let height = (picture_rect d.frame).bottom in
     let top = (bucket_of d n).top in
     let bottom = (bucket_of d n).bottom in
     let part = part_of d n h low in
     let down = part.down in
-    let high = part.in_height in
+    let high = part.bottom in
     let rest = band one (pixels (film d) (rows (format_in d.frame) bottom height)) in
     let here : bytes_above d (row_top d n) ≡ bytes_above d top = ap (bytes_above d) (top_is d n h low) in
     let all : bytes_above d height ≡ bytes_above d (row_top d n) ++ (band one row ++ rest) =
-    above_more d top height h (omega (arith, down, high)) ∙ ap (λ l. bytes_above d top ++ l) (sym (let w = h.format.some_width in bands_more (film d) top bottom height (omega (arith, w)) (omega (arith, down)) high))
+    above_more d top height h part.top (omega (arith, down, high)) ∙ ap (λ l. bytes_above d top ++ l) (sym (bands_more (film d) top bottom height (some_wide d h) (omega (arith, down)) high))
     ∙ ap (λ r. bytes_above d top ++ (band one r ++ rest)) (sym (row_is d n row h low is ends)) ∙ ap (λ a. a ++ (band one row ++ rest)) (sym here) in
     front_then (bytes_above d (row_top d n)) (band one row) rest (bytes_above d height) b.written w w' all before put
 
@@ -100,14 +101,14 @@ pub puts_first : (b : Begun) (w : Option (List Written)) → IsDrawable b.drawin
 unfolding bytes_above
 puts_first b w h is =
     let d = b.drawing in
-    let none : bytes_above d (row_top d 0) ≡ [] = ap (bytes_above d) (first_top d h) ∙ bands_none (film d) 0 in
+    let none : bytes_above d (row_top d 0) ≡ [] = ap (bytes_above d) (first_top d h) ∙ bands_none (film d) (picture_rect d.frame).top in
     subst (λ l. PutsAll l b.written w) (sym none) (subst (λ v. PutsAll [] v w) is (puts-none w))
 
 -- behind the last row
-pub puts_last : (b : Begun) (n : ℕ) (w : Option (List Written)) → IsDrawable b.drawing → n ≡ tile_count b.drawing → PutsTo b n w → PutsAll (bytes_above b.drawing b.drawing.frame.camera.height) b.written w
+pub puts_last : (b : Begun) (n : ℕ) (w : Option (List Written)) → IsDrawable b.drawing → n ≡ tile_count b.drawing → PutsTo b n w → PutsAll (bytes_above b.drawing (picture_rect b.drawing.frame).bottom) b.written w
 puts_last b n w h is before = subst (λ t. PutsAll (bytes_above b.drawing t) b.written w) (ap (row_top b.drawing) is ∙ all_rows b.drawing h) before
 
 -- the whole picture
-pub picture_is : (d : Drawing) → picture_bytes d.accepted d.frame ≡ header d.frame.camera.width d.frame.camera.height d.frame.options ++ bytes_above d d.frame.camera.height
+pub picture_is : (d : Drawing) → picture_bytes d.accepted d.frame ≡ header_of d.frame ++ bytes_above d (picture_rect d.frame).bottom
 unfolding picture_bytes bytes_above
 picture_is d = refl

@@ -17,7 +17,7 @@ use Rattle.buckets.specs.Standing.{Begun, InEpoch, IsDrawable, Before, GivesNext
 use Rattle.buckets.specs.Rows.{film, IsRowTo, TellsSamples}
 use Rattle.buckets.specs.Progress.{Stands, next_of, report_before}
 use Rattle.filter_ppm.specs.Bands.{ArePixels}
-use Rattle.buckets.proofs.BucketRows.{GoesOnRow}
+use Rattle.buckets.proofs.BucketRows.{wide, GoesOnRow}
 use Rattle.buckets.proofs.Going.{goes_begun, goes_next, goes_epochs}
 use Rattle.buckets.proofs.Laws.{lawful}
 use Rattle.buckets.proofs.Passing.{gives_as}
@@ -86,7 +86,7 @@ take_front (suc n) (x ∷ xs) ys h = ap (λ l. x ∷ l) (take_front n xs ys (ome
 -- ---- rows
 pub row_goes_on : (d : Drawing) (n : ℕ) (row : List (List ℕ)) → GoesOnRow d n → IsRowTo d n (bucket_of d n).right row → IsRowTo d (n + 1) (bucket_of d (n + 1)).left row
 row_goes_on d n row on is = record {
-  size = is.size ∙ ap (λ b. d.frame.camera.width * (b - (bucket_of d n).top)) (sym on.bottom) ∙ ap (λ t. d.frame.camera.width * ((bucket_of d (n + 1)).bottom - t)) (sym on.top);
+  size = is.size ∙ ap (λ b. wide d * (b - (bucket_of d n).top)) (sym on.bottom) ∙ ap (λ t. wide d * ((bucket_of d (n + 1)).bottom - t)) (sym on.top);
   pixels = subst (λ t. ArePixels (film d) t (bucket_of d (n + 1)).bottom (bucket_of d (n + 1)).left row) (sym on.top)
       (subst (λ b. ArePixels (film d) (bucket_of d n).top b (bucket_of d (n + 1)).left row) (sym on.bottom)
       (subst (λ l. ArePixels (film d) (bucket_of d n).top (bucket_of d n).bottom l row) (sym on.left) is.pixels));

@@ -7,19 +7,18 @@ use Rattle.outside.proofs.Puts.{puts-none, puts-more}
 use Rattle.outside.proofs.Entries.{opened, adds-puts, adds-end, put-part}
 use Rattle.scene.specs.Scene.{FrameValue, SceneValue}
 use Rattle.shader_binding.specs.Sets.{SetValue}
-use Rattle.filter_ppm.specs.Levels.{header}
-use Rattle.buckets.specs.Pictures.{picture_bytes}
-use Rattle.buckets.specs.TileWalk.{Drawing}
+use Rattle.buckets.specs.Pictures.{picture_bytes, header_of}
+use Rattle.buckets.specs.TileWalk.{Drawing, picture_rect}
 use Rattle.buckets.specs.Rows.{bytes_above}
 use Rattle.buckets.specs.Progress.{drawing_of}
 use Rattle.buckets.specs.declared.limits.Limits.{Limits}
 use Rattle.buckets.proofs.RowBytes.{picture_is, front_then}
 
 abbrev pub header_in : Drawing → List ℕ
-header_in d = header d.frame.camera.width d.frame.camera.height d.frame.options
+header_in d = header_of d.frame
 
 abbrev pub pixels_in : Drawing → List ℕ
-pixels_in d = bytes_above d d.frame.camera.height
+pixels_in d = bytes_above d (picture_rect d.frame).bottom
 
 -- a frame's name and the bytes of its picture
 abbrev pub entry : Drawing → Picture

@@ -2,7 +2,7 @@
 use Rattle.std.specs.Prelude.{◌≡◌, ◌≤◌, ◌<◌, ◌+◌, ℕ, pos, ◌≤ℤ◌, false, List, All, length, Some, slice_get, slice_index_or}
 use Rattle.fixed_math.specs.Spots.{PixelRect}
 use Rattle.patches.specs.Parts.{whole_of, rect_of}
-use Rattle.patches.specs.Patches.{patch_box}
+use Rattle.quadrics.specs.AnyPatches.{patch_box}
 use Rattle.bound_split.specs.declared.extents.Extent.{Extent}
 use Rattle.bound_split.specs.Extents.{extent_of, pixels_of}
 use Rattle.scene.specs.Scene.{PrimValue, FrameValue}

@@ -1,5 +1,5 @@
 -- What a frame shows: the micropolygons of its primitives, and its picture.
-use Rattle.std.specs.Prelude.{ℕ, List, [], map}
+use Rattle.std.specs.Prelude.{ℕ, ◌-◌, List, [], map}
 use Rattle.std.specs.List.{flat_map, enumerate_from}
 use Rattle.patches.specs.Parts.{Part, whole_of}
 use Rattle.quadrics.specs.AnyPatches.{patch_net, patch_width}
@@ -9,6 +9,7 @@ use Rattle.bound_split.specs.declared.splits.Decision.TheVariants.{SplitU, Split
 use Rattle.bound_split.specs.Decisions.{decision_of}
 use Rattle.bound_split.specs.Leaves.{leaves}
 use Rattle.scene.specs.Scene.{PrimValue, FrameValue}
+use Rattle.scene.specs.Settings.{crop_of}
 use Rattle.displace_shade.specs.Shaded.{GridValue, shaded}
 use Rattle.displace_shade.specs.Shop.{leaf_of}
 use Rattle.hider.specs.declared.cell.Cell.{Cell}
@@ -16,6 +17,7 @@ use Rattle.hider.specs.Cells.{Micropolygon, still, cells_of}
 use Rattle.hider.specs.Fragments.{fragments}
 use Rattle.hider.specs.Composite.{composite}
 use Rattle.shader_binding.specs.Sets.{AcceptedValue}
+use Rattle.filter_ppm.specs.Levels.{header}
 use Rattle.filter_ppm.specs.Film.{FilmValues, picture}
 
 -- the split decision for a part of a primitive's patch
@@ -73,6 +75,10 @@ film_of a f = record {
   options = f.options;
   colour = λ s. composite (fragments f.camera (micropolygons a f) s);
 }
+
+-- the header of its picture, and all of it
+abbrev pub header_of : FrameValue → List ℕ
+header_of f = header ((crop_of f.options).right - (crop_of f.options).left) ((crop_of f.options).bottom - (crop_of f.options).top) f.options
 
 unfoldable pub picture_bytes : AcceptedValue → FrameValue → List ℕ
 picture_bytes a f = picture (film_of a f)

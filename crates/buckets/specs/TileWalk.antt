@@ -1,7 +1,7 @@
 -- The walk through the tiles of a frame: which leaves are shown in each, how many grids are shaded for them, and in how many epochs.
 use Rattle.std.specs.Prelude.{ℕ, zero, suc, ◌+◌, ◌*◌, max, ℤ, Bool, ◌&&◌, not, cond, nat_le, List, [], ◌∷◌, ◌++◌}
 use Rattle.std.specs.List.{list_all, range_with_len}
-use Rattle.fixed_math.specs.Spots.{PixelRect, whole_frame}
+use Rattle.fixed_math.specs.Spots.{PixelRect}
 use Rattle.fixed_math.specs.Buckets.{bucket_count, bucket}
 use Rattle.patches.specs.Parts.{Part}
 use Rattle.bound_split.specs.declared.splits.Decision.{Decision}
@@ -9,6 +9,7 @@ use Rattle.bound_split.specs.declared.splits.Decision.TheVariants.{SplitU, Split
 use Rattle.bound_split.specs.Lengths.{most_below}
 use Rattle.dice.specs.Grids.{line_count}
 use Rattle.scene.specs.Scene.{FrameValue}
+use Rattle.scene.specs.Settings.{crop_of}
 use Rattle.shader_binding.specs.Sets.{AcceptedValue}
 use Rattle.hider.specs.declared.fragment.Fragment.{Fragment}
 use Rattle.hider.specs.declared.sample.Sample.{Sample}
@@ -29,19 +30,20 @@ pub record Drawing : Type 0 where
   pub side : ℕ
   pub limit : ℕ
 
--- ---- tiles: a bucket's samples, and those about it that may count for its pixels
+-- ---- tiles: a bucket's samples, and those about it that may count for its pixels, in the picture or not
 abbrev pub format_in : FrameValue → FilmFormat
 format_in f = record { width = f.camera.width; height = f.camera.height; options = f.options }
 
-abbrev pub frame_rect : FrameValue → PixelRect
-frame_rect f = whole_frame f.camera.width f.camera.height
+-- the pixels of the picture, which buckets cover
+abbrev pub picture_rect : FrameValue → PixelRect
+picture_rect f = crop_of f.options
 
 abbrev pub bucket_of : Drawing → ℕ → PixelRect
-bucket_of d n = bucket d.side (frame_rect d.frame) n
+bucket_of d n = bucket d.side (picture_rect d.frame) n
 
 -- tiles go by rows, as buckets do
 abbrev pub tile_count : Drawing → ℕ
-tile_count d = bucket_count d.side (frame_rect d.frame)
+tile_count d = bucket_count d.side (picture_rect d.frame)
 
 abbrev pub tile_rect : Drawing → ℕ → PixelRect
 tile_rect d n = seen_from (format_in d.frame) (bucket_of d n)
@@ -141,7 +143,7 @@ abbrev pub past_tiles : Drawing → ℕ → ℕ → Counts → Counts
 past_tiles d zero n c = c
 past_tiles d (suc k) n c = past_tiles d k (n + 1) (past_tile d n c)
 
--- through all tiles of the frame, by rows
+-- through all tiles of the picture, by rows
 unfoldable pub tile_walk : Drawing → Counts
 tile_walk d = past_tiles d (tile_count d) 0 (in_new_epoch nothing)
 

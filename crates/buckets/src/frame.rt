@@ -13,12 +13,11 @@ ghost use Rattle.transforms.specs.Field.{IsView};
 ghost use Rattle.filter_ppm.specs.Sampled.{IsFormat};
 ghost use Rattle.displace_shade.specs.Shop.{set_value};
 ghost use Rattle.hider.specs.Tiles.{Shows, IsSampleGrid};
-ghost use Rattle.filter_ppm.specs.Levels.{header};
 ghost use Rattle.filter_ppm.specs.Bands.{rect_with};
 ghost use Rattle.grid_epoch.specs.Kept.{points_in};
-ghost use Rattle.buckets.specs.Pictures.{picture_bytes, frame_leaves};
+ghost use Rattle.buckets.specs.Pictures.{picture_bytes, header_of, frame_leaves};
 ghost use Rattle.buckets.specs.Shopped.{shaded_by};
-ghost use Rattle.buckets.specs.TileWalk.{bucket_of, frame_rect, tile_grid, tile_count, format_in, fragments_of};
+ghost use Rattle.buckets.specs.TileWalk.{bucket_of, picture_rect, tile_grid, tile_count, format_in, fragments_of};
 ghost use Rattle.buckets.specs.Standing.{Begun, InEpoch, IsDrawn, IsDrawable, Before, Goes, ShadesInPart, next_epoch};
 ghost use Rattle.buckets.specs.Rows.{IsRowTo, PutsTo, PutsInPart, TellsSamples, bytes_above};
 ghost use Rattle.buckets.specs.Progress.{Stands, Done, DoneInPart, next_of, drawing_of, report_before};
@@ -26,7 +25,9 @@ ghost use Rattle.buckets.specs.declared.limits.DrawFault.TheVariants.{WriteFault
 
 use crate::leaf_walk::{LeafWalk, prims_of};
 use crate::limits::{DrawFault, Limits, Report};
-use crate::row_band::{columns_of, new_row, put_bucket, put_row, rows_of, tile_at, turn_row};
+use crate::row_band::{
+    columns_of, crop_of, new_row, put_bucket, put_row, rows_of, tile_at, turn_row,
+};
 use crate::shown::Shown;
 use crate::tile_drawing::TileDrawing;
 use bumpalo::Bump;
@@ -254,7 +255,7 @@ fn draw_tiles<O: FrameSink>(
     ensures few_epochs { OnOk result (report.new.epochs ≤ report.old.epochs + 2 ^ 52 + 1) }
     ensures set { shop.new.set ≡ shop.old.set }
     ensures open { O.is_open sink.new ≡ true }
-    ensures put { OnOk result (PutsAll (bytes_above begun.drawing begun.drawing.frame.camera.height) begun.written (O.written sink.new)) }
+    ensures put { OnOk result (PutsAll (bytes_above begun.drawing (picture_rect begun.drawing.frame).bottom) begun.written (O.written sink.new)) }
     ensures part { OnErr result (PutsInPart begun (O.written sink.new)) }
     ensures later { O.faults sink.old ≤ O.faults sink.new }
     ensures failed { IsErrOf result WriteFault → Rose (O.faults sink.old) (O.faults sink.new) }
@@ -270,13 +271,13 @@ fn draw_tiles<O: FrameSink>(
 fn put_header<O: FrameSink>(alloc: Global, frame: &Frame, sink: &mut O) -> Result<(), DrawFault>
     requires { O.is_open sink.old ≡ true }
     ensures open { O.is_open sink.new ≡ true }
-    ensures ok { OnOk result (PutsAll (header frame.now.camera.width frame.now.camera.height frame.now.options) (O.written sink.old) (O.written sink.new)) }
-    ensures err { OnErr result (PutsFront (header frame.now.camera.width frame.now.camera.height frame.now.options) (O.written sink.old) (O.written sink.new)) }
+    ensures ok { OnOk result (PutsAll (header_of frame.now) (O.written sink.old) (O.written sink.new)) }
+    ensures err { OnErr result (PutsFront (header_of frame.now) (O.written sink.old) (O.written sink.new)) }
     ensures later { O.faults sink.old ≤ O.faults sink.new }
     ensures failed { IsErrOf result WriteFault → Rose (O.faults sink.old) (O.faults sink.new) }
 {
-    let view = frame.camera.view();
-    let bytes = header(alloc, view.width, view.height, &frame.options)?;
+    let crop = crop_of(frame);
+    let bytes = header(alloc, crop[2] - crop[0], crop[3] - crop[1], &frame.options)?;
     put_all(sink, &bytes)?;
     Ok(())
 }
@@ -321,7 +322,7 @@ fn shown_in<'a>(scene: &'a Scene, index: usize, limits: Limits) -> Shown<'a>
     ensures scene { result.scene.now ≡ scene.now }
     ensures index { result.index ≡ index }
     ensures limits { result.limits ≡ limits }
-    ensures tiles { result.tiles ≡ bucket_count limits.bucket (frame_rect result.frame.now) }
+    ensures tiles { result.tiles ≡ bucket_count limits.bucket (picture_rect result.frame.now) }
     ensures view { IsView result.frame.now.camera }
     ensures format { IsFormat (format_in result.frame.now) }
     ensures options { AreOptions result.frame.now.options }

@@ -1,12 +1,12 @@
 // The pixels of a row of buckets.
-ghost use Rattle.std.specs.Prelude.{◌≡◌, ◌≤◌, ◌<◌, ◌+◌, ◌-◌, ◌*◌, ◌/◌, ◌%◌, [], true, All, length, IfOk, OnOk, OnErr, IsErrOf};
+ghost use Rattle.std.specs.Prelude.{◌≡◌, ◌≤◌, ◌<◌, ◌+◌, ◌-◌, ◌*◌, ◌/◌, ◌%◌, [], true, All, length, IfOk, OnOk, OnErr, IsErrOf, slice_index_or};
 ghost use Rattle.fixed_math.specs.Buckets.{bucket_columns, bucket_rows};
 ghost use Rattle.hider.specs.Tiles.{Shows};
 ghost use Rattle.outside.specs.Causes.{Rose};
 ghost use Rattle.filter_ppm.specs.Bands.{rect_with};
 ghost use Rattle.scene.specs.Scene.{FrameValue};
 ghost use Rattle.buckets.specs.Pictures.{frame_leaves};
-ghost use Rattle.buckets.specs.TileWalk.{bucket_of, tile_grid, tile_rect, tile_count, format_in, frame_rect, fragments_of};
+ghost use Rattle.buckets.specs.TileWalk.{bucket_of, tile_grid, tile_rect, tile_count, format_in, picture_rect, fragments_of};
 ghost use Rattle.buckets.specs.Standing.{Begun, IsDrawn};
 ghost use Rattle.buckets.specs.Rows.{IsRowTo, PutsTo, PutsInPart};
 ghost use Rattle.buckets.specs.declared.limits.DrawFault.TheVariants.{WriteFault};
@@ -20,26 +20,41 @@ use outside::{FrameSink, put_all};
 use scene::Frame;
 use std::alloc::Global;
 
+/// The pixels of a frame's picture: their left, top, right and bottom.
+pub(crate) fn crop_of(frame: &Frame) -> [u32; 4]
+    ensures value { result ≡ frame.now.options.crop }
+    ensures across { slice_index_or result 0 0 < slice_index_or result 2 0 }
+    ensures right { slice_index_or result 2 0 ≤ 4096 }
+    ensures down { slice_index_or result 1 0 < slice_index_or result 3 0 }
+    ensures bottom { slice_index_or result 3 0 ≤ 4096 }
+{
+    // here is told that a camera sees at most 4,096 pixels each way
+    let _view = frame.camera.view();
+    frame.options.crop
+}
+
 /// The number of columns of buckets.
 pub(crate) fn columns_of(frame: &Frame, side: u32) -> u32
     requires low { 4 ≤ side }
     requires high { side ≤ 64 }
-    ensures value { result ≡ bucket_columns side (frame_rect frame.now) }
+    ensures value { result ≡ bucket_columns side (picture_rect frame.now) }
     ensures some { 1 ≤ result }
     ensures most { result ≤ 1024 }
 {
-    (frame.camera.view().width + (side - 1)) / side
+    let crop = crop_of(frame);
+    (crop[2] - crop[0] + (side - 1)) / side
 }
 
 /// The number of rows of buckets.
 pub(crate) fn rows_of(frame: &Frame, side: u32) -> u32
     requires low { 4 ≤ side }
     requires high { side ≤ 64 }
-    ensures value { result ≡ bucket_rows side (frame_rect frame.now) }
+    ensures value { result ≡ bucket_rows side (picture_rect frame.now) }
     ensures some { 1 ≤ result }
     ensures most { result ≤ 1024 }
 {
-    (frame.camera.view().height + (side - 1)) / side
+    let crop = crop_of(frame);
+    (crop[3] - crop[1] + (side - 1)) / side
 }
 
 /// The bucket of a number: its left, top, right and bottom.
@@ -52,14 +67,14 @@ pub(crate) fn bucket_at(shown: &Shown<'_>, at: usize) -> [u32; 4]
     let frame = shown.frame;
     let side = shown.limits.bucket;
     let columns = columns_of(frame, side) as usize;
-    let left = side * (at % columns) as u32;
-    let top = side * (at / columns) as u32;
-    let view = frame.camera.view();
+    let crop = crop_of(frame);
+    let left = crop[0] + side * (at % columns) as u32;
+    let top = crop[1] + side * (at / columns) as u32;
     [
         left,
         top,
-        (left + side).min(view.width),
-        (top + side).min(view.height),
+        (left + side).min(crop[2]),
+        (top + side).min(crop[3]),
     ]
 }
 
@@ -84,7 +99,7 @@ pub(crate) fn tile_at(shown: &Shown<'_>, at: usize) -> [u32; 4]
     ]
 }
 
-/// A row of pixels as high as a bucket.
+/// A row of the picture's pixels as high as a bucket.
 pub(crate) fn new_row(
     alloc: Global,
     shown: &Shown<'_>,
@@ -93,12 +108,13 @@ pub(crate) fn new_row(
     ghost begun: { Begun }
     requires drawn { IsDrawn begun shown.now }
     requires at { at < tile_count begun.drawing }
-    ensures { IfOk result (λ row. IsRowTo begun.drawing at 0 row.items) }
+    ensures { IfOk result (λ row. IsRowTo begun.drawing at (picture_rect begun.drawing.frame).left row.items) }
 {
     let [_, top, _, bottom] = bucket_at(shown, at);
     let frame = shown.frame;
-    let width = frame.camera.view().width;
-    Ok(vec![in alloc; [0; 3]; width as usize * (bottom - top) as usize]?)
+    let crop = crop_of(frame);
+    let width = (crop[2] - crop[0]) as usize;
+    Ok(vec![in alloc; [0; 3]; width * (bottom - top) as usize]?)
 }
 
 /// Goes from the row of bucket `at` to that of the next one, where these are two.

@@ -24,6 +24,7 @@ fn filtered(filter: Filter) -> Options
         one: 255,
         min: 0,
         max: 255,
+        crop: [0, 0, 4, 4],
     }
 }
 
@@ -149,5 +150,21 @@ fn bytes_of_pictures(rt: HostRuntime) -> Result<(), Fail> {
     assert_eq!(rt; head.as_slice(), b"P6\n4096 7\n255\n".as_slice());
     let band = band_bytes(rt.alloc(), &options, &[[0, 128, 255], [10, 13, 1]])?;
     assert_eq!(rt; band.as_slice(), b"\x00\x80\xff\n\r\x01".as_slice());
+    Ok(())
+}
+
+// Two bytes where the greatest number takes them, the high one first.
+#[test]
+fn bytes_of_pictures_of_sixteen_bits(rt: HostRuntime) -> Result<(), Fail> {
+    let options = Options {
+        one: 65535,
+        max: 65535,
+        ..filtered(Filter::Box)
+    };
+    let head = header(rt.alloc(), 1, 2, &options)?;
+    assert_eq!(rt; head.as_slice(), b"P6\n1 2\n65535\n".as_slice());
+    let band = band_bytes(rt.alloc(), &options, &[[65535, 32768, 0], [1, 256, 255]])?;
+    let wanted = b"\xff\xff\x80\x00\x00\x00\x00\x01\x01\x00\x00\xff";
+    assert_eq!(rt; band.as_slice(), wanted.as_slice());
     Ok(())
 }

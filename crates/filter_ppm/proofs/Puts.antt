@@ -1,7 +1,7 @@
 -- The pixels that a tile's samples tell.
 use Rattle.std.proofs.Common.{◌≡◌, ℕ, ◌<◌, ◌≤◌, ◌⊎◌, ap, sym, subst, ◌∙◌, arith, List}
 use Rattle.fixed_math.specs.Spots.{PixelRect}
-use Rattle.scene.specs.Settings.{AreOptions}
+use Rattle.scene.specs.Settings.{AreOptions, crop_of, IsCrop}
 use Rattle.hider.specs.Tiles.{IsSampleGrid, sample_count}
 use Rattle.fixed_math.specs.declared.vec3.Vec3.{Vec3}
 use Rattle.scene.specs.Settings.{OptionValues}
@@ -12,21 +12,33 @@ use Rattle.filter_ppm.specs.declared.total.Total.{Total}
 use Rattle.filter_ppm.specs.Film.{FilmValues}
 use Rattle.filter_ppm.specs.Levels.{levels}
 use Rattle.filter_ppm.specs.Sampled.{FilmFormat, IsFormat, format_of, film_with}
-use Rattle.filter_ppm.specs.Bands.{IsPartOfFrame, HoldsWindow, PutsPixels, seen_from, grid_over, entry}
+use Rattle.filter_ppm.specs.Bands.{IsPartOfPicture, HoldsWindow, PutsPixels, seen_from, grid_over, entry}
 use Rattle.filter_ppm.specs.Sums.{IsRect, AreTotals, as_rect, mean_of, total_at, first_samples}
 use Rattle.filter_ppm.proofs.Rows.{mean_is}
 use Rattle.filter_ppm.proofs.Windows.{pixel_from}
 
-pub rect_is : (f : FilmFormat) (q : PixelRect) → IsFormat f → IsPartOfFrame f q → IsRect (as_rect q)
-rect_is f q v p =
+-- a part of the picture is one of the frame
+pub in_frame : (f : FilmFormat) (q : PixelRect) → IsFormat f → IsPartOfPicture f q → IsCrop f.width f.height q
+in_frame f q v p =
+    let c = v.crop in
+    let w = c.in_width in
+    let h = c.in_height in
+    let a = p.right in
+    let b = p.bottom in
+    record { across = p.across; in_width = omega (arith, w, a); down = p.down; in_height = omega (arith, h, b) }
+
+pub rect_is : (f : FilmFormat) (q : PixelRect) → IsFormat f → IsPartOfPicture f q → IsRect (as_rect q)
+rect_is f q v part =
+    let p = in_frame f q v part in
     let w = v.most_width in
     let h = v.most_height in
     let a = p.in_width in
     let b = p.in_height in
     record { across = p.across; right = omega (arith, w, a); down = p.down; bottom = omega (arith, h, b) }
 
-pub seen_is : (f : FilmFormat) (q : PixelRect) → IsFormat f → AreOptions f.options → IsPartOfFrame f q → IsSampleGrid (grid_over (seen_from f q) f.options)
-seen_is f q v o p =
+pub seen_is : (f : FilmFormat) (q : PixelRect) → IsFormat f → AreOptions f.options → IsPartOfPicture f q → IsSampleGrid (grid_over (seen_from f q) f.options)
+seen_is f q v o part =
+    let p = in_frame f q v part in
     let w = v.most_width in
     let h = v.most_height in
     let a = p.in_width in
@@ -54,10 +66,16 @@ holds f q x y a b c d = record {
   in_height = omega arith;
 }
 
-pub puts : (f : FilmValues) (q : PixelRect) (totals : List Total) (old new : List (List ℕ)) → IsPartOfFrame (format_of f) q →
+-- the rows of entries and sums as the code has them
+abbrev IsInside : ℕ → ℕ → OptionValues → Rect → List Total → List (List ℕ) → Type 0
+IsInside left right o r totals new = (x y : ℕ) → r.left ≤ x → x < r.right → r.top ≤ y → y < r.bottom → entry left right r.top new x y ≡ levels o (mean_of (total_at r totals x y))
+
+abbrev IsBeside : ℕ → ℕ → Rect → List (List ℕ) → List (List ℕ) → Type 0
+IsBeside left right r old new = (x y : ℕ) → (x < r.left) ⊎ (r.right ≤ x) → left ≤ x → x < right → r.top ≤ y → y < r.bottom → entry left right r.top new x y ≡ entry left right r.top old x y
+
+pub puts : (f : FilmValues) (q : PixelRect) (totals : List Total) (old new : List (List ℕ)) → IsCrop f.width f.height q →
     (let g = grid_over (seen_from (format_of f) q) f.options in AreTotals f.options f.colour g (sample_count g) (as_rect q) totals) →
-    ((x y : ℕ) → q.left ≤ x → x < q.right → q.top ≤ y → y < q.bottom → entry f.width q.top new x y ≡ levels f.options (mean_of (total_at (as_rect q) totals x y))) →
-    ((x y : ℕ) → (x < q.left) ⊎ (q.right ≤ x) → x < f.width → q.top ≤ y → y < q.bottom → entry f.width q.top new x y ≡ entry f.width q.top old x y) → PutsPixels f q old new
+    IsInside (crop_of f.options).left (crop_of f.options).right f.options (as_rect q) totals new → IsBeside (crop_of f.options).left (crop_of f.options).right (as_rect q) old new → PutsPixels f q old new
 puts f q totals old new p sums inside beside = record {
   inside = λ x y a b c d.
       let g = grid_over (seen_from (format_of f) q) f.options in
@@ -69,24 +87,20 @@ puts f q totals old new p sums inside beside = record {
   beside = beside;
 }
 
--- the rows of entries and sums as the code has them
-abbrev IsInside : ℕ → OptionValues → Rect → List Total → List (List ℕ) → Type 0
-IsInside w o r totals new = (x y : ℕ) → r.left ≤ x → x < r.right → r.top ≤ y → y < r.bottom → entry w r.top new x y ≡ levels o (mean_of (total_at r totals x y))
-
-abbrev IsBeside : ℕ → Rect → List (List ℕ) → List (List ℕ) → Type 0
-IsBeside w r old new = (x y : ℕ) → (x < r.left) ⊎ (r.right ≤ x) → x < w → r.top ≤ y → y < r.bottom → entry w r.top new x y ≡ entry w r.top old x y
-
-pub puts_as : (f : FilmFormat) (colour : Sample → Vec3) (q : PixelRect) (r : Rect) (w : ℕ) (o k : OptionValues) (g : SampleGrid) (totals : List Total) (old new : List (List ℕ)) →
-    r ≡ as_rect q → w ≡ f.width → o ≡ f.options → k ≡ f.options → g ≡ grid_over (seen_from f q) f.options → IsPartOfFrame f q → AreTotals k colour g (sample_count g) r totals →
-    IsInside w o r totals new → IsBeside w r old new → PutsPixels (film_with f colour) q old new
-puts_as f colour q r w o k g totals old new er ew eo ek eg p sums inside beside =
+pub puts_as : (f : FilmFormat) (colour : Sample → Vec3) (q : PixelRect) (r : Rect) (left right : ℕ) (o k : OptionValues) (g : SampleGrid) (totals : List Total) (old new : List (List ℕ)) →
+    r ≡ as_rect q → left ≡ (crop_of o).left → right ≡ (crop_of o).right → o ≡ f.options → k ≡ f.options → g ≡ grid_over (seen_from f q) f.options → IsCrop f.width f.height q → AreTotals k colour g (sample_count g) r totals →
+    IsInside left right o r totals new → IsBeside left right r old new → PutsPixels (film_with f colour) q old new
+puts_as f colour q r left right o k g totals old new er el ei eo ek eg p sums inside beside =
     let s = grid_over (seen_from f q) f.options in
     let sums1 = subst (λ (z : Rect). AreTotals k colour g (sample_count g) z totals) er sums in
     let sums2 = subst (λ (z : SampleGrid). AreTotals k colour z (sample_count z) (as_rect q) totals) eg sums1 in
     let sums3 = subst (λ (z : OptionValues). AreTotals z colour s (sample_count s) (as_rect q) totals) ek sums2 in
-    let inside1 = subst (λ (z : Rect). IsInside w o z totals new) er inside in
-    let inside2 = subst (λ (z : ℕ). IsInside z o (as_rect q) totals new) ew inside1 in
-    let inside3 = subst (λ (z : OptionValues). IsInside f.width z (as_rect q) totals new) eo inside2 in
-    let beside1 = subst (λ (z : Rect). IsBeside w z old new) er beside in
-    let beside2 = subst (λ (z : ℕ). IsBeside z (as_rect q) old new) ew beside1 in
-    puts (film_with f colour) q totals old new p sums3 inside3 beside2
+    let inside1 = subst (λ (z : Rect). IsInside left right o z totals new) er inside in
+    let inside2 = subst (λ (z : ℕ). IsInside z right o (as_rect q) totals new) el inside1 in
+    let inside3 = subst (λ (z : ℕ). IsInside (crop_of o).left z o (as_rect q) totals new) ei inside2 in
+    let inside4 = subst (λ (z : OptionValues). IsInside (crop_of z).left (crop_of z).right z (as_rect q) totals new) eo inside3 in
+    let beside1 = subst (λ (z : Rect). IsBeside left right z old new) er beside in
+    let beside2 = subst (λ (z : ℕ). IsBeside z right (as_rect q) old new) el beside1 in
+    let beside3 = subst (λ (z : ℕ). IsBeside (crop_of o).left z (as_rect q) old new) ei beside2 in
+    let beside4 = subst (λ (z : OptionValues). IsBeside (crop_of z).left (crop_of z).right (as_rect q) old new) eo beside3 in
+    puts (film_with f colour) q totals old new p sums3 inside4 beside4

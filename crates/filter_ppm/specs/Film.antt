@@ -1,9 +1,9 @@
--- The picture of a frame, whole.
-use Rattle.std.specs.Prelude.{ℕ, List, ◌++◌, map}
+-- The picture of a frame: of all of it, or of a part.
+use Rattle.std.specs.Prelude.{ℕ, ◌-◌, List, ◌++◌, map}
 use Rattle.std.specs.List.{range_with_len}
 use Rattle.fixed_math.specs.declared.vec3.Vec3.{Vec3}
 use Rattle.fixed_math.specs.Spots.{PixelRect, whole_frame, pixel_count, pixel_x, pixel_y}
-use Rattle.scene.specs.Settings.{OptionValues}
+use Rattle.scene.specs.Settings.{OptionValues, crop_of}
 use Rattle.hider.specs.Samples.{samples_in}
 use Rattle.hider.specs.declared.sample.Sample.{Sample}
 use Rattle.filter_ppm.specs.Weight.{weight_at}
@@ -30,6 +30,10 @@ pixel f x y = levels f.options (weighted_mean (λ s. weight_at f.options x y s.p
 abbrev pub pixels : FilmValues → PixelRect → List (List ℕ)
 pixels f r = map (λ p. pixel f (pixel_x r p) (pixel_y r p)) (range_with_len 0 (pixel_count r))
 
--- the bytes of the picture
+-- the bytes of a picture that has the pixels of a rectangle of the frame
+abbrev pub picture_in : FilmValues → PixelRect → List ℕ
+picture_in f r = header (r.right - r.left) (r.bottom - r.top) f.options ++ band f.options.one (pixels f r)
+
+-- the bytes of the picture, which has the pixels of the crop
 abbrev pub picture : FilmValues → List ℕ
-picture f = header f.width f.height f.options ++ band f.options.one (pixels f (whole_frame f.width f.height))
+picture f = picture_in f (crop_of f.options)

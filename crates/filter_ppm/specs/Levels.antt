@@ -1,5 +1,5 @@
 -- From a pixel's colour to the numbers of the picture, and to its bytes.
-use Rattle.std.specs.Prelude.{ℕ, ◌*◌, ℤ, pos, ◌+ℤ◌, ◌*ℤ◌, cond, unsigned_abs, List, [], ◌∷◌, ◌++◌, ◌≡◌, refl}
+use Rattle.std.specs.Prelude.{ℕ, ◌*◌, ◌/◌, ◌%◌, nat_le, ℤ, pos, ◌+ℤ◌, ◌*ℤ◌, cond, unsigned_abs, List, [], ◌∷◌, ◌++◌, ◌≡◌, refl}
 use Rattle.std.specs.Fmt.{decimal, digits}
 use Rattle.std.specs.List.{flat_map}
 use Rattle.std.specs.Ordering.{int_eq}
@@ -38,9 +38,9 @@ levels o c =
 unfoldable pub header : ℕ → ℕ → OptionValues → List ℕ
 header width height o = 80 ∷ 54 ∷ 10 ∷ [] ++ decimal width ++ 32 ∷ [] ++ decimal height ++ 10 ∷ [] ++ decimal o.one ++ 10 ∷ []
 
--- the bytes of a number of a channel, where the greatest is `one`: a greatest number up to 255 takes one byte
-abbrev pub level_bytes : ℕ → ℕ → List ℕ
-level_bytes one level = level ∷ []
+-- the bytes of a number of a channel, where the greatest is `one`: one byte where that is at most 255, else two, the high byte first
+unfoldable pub level_bytes : ℕ → ℕ → List ℕ
+level_bytes one level = cond (nat_le one 255) (level ∷ []) (level / 256 ∷ level % 256 ∷ [])
 
 -- the bytes of the numbers of a pixel in turn
 abbrev pub pixel_bytes : ℕ → List ℕ → List ℕ
@@ -61,3 +61,15 @@ quantized_half o = refl
 header_of_two : (o : OptionValues) → header 2 1 (full o) ≡ 80 ∷ 54 ∷ 10 ∷ 50 ∷ 32 ∷ 49 ∷ 10 ∷ 50 ∷ 53 ∷ 53 ∷ 10 ∷ []
 unfolding header digits
 header_of_two o = refl
+
+half_of_sixteen_bits : level_bytes 65535 32768 ≡ 128 ∷ 0 ∷ []
+unfolding level_bytes
+half_of_sixteen_bits = refl
+
+most_of_one_byte : level_bytes 255 255 ≡ 255 ∷ []
+unfolding level_bytes
+most_of_one_byte = refl
+
+least_of_two_bytes : level_bytes 256 255 ≡ 0 ∷ 255 ∷ []
+unfolding level_bytes
+least_of_two_bytes = refl

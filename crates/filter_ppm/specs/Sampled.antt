@@ -1,7 +1,7 @@
 -- A frame as the filter sees it: its size and its options, and a sample with its colour.
 use Rattle.std.specs.Prelude.{ℕ, ◌*◌, ◌≤◌}
 use Rattle.fixed_math.specs.declared.vec3.Vec3.{Vec3}
-use Rattle.scene.specs.Settings.{OptionValues}
+use Rattle.scene.specs.Settings.{OptionValues, crop_of, IsCrop}
 use Rattle.hider.specs.declared.sample.Sample.{Sample}
 use Rattle.filter_ppm.specs.declared.shown.ShownSample.{ShownSample}
 use Rattle.filter_ppm.specs.Film.{FilmValues}
@@ -17,6 +17,7 @@ pub record IsFormat (f : FilmFormat) : Type 0 where
   pub most_width : f.width ≤ 4096
   pub some_height : 1 ≤ f.height
   pub most_height : f.height ≤ 4096
+  pub crop : IsCrop f.width f.height (crop_of f.options)
 
 -- a frame of that size where each sample has the colour that c gives it
 abbrev pub film_with : FilmFormat → (Sample → Vec3) → FilmValues

@@ -1,5 +1,5 @@
 -- How much a sample counts for a pixel, by its place about the pixel's middle.
-use Rattle.std.specs.Prelude.{ℕ, ◌+◌, ◌*◌, ◌/◌, ℤ, pos, neg_ℤ, ◌-ℤ◌, ◌*ℤ◌, Bool, cond, ◌&&◌, int_le, int_lt, unsigned_abs, ◌≡◌, refl}
+use Rattle.std.specs.Prelude.{ℕ, ◌+◌, ◌*◌, ◌/◌, ℤ, pos, neg_ℤ, ◌-ℤ◌, ◌*ℤ◌, Bool, cond, ◌&&◌, int_le, int_lt, unsigned_abs, [], ◌∷◌, ◌≡◌, refl}
 use Rattle.fixed_math.specs.Whole.{floor_by}
 use Rattle.fixed_math.specs.Spots.{Spot}
 use Rattle.fixed_math.specs.Root.{isqrt, isqrt_from}
@@ -44,7 +44,7 @@ reach w = (w + 511) / 512
 
 -- worked values
 abbrev of_filter : Filter → ℕ → OptionValues
-of_filter f w = record { xs = 1; ys = 1; filter = f; wx = w; wy = w; gain = pos 65536; gamma = pos 65536; one = 255; min = 0; max = 255 }
+of_filter f w = record { xs = 1; ys = 1; filter = f; wx = w; wy = w; gain = pos 65536; gamma = pos 65536; one = 255; min = 0; max = 255; crop = 0 ∷ 0 ∷ 1 ∷ 1 ∷ [] }
 
 triangle_at_half : weight (of_filter Triangle 512) (pos 128) (pos 0) ≡ pos 32768
 unfolding weight slope

@@ -5,7 +5,7 @@ ghost use Rattle.filter_ppm.specs.Sampled.{FilmFormat, IsFormat};
 use scene::Options;
 use std::marker::Model;
 
-/// The size of a frame in pixels, 1 to 4,096 each way, and its options.
+/// The size of a frame in pixels, 1 to 4,096 each way, and its options, whose crop has a pixel and lies in the frame.
 #[derive(Drop)]
 pub struct Film {
     pub width: u32,

@@ -32,9 +32,9 @@ pub fn expose(o: &Options, c: Vec3) -> Vec3
 
 /// Twice `one` times a channel.
 fn doubled(one: u32, v: Num) -> i64
-    requires one { one ≤ 255 }
+    requires one { one ≤ 65535 }
     ensures value { result ≡ pos (2 * one) *ℤ v }
-    ensures size { unsigned_abs result < 2 ^ 41 }
+    ensures size { unsigned_abs result < 2 ^ 49 }
 {
     product((2 * one) as i64, v.raw())
 }
@@ -42,7 +42,7 @@ fn doubled(one: u32, v: Num) -> i64
 /// A number over 131072, rounded to the nearest whole number, a half up.
 #[tactic(auto, using(fixed_math::proofs::Floor::div_euclid_is))]
 fn rounded(n: i64) -> i64
-    requires { unsigned_abs n < 2 ^ 41 }
+    requires { unsigned_abs n < 2 ^ 49 }
     ensures { result ≡ floor_by (n +ℤ pos 65536) 131072 }
 {
     (n + 65536).div_euclid(131072)
@@ -51,7 +51,7 @@ fn rounded(n: i64) -> i64
 /// `one` times a channel, rounded to the nearest whole number, a half up.
 #[tactic(auto, unfolding(crate::specs::Levels::level))]
 fn level_of(one: u32, v: Num) -> i64
-    requires { one ≤ 255 }
+    requires { one ≤ 65535 }
     ensures { result ≡ level one v }
 {
     rounded(doubled(one, v))

@@ -1,12 +1,12 @@
 // The filter of a frame, which gives the pixels of rectangles from tiles.
 ghost use Rattle.std.specs.Prelude.{ℕ, ◌≡◌, ◌≤◌, ◌<◌, ◌+◌, ◌-◌, ◌*◌, ◌⊎◌, IfOk, OnOk, [], List, length, get_or, slice_index_or};
-ghost use Rattle.scene.specs.Settings.{AreOptions};
+ghost use Rattle.scene.specs.Settings.{AreOptions, crop_of};
 ghost use Rattle.hider.specs.declared.fragment.Fragment.{Fragment};
 ghost use Rattle.hider.specs.declared.sample.Sample.{Sample};
 ghost use Rattle.hider.specs.Composite.{composite};
 ghost use Rattle.hider.specs.Tiles.{Shows, IsSampleGrid, sample_count};
 ghost use Rattle.filter_ppm.specs.Sampled.{FilmFormat, IsFormat, film_with};
-ghost use Rattle.filter_ppm.specs.Bands.{rect_with, grid_over, seen_from, entry, IsPartOfFrame, PutsPixels};
+ghost use Rattle.filter_ppm.specs.Bands.{rect_with, grid_over, seen_from, entry, crop_in, IsPartOfPicture, PutsPixels};
 ghost use Rattle.filter_ppm.specs.Levels.{levels};
 ghost use Rattle.filter_ppm.specs.Sums.{none, mean_of, total_at, IsRect, HasTotals, AreOver, AreTotals};
 
@@ -14,6 +14,7 @@ use crate::adding::add_tile;
 use crate::film::Film;
 use crate::levels::pixel_levels;
 use crate::rect::{Rect, rect_of};
+use crate::span::Span;
 use crate::tables::Weights;
 use crate::total::{Total, mean, no_total};
 use fixed_math::NoMemory;
@@ -65,10 +66,10 @@ fn fill(totals: &mut Vec<Total>, weights: &Weights, r: &Rect, tile: &Tile) -> Re
     Ok(())
 }
 
-/// Writes the pixels of a rectangle's row `y`, by their sums, into the band of its rows.
+/// Writes the pixels of a rectangle's row `y`, by their sums, into the band of its rows, which has these columns.
 fn put_row(
     band: &mut [[u32; 3]],
-    width: usize,
+    columns: Span,
     options: &Options,
     r: &Rect,
     y: usize,
@@ -76,44 +77,58 @@ fn put_row(
     n: usize,
 )
     requires rect { IsRect r.now }
-    requires width { r.now.right ≤ width }
-    requires most { width ≤ 4096 }
+    requires left { columns.first ≤ r.now.left }
+    requires right { r.now.right ≤ columns.end }
+    requires most { columns.end ≤ 4096 }
     requires top { r.now.top ≤ y }
     requires bottom { y < r.now.bottom }
-    requires band { length band.old ≡ width * (r.now.bottom - r.now.top) }
+    requires band { length band.old ≡ (columns.end - columns.first) * (r.now.bottom - r.now.top) }
     requires totals { HasTotals r.now totals.now }
     requires over { AreOver n r.now totals.now }
-    ensures inside { (x : ℕ) → r.now.left ≤ x → x < r.now.right → entry width r.now.top band.new x y ≡ levels options.now (mean_of (total_at r.now totals.now x y)) }
-    ensures others { (p : ℕ) → (p < (y - r.now.top) * width + r.now.left) ⊎ ((y - r.now.top) * width + r.now.right ≤ p) → get_or band.new p [] ≡ get_or band.old p [] }
+    ensures inside { (x : ℕ) → r.now.left ≤ x → x < r.now.right → entry columns.first columns.end r.now.top band.new x y ≡ levels options.now (mean_of (total_at r.now totals.now x y)) }
+    ensures others { (p : ℕ) → (p < (y - r.now.top) * (columns.end - columns.first) + (r.now.left - columns.first)) ⊎ ((y - r.now.top) * (columns.end - columns.first) + (r.now.right - columns.first) ≤ p) → get_or band.new p [] ≡ get_or band.old p [] }
 {
-    let start = (y - r.top) * width;
+    let start = (y - r.top) * (columns.end - columns.first);
     let first = (y - r.top) * r.width();
     for x in r.left..r.right {
         let p = first + (x - r.left);
-        band[start + x] = pixel_levels(options, mean(&totals[p], n));
+        band[start + (x - columns.first)] = pixel_levels(options, mean(&totals[p], n));
     }
 }
 
-/// Writes the pixels of a rectangle, by their sums, into the band of its rows.
+/// Writes the pixels of a rectangle, by their sums, into the band of its rows, which has these columns.
 fn put_rows(
     band: &mut [[u32; 3]],
-    width: usize,
+    columns: Span,
     options: &Options,
     r: &Rect,
     totals: &[Total],
     n: usize,
 )
     requires rect { IsRect r.now }
-    requires width { r.now.right ≤ width }
-    requires most { width ≤ 4096 }
-    requires band { length band.old ≡ width * (r.now.bottom - r.now.top) }
+    requires left { columns.first ≤ r.now.left }
+    requires right { r.now.right ≤ columns.end }
+    requires most { columns.end ≤ 4096 }
+    requires band { length band.old ≡ (columns.end - columns.first) * (r.now.bottom - r.now.top) }
     requires totals { HasTotals r.now totals.now }
     requires over { AreOver n r.now totals.now }
-    ensures inside { (x y : ℕ) → r.now.left ≤ x → x < r.now.right → r.now.top ≤ y → y < r.now.bottom → entry width r.now.top band.new x y ≡ levels options.now (mean_of (total_at r.now totals.now x y)) }
-    ensures beside { (x y : ℕ) → (x < r.now.left) ⊎ (r.now.right ≤ x) → x < width → r.now.top ≤ y → y < r.now.bottom → entry width r.now.top band.new x y ≡ entry width r.now.top band.old x y }
+    ensures inside { (x y : ℕ) → r.now.left ≤ x → x < r.now.right → r.now.top ≤ y → y < r.now.bottom → entry columns.first columns.end r.now.top band.new x y ≡ levels options.now (mean_of (total_at r.now totals.now x y)) }
+    ensures beside { (x y : ℕ) → (x < r.now.left) ⊎ (r.now.right ≤ x) → columns.first ≤ x → x < columns.end → r.now.top ≤ y → y < r.now.bottom → entry columns.first columns.end r.now.top band.new x y ≡ entry columns.first columns.end r.now.top band.old x y }
 {
     for y in r.top..r.bottom {
-        put_row(band, width, options, r, y, totals, n);
+        put_row(band, columns, options, r, y, totals, n);
+    }
+}
+
+/// The columns of the picture.
+fn columns_of(options: &Options) -> Span
+    ensures left { result.first ≡ (crop_of options.now).left }
+    ensures right { result.end ≡ (crop_of options.now).right }
+{
+    let [left, _, right, _] = options.crop;
+    Span {
+        first: left as usize,
+        end: right as usize,
     }
 }
 
@@ -133,27 +148,28 @@ impl PixelFilter {
         })
     }
 
-    /// Writes the pixels of a rectangle of the frame, left, top, right and bottom, into `band`, which has all pixels of the
-    /// frame's rows from the rectangle's top to its bottom. Every pixel is the mean over all samples of the frame: the tile
-    /// has those of all pixels within the filter's reach, and no other sample counts.
+    /// Writes the pixels of a rectangle of the picture, left, top, right and bottom in the frame, into `band`, which has all pixels of
+    /// the picture's rows from the rectangle's top to its bottom. Every pixel is the mean over all samples of the frame: the tile
+    /// has those of all pixels within the filter's reach, in the picture or not, and no other sample counts.
     pub fn put(
         &mut self,
         tile: &Tile,
         rect: [u32; 4],
         band: &mut [[u32; 3]],
     ) -> Result<(), NoMemory>
-        requires part { IsPartOfFrame self.old (rect_with rect) }
+        requires part { IsPartOfPicture self.old (rect_with rect) }
         requires grid { tile.now.grid ≡ grid_over (seen_from self.old (rect_with rect)) self.old.options }
-        requires band { length band.old ≡ self.old.width * (slice_index_or rect 3 0 - slice_index_or rect 1 0) }
+        requires band { length band.old ≡ ((crop_in self.old).right - (crop_in self.old).left) * (slice_index_or rect 3 0 - slice_index_or rect 1 0) }
         ensures film { self.new ≡ self.old }
         ensures pixels { OnOk result ((f : Sample → List Fragment) → Shows tile.now f → PutsPixels (film_with self.old (λ s. composite (f s))) (rect_with rect) band.old band.new) }
     {
         let r = rect_of(rect);
+        let columns = columns_of(&self.options);
         self.options.ranges_known();
         fill(&mut self.totals, &self.weights, &r, tile)?;
         put_rows(
             band,
-            self.width as usize,
+            columns,
             &self.options,
             &r,
             self.totals.as_slice(),

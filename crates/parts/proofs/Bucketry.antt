@@ -1,11 +1,10 @@
 -- Buckets read one after another from the front of a text.
 use Rattle.std.proofs.Common.{◌≡◌, ◌∙◌, ap, sym, refl, subst, ℕ, ◌+◌, ◌*◌, ◌^◌, ◌<◌, ◌≤◌, arith, List, [], ◌∷◌, ◌++◌, length, get_or, take, drop, append_assoc, length-append, ⊎_elim}
 use Rattle.std.proofs.lemmas.Bool.{cases_lt}
-use Rattle.std.specs.List.{flat_map}
 use Rattle.std.proofs.lemmas.List.{append-nil, take_at, drop_at, get_or_append_left, get_or_push}
 use Rattle.std.proofs.lemmas.List.Concat.{flat_map-append}
 use Rattle.parts.specs.declared.header.Header.{Header}
-use Rattle.parts.specs.Formats.{Bucket, Part, no_part, word, with_header, bucket_text, buckets_text, channel_bytes, area, bucket_total, IsHeader, IsBucket, AreLevels, IsFirst, AreBuckets, AreAll, IsHead, IsParsed, HasNoBucket, AreNotBuckets, HasNoHead, IsNoPart}
+use Rattle.parts.specs.Formats.{Bucket, Part, no_part, word, with_header, bucket_text, buckets_text, channel_bytes, area, bucket_total, IsHeader, AreLevels, IsFirst, AreBuckets, AreAll, IsHead, IsParsed, HasNoBucket, AreNotBuckets, HasNoHead, IsNoPart}
 use Rattle.parts.proofs.Words.{word_cancel, head_same}
 use Rattle.parts.proofs.Squares.{few}
 

@@ -1,14 +1,13 @@
 -- The parts of a table are parts.
-use Rattle.std.proofs.Common.{◌≡◌, ◌∙◌, ap, sym, refl, subst, ℕ, zero, suc, ◌+◌, ◌-◌, ◌*◌, ◌/◌, ◌%◌, ◌^◌, ◌<◌, ◌≤◌, arith, List, [], ◌∷◌, ◌++◌, length, get_or, take, drop, map, Bool, true, false}
+use Rattle.std.proofs.Common.{◌≡◌, ◌∙◌, ap, sym, refl, ℕ, zero, suc, ◌+◌, ◌*◌, ◌/◌, ◌%◌, ◌<◌, ◌≤◌, arith, List, [], ◌∷◌, ◌++◌, length, get_or, take, drop, map, Bool, true, false}
 use Rattle.std.specs.Prelude.{nat_le, if◌then◌else◌}
 use Rattle.std.proofs.lemmas.List.{get_or-take, get_or-drop, length-map}
 use Rattle.std.proofs.lemmas.Nat.{div-add-mod', mod_below, div_below}
 use Rattle.fixed_math.specs.Spots.{pixel_x, pixel_y}
 use Rattle.fixed_math.specs.Buckets.{bucket}
-use Rattle.parts.specs.declared.header.Header.{Header}
-use Rattle.parts.specs.Formats.{Bucket, Part, IsHeader, IsBucket, AreBuckets, IsParsed, AreLevels, channel, channel_bytes, area, bucket_total, frame, part_text}
+use Rattle.parts.specs.Formats.{IsBucket, AreBuckets, IsParsed, channel, channel_bytes, area, bucket_total, frame, part_text}
 use Rattle.parts.specs.Pictures.{run}
-use Rattle.parts.specs.Division.{Table, IsTable, Ascend, level_bytes, pixel_bytes, table_pixel, bucket_pixels, bucket_of, part_of}
+use Rattle.parts.specs.Division.{Table, IsTable, Ascend, pixel_bytes, bucket_of, part_of}
 use Rattle.parts.proofs.Runs.{length-run, run_piece}
 use Rattle.parts.proofs.Squares.{few, pixel_in_picture}
 

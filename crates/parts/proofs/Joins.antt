@@ -1,5 +1,5 @@
 -- From the parts in texts to the buckets of their picture.
-use Rattle.std.proofs.Common.{◌≡◌, ◌∙◌, ap, sym, refl, subst, ℕ, zero, suc, ◌+◌, ◌-◌, ◌*◌, ◌/◌, ◌%◌, ◌<◌, ◌≤◌, arith, List, [], ◌∷◌, ◌++◌, length, get_or, length-append, Bool, true, false, eq-eqb, ⊎_elim}
+use Rattle.std.proofs.Common.{◌≡◌, ◌∙◌, ap, sym, refl, subst, ℕ, zero, suc, ◌+◌, ◌-◌, ◌*◌, ◌/◌, ◌%◌, ◌<◌, ◌≤◌, arith, List, [], ◌∷◌, ◌++◌, length, get_or, length-append, true, false, eq-eqb, ⊎_elim}
 use Rattle.std.specs.Prelude.{◌==◌, if◌then◌else◌, Option, Result, Err, MatchResult}
 use Rattle.std.proofs.Math.Nat.{mul-div-le}
 use Rattle.std.proofs.lemmas.Bool.{cases_lt, cases_Bool, eqb-true}
@@ -8,9 +8,9 @@ use Rattle.std.proofs.lemmas.Nat.{div_below, mod_below}
 use Rattle.parts.specs.declared.header.Header.{Header}
 use Rattle.parts.specs.declared.fault.JoinFault.{JoinFault}
 use Rattle.parts.specs.declared.fault.JoinFault.TheVariants.{J1, J2, J3, J4, NoMemory}
-use Rattle.parts.specs.Formats.{Bucket, Part, no_part, bucket_numbers, IsHeader, IsBucket, AreBuckets, IsParsed, channel_bytes, area, bucket_total}
-use Rattle.parts.specs.Pictures.{buckets_of, pixels_of, pixel_in, number_at, ppm_header, run, picture, joined}
-use Rattle.parts.specs.Placing.{Placed, placed_in, placed_from, not_placed, number_of, part_of, pixel_of, AreWhole, AreDistinct, ArePlaced, AreOrdered, IsAgain, IsThere, IsWanting, IsAgainFault, IsWantingFault}
+use Rattle.parts.specs.Formats.{Bucket, Part, no_part, bucket_numbers, IsHeader, IsBucket, AreBuckets, channel_bytes, area, bucket_total}
+use Rattle.parts.specs.Pictures.{pixels_of, pixel_in, number_at, ppm_header, picture, joined}
+use Rattle.parts.specs.Placing.{Placed, placed_in, placed_from, not_placed, number_of, part_of, pixel_of, AreWhole, AreDistinct, ArePlaced, AreOrdered, IsAgain, IsWanting, IsAgainFault, IsWantingFault}
 use Rattle.parts.specs.Joining.{header_at, AreParsed, AreAlike, AreOfOne, IsDoubledIn, IsMissingIn, IsJoined, IsFault}
 use Rattle.parts.proofs.Runs.{run_same}
 use Rattle.parts.proofs.Squares.{bucket_there}

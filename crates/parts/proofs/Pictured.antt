@@ -2,19 +2,18 @@
 use Rattle.std.proofs.Common.{◌≡◌, ◌∙◌, ap, sym, refl, subst, ℕ, zero, suc, ◌+◌, ◌-◌, ◌*◌, ◌/◌, ◌%◌, ◌<◌, ◌≤◌, arith, List, [], ◌∷◌, ◌++◌, length, get_or, take, drop, map, length-append, ⊎_elim}
 use Rattle.std.specs.Prelude.{Result, Ok, Err, MatchResult}
 use Rattle.std.specs.List.{concat}
-use Rattle.std.proofs.lemmas.Bool.{cases_lt, cases_eq}
+use Rattle.std.proofs.lemmas.Bool.{cases_eq}
 use Rattle.std.proofs.lemmas.List.{get_or_append_left, get_or-append_right, length-map, map-append}
 use Rattle.std.proofs.lemmas.Nat.{mod_below, div_below}
 use Rattle.fixed_math.specs.Spots.{pixel_x, pixel_y}
 use Rattle.fixed_math.specs.Buckets.{bucket}
-use Rattle.parts.specs.declared.header.Header.{Header}
 use Rattle.parts.specs.declared.fault.JoinFault.{JoinFault}
 use Rattle.parts.specs.declared.fault.JoinFault.TheVariants.{J1, J2, J3, J4, NoMemory}
-use Rattle.parts.specs.Formats.{Bucket, Part, no_part, IsIn, bucket_numbers, IsHeader, IsParsed, IsNoPart, channel_bytes, area, bucket_total, frame, part_text}
-use Rattle.parts.specs.Pictures.{buckets_of, pixels_of, pixel_in, place_in, number_at, ppm_header, run, picture, joined}
+use Rattle.parts.specs.Formats.{Bucket, Part, no_part, IsIn, bucket_numbers, IsParsed, channel_bytes, area, bucket_total, frame, part_text}
+use Rattle.parts.specs.Pictures.{buckets_of, pixels_of, pixel_in, place_in, ppm_header, picture, joined}
 use Rattle.parts.specs.Placing.{width_at}
 use Rattle.parts.specs.Joining.{header_at, Has, AreParsed, IsNotAPart, IsForeign, IsDoubledIn, IsMissingIn, IsJoined, IsFault}
-use Rattle.parts.specs.Division.{Table, IsTable, IsDivision, Ascend, table_pixel, bucket_pixels, bucket_of, part_of, table_picture}
+use Rattle.parts.specs.Division.{Table, IsTable, IsDivision, table_pixel, bucket_pixels, bucket_of, part_of, table_picture}
 use Rattle.parts.proofs.Bucketry.{parsed_same}
 use Rattle.parts.proofs.Divided.{part_of_is, long_pixel}
 use Rattle.parts.proofs.Joins.{is_it, is_other}

@@ -1,11 +1,11 @@
 -- Where buckets stand: one more, and all.
-use Rattle.std.proofs.Common.{◌≡◌, ◌∙◌, ap, sym, refl, subst, ℕ, zero, suc, ◌+◌, ◌<◌, ◌≤◌, arith, List, [], ◌∷◌, ◌++◌, length, get_or, set, take, append_assoc, length-append, Option, Some, None, true, false, ⊎_elim}
+use Rattle.std.proofs.Common.{◌≡◌, ◌∙◌, ap, sym, refl, subst, ℕ, suc, ◌+◌, ◌<◌, ◌≤◌, arith, List, [], ◌∷◌, ◌++◌, length, get_or, set, take, append_assoc, length-append, Option, Some, None, true, false, ⊎_elim}
 use Rattle.std.specs.Option.{is_some}
 use Rattle.std.proofs.Math.Seq.{take-suc}
 use Rattle.std.proofs.lemmas.Bool.{cases_eq, cases_lt, false≢true}
 use Rattle.std.proofs.lemmas.List.{append-nil, get_or-set_same, get_or-set_other, length-set, get_or_append_left, get_or_push, length-take-le}
 use Rattle.parts.specs.Formats.{Bucket, Part, no_part}
-use Rattle.parts.specs.Placing.{Placed, placed_in, placed_from, not_placed, number_of, AreDistinct, ArePlaced, AreOrdered, IsAgain, IsThere}
+use Rattle.parts.specs.Placing.{Placed, placed_in, placed_from, not_placed, number_of, AreDistinct, ArePlaced, IsAgain}
 
 abbrev pub placed_by : ℕ → Bucket → Placed
 placed_by part b = record { part = part; bucket = b }

@@ -1,5 +1,5 @@
 -- A picture's pixels, row by row and bucket by bucket.
-use Rattle.std.proofs.Common.{◌≡◌, ◌∙◌, ap, sym, refl, ℕ, zero, suc, ◌+◌, ◌-◌, ◌*◌, ◌/◌, ◌%◌, ◌<◌, ◌≤◌, arith, List, [], ◌∷◌, ◌++◌, length, get_or, take, drop, append_assoc}
+use Rattle.std.proofs.Common.{◌≡◌, ◌∙◌, ap, sym, ℕ, ◌+◌, ◌-◌, ◌*◌, ◌/◌, ◌%◌, ◌<◌, arith, List, ◌++◌, get_or, take, drop, append_assoc}
 use Rattle.std.specs.Prelude.{min}
 use Rattle.std.proofs.Math.Nat.{lt-div-mul-add}
 use Rattle.std.proofs.lemmas.Nat.{div-mul-add, mod-mul-add}
@@ -7,7 +7,7 @@ use Rattle.std.proofs.lemmas.List.{append-nil}
 use Rattle.fixed_math.specs.Buckets.{bucket}
 use Rattle.parts.specs.declared.header.Header.{Header}
 use Rattle.parts.specs.Formats.{IsHeader, frame, channel_bytes}
-use Rattle.parts.specs.Pictures.{place_in, number_at, pixel_in, run}
+use Rattle.parts.specs.Pictures.{place_in, pixel_in, run}
 use Rattle.parts.specs.Placing.{Placed, not_placed, width_at, pixel_of}
 use Rattle.parts.proofs.Runs.{run_same, run_add, run_slices}
 use Rattle.parts.proofs.Squares.{columns_of, number_is, place_is, column_starts}

@@ -1,9 +1,9 @@
 -- Texts one behind the other.
-use Rattle.std.proofs.Common.{◌≡◌, ◌∙◌, ap, sym, refl, ℕ, zero, suc, ◌+◌, ◌-◌, ◌*◌, ◌<◌, ◌≤◌, arith, List, [], ◌∷◌, ◌++◌, length, take, drop, append_assoc, length-append, ⊎_elim, length-drop}
+use Rattle.std.proofs.Common.{◌≡◌, ◌∙◌, ap, sym, refl, ℕ, zero, suc, ◌+◌, ◌-◌, ◌*◌, ◌<◌, ◌≤◌, arith, List, ◌++◌, length, take, drop, append_assoc, length-append, ⊎_elim, length-drop}
 use Rattle.std.proofs.Math.Nat.{mul-le-mul_left}
 use Rattle.std.proofs.Math.Seq.{take-add}
 use Rattle.std.proofs.lemmas.Bool.{cases_eq, cases_lt}
-use Rattle.std.proofs.lemmas.List.{append-nil, take_at, drop_at, take_all, drop-drop, take-append-le, drop-append-le}
+use Rattle.std.proofs.lemmas.List.{append-nil, drop_at, take_all, drop-drop, take-append-le, drop-append-le}
 use Rattle.parts.specs.Pictures.{run}
 
 pub run_same : (n : ℕ) (f g : ℕ → List ℕ) → ((i : ℕ) → i < n → f i ≡ g i) → run n f ≡ run n g

@@ -1,9 +1,9 @@
 -- The buckets of all parts in one list, and the parts that have them.
 use Rattle.std.proofs.Common.{◌≡◌, ◌∙◌, ap, sym, refl, subst, ℕ, zero, suc, ◌+◌, ◌-◌, ◌<◌, ◌≤◌, arith, List, [], ◌∷◌, ◌++◌, length, get_or, map, length-append, ◌⊎◌, ⊎_elim, inl, inr}
 use Rattle.std.proofs.lemmas.Bool.{cases_lt, cases_eq}
-use Rattle.std.proofs.lemmas.List.{get_or_append_left, get_or-append_right, length-map, map-append}
+use Rattle.std.proofs.lemmas.List.{get_or_append_left, get_or-append_right, map-append}
 use Rattle.parts.specs.declared.header.Header.{Header}
-use Rattle.parts.specs.Formats.{Bucket, Part, no_part, bucket_numbers, IsIn, IsBucket, AreBuckets}
+use Rattle.parts.specs.Formats.{Bucket, Part, no_part, bucket_numbers, AreBuckets}
 use Rattle.parts.specs.Pictures.{buckets_of}
 use Rattle.parts.specs.Placing.{Placed, placed_in, placed_from, not_placed, number_of, part_of, AreDistinct, IsAgain, IsThere, IsWanting}
 use Rattle.parts.specs.Joining.{Has, SomeHas, EarlierHas, AreDisjoint, IsDoubled, IsMissing}

@@ -1,11 +1,11 @@
 -- Numbers in four bytes at the front of texts.
-use Rattle.std.proofs.Common.{◌≡◌, ◌∙◌, ap, sym, refl, ℕ, ◌+◌, ◌*◌, ◌^◌, ◌<◌, ◌≤◌, arith, List, [], ◌∷◌, ◌++◌, length, take, drop, get_or, subst, ⊎_elim}
-use Rattle.std.specs.Int.{w32, to_be_bytes, from_be_bytes}
+use Rattle.std.proofs.Common.{◌≡◌, ◌∙◌, ap, sym, refl, ℕ, ◌+◌, ◌^◌, ◌<◌, ◌≤◌, arith, List, ◌++◌, length, take, drop, get_or, subst, ⊎_elim}
+use Rattle.std.specs.Int.{w32, from_be_bytes}
 use Rattle.std.proofs.lemmas.Nat.{from_be_bytes-to_be_bytes_4, be_bytes_4}
 use Rattle.std.proofs.lemmas.Bool.{cases_lt}
 use Rattle.std.proofs.lemmas.List.{take-append-drop, length-take-le, get_or-take, get_or_past}
 use Rattle.parts.specs.declared.header.Header.{Header}
-use Rattle.parts.specs.Formats.{word, with_header, IsHeader, IsHead, HasNoHead}
+use Rattle.parts.specs.Formats.{word, with_header, IsHeader, HasNoHead}
 
 -- two numbers in front of two texts that are one
 pub word_cancel : (m n : ℕ) (xs ys : List ℕ) → m < 2 ^ 32 → n < 2 ^ 32 → word m ++ xs ≡ word n ++ ys → (m ≡ n) × (xs ≡ ys)

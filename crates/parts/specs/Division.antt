@@ -1,5 +1,5 @@
 -- The parts of a picture's table of numbers.
-use Rattle.std.specs.Prelude.{ℕ, ◌+◌, ◌*◌, ◌/◌, ◌%◌, ◌<◌, ◌≤◌, nat_le, if◌then◌else◌, List, [], ◌∷◌, ◌++◌, length, get_or, map}
+use Rattle.std.specs.Prelude.{ℕ, ◌+◌, ◌/◌, ◌%◌, ◌<◌, ◌≤◌, ◌≡◌, refl, nat_le, if◌then◌else◌, List, [], ◌∷◌, ◌++◌, length, get_or, map}
 use Rattle.fixed_math.specs.Spots.{pixel_x, pixel_y}
 use Rattle.fixed_math.specs.Buckets.{bucket}
 use Rattle.parts.specs.declared.header.Header.{Header}
@@ -50,3 +50,19 @@ pub record IsDivision (t : Table) (numbers : List (List ℕ)) : Type 0 where
   pub ascending : (i : ℕ) → i < length numbers → Ascend (bucket_total t.header) 0 (get_or numbers i [])
   pub disjoint : (i j n : ℕ) → j < i → IsIn n (get_or numbers i []) → IsIn n (get_or numbers j []) → ⊥
   pub whole : (n : ℕ) → n < bucket_total t.header → (i : ℕ) × IsIn n (get_or numbers i [])
+
+-- worked values: a pixel in channels of two bytes; the two buckets of a picture of 5 by 1 pixels whose first channels count its columns,
+-- whose second ones are 9 and whose third ones are 0
+pixel_of_two_bytes : pixel_bytes 1000 (λ k. 258 + k) ≡ 1 ∷ 2 ∷ 1 ∷ 3 ∷ 1 ∷ 4 ∷ []
+pixel_of_two_bytes = refl
+
+abbrev five_columns : Table
+five_columns = record { header = record { width = 5; height = 1; one = 255; side = 4; tag = 0 }; level = λ x y k. if nat_le k 0 then x else if nat_le k 1 then 9 else 0 }
+
+pixels_of_first : bucket_pixels five_columns 0 ≡ 0 ∷ 9 ∷ 0 ∷ 1 ∷ 9 ∷ 0 ∷ 2 ∷ 9 ∷ 0 ∷ 3 ∷ 9 ∷ 0 ∷ []
+unfolding run area
+pixels_of_first = refl
+
+pixels_of_last : bucket_pixels five_columns 1 ≡ 4 ∷ 9 ∷ 0 ∷ []
+unfolding run area
+pixels_of_last = refl

@@ -1,5 +1,5 @@
 -- The text of a part of a picture: a header, then some of the picture's buckets with their pixels.
-use Rattle.std.specs.Prelude.{ℕ, ◌+◌, ◌*◌, ◌^◌, ◌<◌, ◌≤◌, ◌≡◌, refl, Bool, ◌&&◌, ◌==◌, nat_le, if◌then◌else◌, List, [], ◌∷◌, ◌++◌, length, get_or, map}
+use Rattle.std.specs.Prelude.{ℕ, ◌+◌, ◌*◌, ◌^◌, ◌<◌, ◌≤◌, ◌≡◌, refl, nat_le, if◌then◌else◌, List, [], ◌∷◌, ◌++◌, length, get_or, map}
 use Rattle.std.specs.Int.{w32, to_be_bytes}
 use Rattle.std.specs.List.{flat_map}
 use Rattle.fixed_math.specs.Spots.{PixelRect, whole_frame, pixel_count}
@@ -70,16 +70,7 @@ bucket_total h = bucket_count h.side (frame h)
 unfoldable pub area : Header → ℕ → ℕ
 area h n = pixel_count (bucket h.side (frame h) n)
 
-abbrev pub is_between : ℕ → ℕ → ℕ → Bool
-is_between low high n = nat_le low n && nat_le n high
-
--- whether a header's fields are in their ranges, and whether two headers are the same
-abbrev pub is_in_range : Header → Bool
-is_in_range h = is_between 1 4096 h.width && is_between 1 4096 h.height && is_between 1 65535 h.one && is_between 4 64 h.side
-
-abbrev pub is_same : Header → Header → Bool
-is_same a b = (a.width == b.width) && (a.height == b.height) && (a.one == b.one) && (a.side == b.side) && (a.tag == b.tag)
-
+-- a header whose fields are in their ranges
 pub record IsHeader (h : Header) : Type 0 where
   pub some_wide : 1 ≤ h.width
   pub wide : h.width ≤ 4096

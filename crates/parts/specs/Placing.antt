@@ -2,7 +2,7 @@
 use Rattle.std.specs.Prelude.{ℕ, ◌+◌, ◌-◌, ◌*◌, ◌<◌, ◌≡◌, min, List, [], ◌∷◌, ◌++◌, length, get_or, map, Option, Some, None}
 use Rattle.parts.specs.declared.header.Header.{Header}
 use Rattle.parts.specs.declared.fault.JoinFault.{JoinFault}
-use Rattle.parts.specs.declared.fault.JoinFault.TheVariants.{J1, J2, J3, J4, NoMemory}
+use Rattle.parts.specs.declared.fault.JoinFault.TheVariants.{J3, J4, NoMemory}
 use Rattle.parts.specs.Formats.{Bucket, Part, no_bucket, area, bucket_total, channel_bytes}
 use Rattle.parts.specs.Pictures.{pixel_in}
 

@@ -1,11 +1,11 @@
 // The header of a part.
-ghost use Rattle.std.specs.Prelude.{◌≡◌, ◌≤◌, ◌<◌, ◌+◌, ◌-◌, ◌*◌, ◌/◌, ◌%◌, ◌^◌, ◌++◌, ℕ, min, length, MatchOption};
+ghost use Rattle.std.specs.Prelude.{◌≡◌, ◌≤◌, ◌<◌, ◌+◌, ◌-◌, ◌*◌, ◌/◌, ◌%◌, ◌^◌, ◌++◌, ◌↔◌, ℕ, IsTrue, min, length, MatchOption};
 ghost use Rattle.fixed_math.specs.Buckets.{bucket, bucket_columns, buckets_along};
-ghost use Rattle.parts.specs.Formats.{word, IsHeader, IsHead, HasNoHead, is_between, is_in_range, is_same, bucket_total, area, channel_bytes, frame};
+ghost use Rattle.parts.specs.Formats.{word, IsHeader, IsHead, HasNoHead, bucket_total, area, channel_bytes, frame};
 
 /// What a part says of its picture: the width and height in pixels, the greatest number of a channel, the side of a bucket, and the tag
 /// of the frame.
-#[derive(Clone, Copy)]
+#[derive(Clone, Copy, PartialEq, Eq)]
 pub(crate) struct Header {
     pub(crate) width: u32,
     pub(crate) height: u32,
@@ -59,7 +59,7 @@ pub(crate) fn pixels_at(side: u32, pixels: u32, k: usize) -> usize
 
 /// Whether a number lies from `low` to `high`.
 fn is_between(low: u32, high: u32, n: u32) -> bool
-    ensures { result ≡ is_between low high n }
+    ensures { IsTrue result ↔ (low ≤ n) × (n ≤ high) }
 {
     low <= n && n <= high
 }
@@ -67,23 +67,13 @@ fn is_between(low: u32, high: u32, n: u32) -> bool
 impl Header {
     /// Whether each field is in its range.
     fn is_in_range(&self) -> bool
-        ensures { result ≡ is_in_range self.now }
+        requires { self.now.tag < 2 ^ 32 }
+        ensures { IsTrue result ↔ IsHeader self.now }
     {
         is_between(1, 4096, self.width)
             && is_between(1, 4096, self.height)
             && is_between(1, 65535, self.one)
             && is_between(4, 64, self.side)
-    }
-
-    /// Whether the two are the same.
-    pub(crate) fn is(&self, other: &Header) -> bool
-        ensures { result ≡ is_same self.now other.now }
-    {
-        self.width == other.width
-            && self.height == other.height
-            && self.one == other.one
-            && self.side == other.side
-            && self.tag == other.tag
     }
 
     /// How many buckets lie side by side.

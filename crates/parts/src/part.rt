@@ -59,7 +59,7 @@ pub(crate) fn foreign(parts: &[Part]) -> Option<usize>
     let first = &parts[0];
     for i in 0..parts.len() {
         let part = &parts[i];
-        if !part.header.is(&first.header) {
+        if part.header != first.header {
             return Some(i);
         }
     }

@@ -3,5 +3,6 @@ pub mod Runs
 pub mod Distinct
 pub mod Values
 pub mod Spreading
+pub mod Halves
 pub mod Seating
 pub mod Room

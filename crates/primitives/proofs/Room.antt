@@ -34,7 +34,7 @@ use Rattle.primitives.specs.Variables.{are_counted, mesh_extent, mesh_seat, quad
 use Rattle.primitives.specs.Points.{face_points}
 use Rattle.primitives.specs.Patches.{PatchValue, Made, seated, all_seated, mesh_counted, face_patches, faces_from, faces_patches, quadric_patches, patches_over}
 use Rattle.primitives.specs.declared.forms.Form.{Form}
-use Rattle.primitives.specs.Quadrics.{form_of, halves, patch_at}
+use Rattle.primitives.specs.Quadrics.{form_of, halves, patch_at as quadric_at}
 use Rattle.primitives.specs.Spread.{spread}
 use Rattle.primitives.specs.Answers.{GivesMade}
 
@@ -53,8 +53,8 @@ seated_length kind params flat seats k (p ∷ ps) = ap suc (seated_length kind p
 
 all_length : {A : Type 0} (f : ℕ → Option A) (k n : ℕ) (ps : List A) → all_from f k n ≡ Some ps → length ps ≡ n
 unfolding all_from
-all_length f k zero ps e = let same : [] ≡ ps = cc in sym (ap length same)
-all_length f k (suc n) ps e = by_parts (f k) (all_from f (k + 1) n) (λ qs r. all_length f (k + 1) n qs r) refl e
+all_length {A = A} f k zero ps e = let same : [] ≡ ps = cc in sym (ap length same)
+all_length {A = A} f k (suc n) ps e = by_parts (f k) (all_from f (k + 1) n) (λ qs r. all_length f (k + 1) n qs r) refl e
   where
     by_parts : (o : Option A) (rest : Option (List A)) → ((qs : List A) → all_from f (k + 1) n ≡ Some qs → length qs ≡ n)
         → all_from f (k + 1) n ≡ rest → with_next o rest ≡ Some ps → length ps ≡ suc n
@@ -149,12 +149,12 @@ few_quadric : (params : List Param) (form : Form) (object : Map) (room : ℕ) (q
 few_quadric params form object room qs e = by_tests (are_counted quadric_extent params) (nat_lt room (4 * halves form)) refl e
   where
     by_tests : (a b : Bool) → nat_lt room (4 * halves form) ≡ b
-        → cond (not a) (refused G5) (cond b (refused M3) (all_seated Quadric (spread (halves form) params) (quadric_seat (halves form)) (all_from (patch_at object form) 0 (4 * halves form)))) ≡ made qs → length qs ≤ room
+        → cond (not a) (refused G5) (cond b (refused M3) (all_seated Quadric (spread (halves form) params) (quadric_seat (halves form)) (all_from (quadric_at object form) 0 (4 * halves form)))) ≡ made qs → length qs ≤ room
     by_tests false b low e = absurd cc
     by_tests true true low e = absurd cc
     by_tests true false low e =
-        few_seated Quadric (spread (halves form) params) (quadric_seat (halves form)) (all_from (patch_at object form) 0 (4 * halves form)) (4 * halves form) room qs
-        (λ rs is. all_length (patch_at object form) 0 (4 * halves form) rs is) (grind (arith, nat_tests, low)) e
+        few_seated Quadric (spread (halves form) params) (quadric_seat (halves form)) (all_from (quadric_at object form) 0 (4 * halves form)) (4 * halves form) room qs
+        (λ rs is. all_length (quadric_at object form) 0 (4 * halves form) rs is) (grind (arith, nat_tests, low)) e
 
 pub few_quadric_made : (result : Result (List PatchValue) PrimitiveFault) (params : List Param) (form : Form) (object : Map) (room : ℕ) →
     GivesMade result (quadric_patches params form object room) → IfOk result (λ qs. length qs ≤ room)

@@ -1,8 +1,9 @@
 -- The variables of a quadric have values wherever a patch of it stands.
-use Rattle.std.proofs.Common.{◌≡◌, ◌∙◌, ap, sym, refl, subst, arith, ℕ, zero, suc, ◌+◌, ◌*◌, ◌/◌, ◌%◌, ◌<◌, ◌≤◌, ◌==◌, Bool, true, false, ◌&&◌, not, cond, nat_lt, List, [], ◌∷◌, length, map, All, Err}
+use Rattle.std.proofs.Common.{◌≡◌, ◌∙◌, ap, sym, refl, arith, ℕ, ◌+◌, ◌*◌, ◌/◌, ◌%◌, ◌<◌, ◌==◌, Bool, true, false, ◌&&◌, not, cond, nat_lt, List, [], ◌∷◌, length, map, All, Err, Some, slice_get}
 use Rattle.std.specs.List.{range_with_len}
 use Rattle.std.proofs.Math.Nat.{mod-lt}
 use Rattle.std.proofs.lemmas.Bool.{and_parts}
+use Rattle.std.proofs.lemmas.Bool.Decides.{nat_tests}
 use Rattle.std.proofs.lemmas.List.FromFn.{length-map-range_with_len}
 use Rattle.transforms.specs.Map.{Map}
 use Rattle.quadrics.specs.declared.any_patch.AnyPatch.TheVariants.{Quadric}
@@ -41,12 +42,13 @@ same_kind h k v false e = e
 same_kind h k (Numbers xs) true e = e
 same_kind h k (Strings ts) true e = e
 
-equal_itself : (n : ℕ) → (n == n) ≡ true
-equal_itself zero = refl
-equal_itself (suc n) = equal_itself n
-
 equal_by : (m n : ℕ) → m ≡ n → (m == n) ≡ true
-equal_by m n e = ap (λ k. k == n) e ∙ equal_itself n
+equal_by m n e = grind (arith, nat_tests, e)
+
+-- strings of which the first is this one
+pub texts_from : (h : ℕ) (ts : List (List ℕ)) (t : List ℕ) → slice_get ts 0 ≡ Some t → map (λ _. t) (range_with_len 0 (corners_in h)) ≡ corner_texts h ts
+texts_from h [] t e = absurd cc
+texts_from h (x ∷ xs) t e = let same : x ≡ t = cc in ap (λ s. map (λ _. s) (range_with_len 0 (corners_in h))) (sym same)
 
 texts_counted : (h : ℕ) (k : Kind) (ts : List (List ℕ)) → is_string k ≡ true → (length ts == width k * 4) ≡ true → (length (corner_texts h ts) == width k * corners_in h) ≡ true
 texts_counted h kinds.Str [] s n = absurd cc

@@ -4,7 +4,6 @@ use Rattle.std.specs.Prelude.{ℕ, ◌+◌, ◌*◌, nat_lt, not, List, [], ◌�
 use Rattle.std.specs.List.{sum_by}
 use Rattle.fixed_math.specs.declared.vec3.Vec3.{Vec3}
 use Rattle.transforms.specs.Map.{Map}
-use Rattle.patches.specs.declared.patch.Patch.{Patch}
 use Rattle.quadrics.specs.declared.any_patch.AnyPatch.{AnyPatch}
 use Rattle.quadrics.specs.declared.any_patch.AnyPatch.TheVariants.{Plain, Quadric}
 use Rattle.scene.specs.declared.params.Param.{Param}

@@ -1,6 +1,6 @@
 -- Quadrics by their requests, and the patches that they are made of (RenderMan Interface 3.2, section 5, on quadrics; all of them
 -- whole). A quadric is made of rows, each a circle about the z axis, and a circle of four quarters.
-use Rattle.std.specs.Prelude.{ℕ, zero, suc, ◌*◌, ◌/◌, ◌%◌, ℤ, pos, neg_ℤ, List, [], ◌∷◌, ◌++◌, map, Option, Some, None, unwrap_or, if◌then◌else◌, ◌≡◌, refl}
+use Rattle.std.specs.Prelude.{ℕ, zero, suc, ◌/◌, ◌%◌, ℤ, pos, neg_ℤ, List, [], ◌∷◌, ◌++◌, map, Option, Some, None, unwrap_or, if◌then◌else◌, ◌≡◌, refl}
 use Rattle.fixed_math.specs.declared.vec3.Vec3.{Vec3}
 use Rattle.transforms.specs.Map.{Map}
 use Rattle.quadrics.specs.declared.quadric.Quadric.{Quadric}
@@ -53,10 +53,10 @@ round_in_range ps = if are_in_range ps then Some (Round ps) else None
 abbrev ruled_in_range : List Vec3 → Option Quadric
 ruled_in_range ps = if are_in_range ps then Some (Ruled ps) else None
 
-abbrev pub round_at : Map → ℕ → Circle → Circle → Circle → Option Quadric
+unfoldable pub round_at : Map → ℕ → Circle → Circle → Circle → Option Quadric
 round_at m quarter a b c = round_in_range (placed_arc m quarter a ++ (placed_arc m quarter b ++ placed_arc m quarter c))
 
-abbrev pub ruled_at : Map → ℕ → Circle → Circle → Option Quadric
+unfoldable pub ruled_at : Map → ℕ → Circle → Circle → Option Quadric
 ruled_at m quarter a b = ruled_in_range (placed_arc m quarter a ++ placed_arc m quarter b)
 
 -- of a sphere, its south before its north

@@ -100,6 +100,7 @@ fn placed_arc(object: &Affine, quarter: u64, circle: Circle) -> [Vec3; 3]
 }
 
 // The patch of three rows, where its points are in range.
+#[tactic(auto, unfolding(crate::specs::Quadrics::round_at))]
 fn round_at(
     object: &Affine,
     quarter: u64,
@@ -122,6 +123,7 @@ fn round_at(
 }
 
 // The patch of two rows, where its points are in range.
+#[tactic(auto, unfolding(crate::specs::Quadrics::ruled_at))]
 fn ruled_at(object: &Affine, quarter: u64, low: Circle, high: Circle) -> Option<Quadric>
     requires { quarter < 4 }
     ensures { result ≡ ruled_at object.now quarter low high }
@@ -155,8 +157,8 @@ fn half_at(object: &Affine, quarter: u64, half: u64, radius: Num) -> Option<Quad
 
 impl Form {
     /// How many halves it has, each of four patches.
-    pub(crate) fn halves(self) -> u32
-        ensures value { result ≡ halves self }
+    pub(crate) fn halves(&self) -> u32
+        ensures value { result ≡ halves self.now }
         ensures some { 1 ≤ result }
         ensures few { result ≤ 2 }
     {
@@ -167,13 +169,13 @@ impl Form {
     }
 
     /// Patch `k` under this map, where its points are in range.
-    pub(crate) fn patch_at(self, object: &Affine, k: u64) -> Option<Quadric>
-        ensures { result ≡ patch_at object.now self k }
+    pub(crate) fn patch_at(&self, object: &Affine, k: u64) -> Option<Quadric>
+        ensures { result ≡ patch_at object.now self.now k }
     {
         let (quarter, half) = (k % 4, k / 4);
         match self {
-            Form::Sphere(radius) => half_at(object, quarter, half, radius),
-            Form::Ruled(low, high) => ruled_at(object, quarter, low, high),
+            Form::Sphere(radius) => half_at(object, quarter, half, *radius),
+            Form::Ruled(low, high) => ruled_at(object, quarter, *low, *high),
         }
     }
 }

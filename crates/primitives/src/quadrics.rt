@@ -34,11 +34,11 @@ const WHOLE: Extent = Extent {
 fn quadric_seated(
     alloc: Global,
     variables: &Shared<RequestVariables>,
-    form: Form,
+    form: &Form,
     object: &Affine,
 ) -> Result<List<PrimitivePatch>, PrimitiveFault>
-    requires there { (k : ℕ) → k < 4 * halves form → All (IsThere (quadric_seat (halves form) k)) variables.now }
-    ensures { GivesMade result (all_seated of_quadric variables.now (quadric_seat (halves form)) (all_from (patch_at object.now form) 0 (4 * halves form))) }
+    requires there { (k : ℕ) → k < 4 * halves form.now → All (IsThere (quadric_seat (halves form.now) k)) variables.now }
+    ensures { GivesMade result (all_seated of_quadric variables.now (quadric_seat (halves form.now)) (all_from (patch_at object.now form.now) 0 (4 * halves form.now))) }
 {
     let halves = form.halves();
     let mut all = Vec::new(alloc);
@@ -57,12 +57,12 @@ fn quadric_seated(
 pub(crate) fn quadric_patches(
     alloc: Global,
     request: &Request,
-    form: Form,
+    form: &Form,
     object: &Affine,
     room: usize,
 ) -> Result<List<PrimitivePatch>, PrimitiveFault>
     requires room { room ≤ most_prims }
-    ensures { GivesMade result (quadric_patches (variables_in request.now.params) form object.now room) }
+    ensures { GivesMade result (quadric_patches (variables_in request.now.params) form.now object.now room) }
 {
     let variables = variables_in(alloc, request)?;
     let params = variables.get().as_slice();

@@ -76,7 +76,7 @@ pub fn patches_of(
     ensures few { IfOk result (λ patches. length patches ≤ room) }
 {
     if let Some(form) = form_of(request) {
-        return quadric_patches(alloc, request, form, object, room);
+        return quadric_patches(alloc, request, &form, object, room);
     }
     let Some(points) = placed_points(alloc, object, request)? else {
         return Err(PrimitiveFault::Refused(StateCode::G5));

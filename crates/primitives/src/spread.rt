@@ -177,6 +177,17 @@ fn spread_params(alloc: Global, halves: u32, params: &[Param]) -> Result<List<Pa
     Ok(List(spread))
 }
 
+// All of them, one by one.
+fn each<'a>(alloc: Global, params: &'a [Param]) -> Result<Vec<&'a Param>, NoMemory>
+    ensures { IfOk result (λ r. map (λ p. p.now) r.items ≡ params.now) }
+{
+    let mut all = Vec::new(alloc);
+    for param in params {
+        all.push(param)?;
+    }
+    Ok(all)
+}
+
 /// The variables of a quadric of so many halves, for all its patches: one that varies has a value at each of their corners.
 pub(crate) fn spread_variables(
     alloc: Global,
@@ -189,7 +200,7 @@ pub(crate) fn spread_variables(
     ensures { IfOk result (λ held. held ≡ spread halves params.now) }
 {
     let spread = spread_params(alloc, halves, params)?;
-    let held: Vec<&Param> = spread.as_slice().iter().collect(alloc)?;
+    let held = each(alloc, spread.as_slice())?;
     let variables = RequestVariables::new(alloc, &held)?;
     Shared::new(alloc, variables)
 }

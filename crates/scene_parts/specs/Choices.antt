@@ -1,5 +1,5 @@
 -- The options of a frame, and what each request sets (RenderMan Interface 3.2, section 4.1).
-use Rattle.std.specs.Prelude.{◌≡◌, refl, ℕ, ◌*◌, ◌/◌, ◌≤◌, ℤ, pos, neg_ℤ, ◌≤ℤ◌, ◌<ℤ◌, int_le, int_lt, unsigned_abs, Bool, true, false, ◌||◌, List, [], ◌∷◌, Option, Some, None, Result, Ok, Err, if◌then◌else◌, codes, slice_index_or, unwrap_or}
+use Rattle.std.specs.Prelude.{◌≡◌, refl, ℕ, ◌+◌, ◌-◌, ◌*◌, ◌/◌, ◌≤◌, min, max, ℤ, pos, neg_ℤ, ◌≤ℤ◌, ◌<ℤ◌, int_le, int_lt, unsigned_abs, Bool, true, false, ◌||◌, List, [], ◌∷◌, Option, Some, None, Result, Ok, Err, if◌then◌else◌, codes, slice_index_or, unwrap_or}
 use Rattle.std.specs.Str.{bytes_eq}
 use Rattle.fixed_math.specs.Fixed.{div}
 use Rattle.fixed_math.specs.Whole.{floor_by}
@@ -23,7 +23,8 @@ use Rattle.scene_parts.specs.declared.code.StateCode.{StateCode}
 use Rattle.scene_parts.specs.declared.code.StateCode.TheVariants.{M5, M6}
 
 -- The options in force: the raster's size; the ratio of the frame's sides and the screen window, where a scene gives them; the depths
--- that are seen; the field of view in degrees, none where the projection is orthographic; and the picture's options.
+-- that are seen; the field of view in degrees, none where the projection is orthographic; the parts of the raster's sides between which
+-- the picture lies, from xmin to xmax and from ymin to ymax; and the picture's options but for the pixels of its crop.
 pub record ChoiceValues : Type 0 where
   pub width : ℕ
   pub height : ℕ
@@ -32,6 +33,7 @@ pub record ChoiceValues : Type 0 where
   pub near : ℤ
   pub far : ℤ
   pub fov : Option ℤ
+  pub crop : List ℤ
   pub picture : OptionValues
 
 abbrev pub IsRatio : Option ℤ → Type 0
@@ -46,6 +48,15 @@ abbrev pub IsSomeWindow : Option (List ℤ) → Type 0
 IsSomeWindow None = Unit {0}
 IsSomeWindow (Some w) = IsWindow w
 
+-- parts of the raster's sides, xmin below xmax and ymin below ymax: 0 is its left or upper end, and 1 its right or lower one
+pub record IsCropWindow (w : List ℤ) : Type 0 where
+  pub left : pos 0 ≤ℤ slice_index_or w 0 (pos 0)
+  pub across : slice_index_or w 0 (pos 0) <ℤ slice_index_or w 1 (pos 0)
+  pub right : slice_index_or w 1 (pos 0) ≤ℤ pos 65536
+  pub top : pos 0 ≤ℤ slice_index_or w 2 (pos 0)
+  pub down : slice_index_or w 2 (pos 0) <ℤ slice_index_or w 3 (pos 0)
+  pub bottom : slice_index_or w 3 (pos 0) ≤ℤ pos 65536
+
 pub record AreChoices (c : ChoiceValues) : Type 0 where
   pub some_width : 1 ≤ c.width
   pub most_width : c.width ≤ 4096
@@ -55,6 +66,7 @@ pub record AreChoices (c : ChoiceValues) : Type 0 where
   pub far : c.near <ℤ c.far
   pub ratio : IsRatio c.ratio
   pub window : IsSomeWindow c.window
+  pub crop : IsCropWindow c.crop
 
 abbrev pub one : ℤ
 one = pos 65536
@@ -63,9 +75,9 @@ one = pos 65536
 abbrev pub right_angle : ℤ
 right_angle = pos 5898240
 
--- at the start, two by two samples a pixel under a gaussian filter of two pixels
+-- at the start, two by two samples a pixel under a gaussian filter of two pixels; the raster isn't known yet
 abbrev pub first_picture : OptionValues
-first_picture = record { xs = 2; ys = 2; filter = Gaussian; wx = 512; wy = 512; gain = one; gamma = one; one = 255; min = 0; max = 255 }
+first_picture = record { xs = 2; ys = 2; filter = Gaussian; wx = 512; wy = 512; gain = one; gamma = one; one = 255; min = 0; max = 255; crop = 0 ∷ 0 ∷ 0 ∷ 0 ∷ [] }
 
 -- at the start
 abbrev pub first_choices : ChoiceValues
@@ -77,6 +89,7 @@ first_choices = record {
   near = pos 64;
   far = pos 2147418112;
   fov = None;
+  crop = pos 0 ∷ one ∷ pos 0 ∷ one ∷ [];
   picture = first_picture;
 }
 
@@ -99,6 +112,10 @@ with_window _ _ _ _ c = c
 abbrev pub with_depths : Option ℤ → Option ℤ → ChoiceValues → ChoiceValues
 with_depths (Some near) (Some far) c = record c { near = near; far = far }
 with_depths _ _ c = c
+
+abbrev pub with_crop : Option ℤ → Option ℤ → Option ℤ → Option ℤ → ChoiceValues → ChoiceValues
+with_crop (Some left) (Some right) (Some top) (Some bottom) c = record c { crop = left ∷ right ∷ top ∷ bottom ∷ [] }
+with_crop _ _ _ _ c = c
 
 abbrev pub is_word : Option (List ℕ) → List ℕ → Bool
 is_word None name = false
@@ -155,6 +172,7 @@ abbrev pub chosen_by : Req → List Arg → List Param → ChoiceValues → Resu
 chosen_by reqs.Format args params c = with_format (whole_at args 0) (whole_at args 1) c
 chosen_by reqs.FrameAspectRatio args params c = Ok (with_ratio (raw_at args 0) c)
 chosen_by reqs.ScreenWindow args params c = Ok (with_window (raw_at args 0) (raw_at args 1) (raw_at args 2) (raw_at args 3) c)
+chosen_by reqs.CropWindow args params c = Ok (with_crop (raw_at args 0) (raw_at args 1) (raw_at args 2) (raw_at args 3) c)
 chosen_by reqs.Clipping args params c = Ok (with_depths (raw_at args 0) (raw_at args 1) c)
 chosen_by reqs.Projection args params c = Ok (record c { fov = field_in args params })
 chosen_by reqs.PixelSamples args params c = with_samples (raw_at args 0) (raw_at args 1) c
@@ -163,9 +181,33 @@ chosen_by reqs.Exposure args params c = Ok (with_exposure (raw_at args 0) (raw_a
 chosen_by reqs.Quantize args params c = Ok (with_quantize args c)
 chosen_by _ args params c = Ok c
 
--- the options behind a request for one of them; CropWindow, which names the whole frame, and Display change none of these
+-- the options behind a request for one of them; Display changes none of these
 abbrev pub chosen : Read → ChoiceValues → Result ChoiceValues StateCode
 chosen r c = chosen_by r.name r.args r.params c
+
+-- ---- what a picture has of its frame
+-- a part of a side of so many pixels, rounded up to whole pixels
+abbrev pub edge_of : ℕ → ℤ → ℕ
+edge_of pixels part = (pixels * unsigned_abs part + 65535) / 65536
+
+-- the first pixel between two parts of a side, and the end of those between them, of which there is one at least (RenderMan Interface
+-- 3.2, CropWindow)
+abbrev pub first_pixel : ℕ → ℤ → ℕ
+first_pixel pixels from = min (edge_of pixels from) (pixels - 1)
+
+abbrev pub end_pixel : ℕ → ℤ → ℤ → ℕ
+end_pixel pixels from to = max (edge_of pixels to) (first_pixel pixels from + 1)
+
+-- the left, top, right and bottom of the pixels in a window of a raster of that size
+abbrev pub crop_in : List ℤ → ℕ → ℕ → List ℕ
+crop_in w width height =
+    let x = slice_index_or w 0 (pos 0) in
+    let y = slice_index_or w 2 (pos 0) in
+    first_pixel width x ∷ first_pixel height y ∷ end_pixel width x (slice_index_or w 1 (pos 0)) ∷ end_pixel height y (slice_index_or w 3 (pos 0)) ∷ []
+
+-- the options of the picture of a raster of that size
+abbrev pub picture_of : ChoiceValues → ℕ → ℕ → OptionValues
+picture_of c width height = record c.picture { crop = crop_in c.crop width height }
 
 -- ---- what a frame is seen by
 
@@ -195,3 +237,13 @@ format_at_limit = refl
 
 format_past_limit : with_format (Some (pos 1)) (Some (pos 4097)) first_choices ≡ Err M5
 format_past_limit = refl
+
+whole_crop : crop_in first_choices.crop 640 480 ≡ 0 ∷ 0 ∷ 640 ∷ 480 ∷ []
+whole_crop = refl
+
+-- the middle half of four columns; between .26 and .27 no column begins, and then the one behind them stands for them
+half_crop : crop_in (pos 16384 ∷ pos 49152 ∷ pos 0 ∷ one ∷ []) 4 2 ≡ 1 ∷ 0 ∷ 3 ∷ 2 ∷ []
+half_crop = refl
+
+narrow_crop : crop_in (pos 17039 ∷ pos 17695 ∷ pos 0 ∷ one ∷ []) 4 2 ≡ 2 ∷ 0 ∷ 3 ∷ 2 ∷ []
+narrow_crop = refl

@@ -1,11 +1,12 @@
 // The options of a frame.
-ghost use Rattle.std.specs.Prelude.{◌≡◌, ◌≤◌, ◌<◌, pos, ◌≤ℤ◌, ◌<ℤ◌, Some, codes};
+ghost use Rattle.std.specs.Prelude.{◌≡◌, ◌≤◌, ◌<◌, pos, ◌≤ℤ◌, ◌<ℤ◌, unsigned_abs, Some, codes, slice_index_or};
+ghost use Rattle.scene.specs.Settings.{crop_of, IsCrop};
 ghost use Rattle.rib_reader.specs.declared.req.Req.TheVariants as reqs;
 ghost use Rattle.rib_reader.specs.Holding.{last_named};
 ghost use Rattle.rib_reader.specs.Reading.{plain};
 ghost use Rattle.fixed_math.specs.Whole.{floor_by};
 ghost use Rattle.transforms.specs.Field.{left, right, bottom, top};
-ghost use Rattle.scene_parts.specs.Choices.{ChoiceValues, AreChoices, IsWindow, first_picture, first_choices, with_format, with_ratio, with_window, with_depths, first_number, degrees_in, field_in, with_samples, filter_named, with_filter, with_exposure, with_quantize, chosen, ratio_of, window_by, view_of};
+ghost use Rattle.scene_parts.specs.Choices.{ChoiceValues, AreChoices, IsWindow, IsCropWindow, first_picture, first_choices, with_format, with_ratio, with_window, with_depths, with_crop, edge_of, first_pixel, end_pixel, crop_in, picture_of, first_number, degrees_in, field_in, with_samples, filter_named, with_filter, with_exposure, with_quantize, chosen, ratio_of, window_by, view_of};
 
 use crate::code::StateCode;
 use fixed_math::Num;
@@ -14,7 +15,8 @@ use scene::{Filter, Kind, Options, Param, Values};
 use std::marker::Model;
 use transforms::View;
 
-/// The options in force but the picture's name. Contracts see them as a record.
+/// The options in force but the picture's name. Contracts see them as a record. `crop` is the window of `CropWindow`; the pixels in it
+/// are known when the raster is, and those of `picture` aren't read.
 #[derive(Clone, Copy)]
 pub struct Choices {
     width: u32,
@@ -24,17 +26,18 @@ pub struct Choices {
     near: Num,
     far: Num,
     fov: Option<Num>,
+    crop: [Num; 4],
     picture: Options,
 }
 
 impl Model for Choices {
     ghost Value = { ChoiceValues };
 
-    ghost view = { λ c. record { width = c.width; height = c.height; ratio = c.ratio; window = c.window; near = c.near; far = c.far; fov = c.fov; picture = c.picture } };
+    ghost view = { λ c. record { width = c.width; height = c.height; ratio = c.ratio; window = c.window; near = c.near; far = c.far; fov = c.fov; crop = c.crop; picture = c.picture } };
 
-    ghost invariant = { λ c. AreChoices (record { width = c.width; height = c.height; ratio = c.ratio; window = c.window; near = c.near; far = c.far; fov = c.fov; picture = c.picture }) };
+    ghost invariant = { λ c. AreChoices (record { width = c.width; height = c.height; ratio = c.ratio; window = c.window; near = c.near; far = c.far; fov = c.fov; crop = c.crop; picture = c.picture }) };
 
-    ghost inverse = { λ c. record { width = c.width; height = c.height; ratio = c.ratio; window = c.window; near = c.near; far = c.far; fov = c.fov; picture = c.picture } };
+    ghost inverse = { λ c. record { width = c.width; height = c.height; ratio = c.ratio; window = c.window; near = c.near; far = c.far; fov = c.fov; crop = c.crop; picture = c.picture } };
 }
 
 // The picture's options at the start.
@@ -53,7 +56,17 @@ fn first_picture() -> Options
         one: 255,
         min: 0,
         max: 255,
+        crop: [0; 4],
     }
+}
+
+// The window of the whole raster.
+fn whole_window() -> [Num; 4]
+    ensures value { result ≡ first_choices.crop }
+    ensures window { IsCropWindow result }
+{
+    let (none, one) = (Num::sat(0), Num::sat(65536));
+    [none, one, none, one]
 }
 
 fn filter_named(name: &str) -> Filter
@@ -116,6 +129,86 @@ fn times(number: Num, raws: u32) -> u32
     number.raw() as u32 / raws
 }
 
+// The width of a filter of at most 16 pixels in 1/256 pixel, rounded down.
+fn filter_width(number: Num) -> u32
+    requires low { pos 256 ≤ℤ number }
+    requires high { number ≤ℤ pos 1048576 }
+    ensures value { pos result ≡ floor_by number 256 }
+    ensures some { 1 ≤ result }
+    ensures most { result ≤ 4096 }
+{
+    times(number, 256)
+}
+
+// The raw of a part of a side.
+fn raw_of(part: Num) -> u32
+    requires low { pos 0 ≤ℤ part }
+    requires high { part ≤ℤ pos 65536 }
+    ensures value { result ≡ unsigned_abs part }
+    ensures most { result ≤ 65536 }
+{
+    part.raw() as u32
+}
+
+// A part of a side of so many pixels, rounded up to whole pixels.
+fn edge_of(pixels: u32, part: Num) -> u32
+    requires pixels { pixels ≤ 4096 }
+    requires low { pos 0 ≤ℤ part }
+    requires high { part ≤ℤ pos 65536 }
+    ensures value { result ≡ edge_of pixels part }
+    ensures most { result ≤ pixels }
+{
+    (pixels * raw_of(part) + 65535) / 65536
+}
+
+// The first pixel of a side from a part of it on.
+fn first_pixel(pixels: u32, from: Num) -> u32
+    requires some { 1 ≤ pixels }
+    requires pixels { pixels ≤ 4096 }
+    requires low { pos 0 ≤ℤ from }
+    requires high { from ≤ℤ pos 65536 }
+    ensures value { result ≡ first_pixel pixels from }
+    ensures inside { result < pixels }
+{
+    edge_of(pixels, from).min(pixels - 1)
+}
+
+// The end of the pixels of a side between two parts of it, of which there is one at least.
+fn end_pixel(pixels: u32, from: Num, to: Num) -> u32
+    requires some { 1 ≤ pixels }
+    requires pixels { pixels ≤ 4096 }
+    requires low { pos 0 ≤ℤ from }
+    requires order { from <ℤ to }
+    requires high { to ≤ℤ pos 65536 }
+    ensures value { result ≡ end_pixel pixels from to }
+    ensures behind { first_pixel pixels from < result }
+    ensures inside { result ≤ pixels }
+{
+    edge_of(pixels, to).max(first_pixel(pixels, from) + 1)
+}
+
+// The pixels in a window of a raster of that size: their left, top, right and bottom.
+fn crop_in(window: [Num; 4], width: u32, height: u32) -> [u32; 4]
+    requires window { IsCropWindow window }
+    requires some_width { 1 ≤ width }
+    requires width { width ≤ 4096 }
+    requires some_height { 1 ≤ height }
+    requires height { height ≤ 4096 }
+    ensures value { result ≡ crop_in window width height }
+    ensures across { slice_index_or result 0 0 < slice_index_or result 2 0 }
+    ensures in_width { slice_index_or result 2 0 ≤ width }
+    ensures down { slice_index_or result 1 0 < slice_index_or result 3 0 }
+    ensures in_height { slice_index_or result 3 0 ≤ height }
+{
+    let [left, right, top, bottom] = window;
+    [
+        first_pixel(width, left),
+        first_pixel(height, top),
+        end_pixel(width, left, right),
+        end_pixel(height, top, bottom),
+    ]
+}
+
 impl Choices {
     /// The options at the start.
     pub fn first() -> Choices
@@ -129,15 +222,25 @@ impl Choices {
             near: Num::sat(64),
             far: Num::sat(2147418112),
             fov: None,
+            crop: whole_window(),
             picture: first_picture(),
         }
     }
 
-    /// The options of the picture.
-    pub fn picture(&self) -> Options
-        ensures { result ≡ self.now.picture }
+    /// The options of the picture of a raster of that size. Its crop has the pixels of the raster in the crop window, and one at least.
+    pub fn picture(&self, width: u32, height: u32) -> Options
+        requires some_width { 1 ≤ width }
+        requires width { width ≤ 4096 }
+        requires some_height { 1 ≤ height }
+        requires height { height ≤ 4096 }
+        ensures value { result ≡ picture_of self.now width height }
+        ensures crop { IsCrop width height (crop_of result) }
     {
-        self.picture
+        let picture = self.picture;
+        Options {
+            crop: crop_in(self.crop, width, height),
+            ..picture
+        }
     }
 
     fn with_format(self, width: i64, height: i64) -> Result<Choices, StateCode>
@@ -176,6 +279,21 @@ impl Choices {
         }
     }
 
+    fn with_crop(self, left: Num, right: Num, top: Num, bottom: Num) -> Choices
+        requires left { pos 0 ≤ℤ left }
+        requires across { left <ℤ right }
+        requires right { right ≤ℤ pos 65536 }
+        requires top { pos 0 ≤ℤ top }
+        requires down { top <ℤ bottom }
+        requires bottom { bottom ≤ℤ pos 65536 }
+        ensures { result ≡ with_crop (Some left) (Some right) (Some top) (Some bottom) self }
+    {
+        Choices {
+            crop: [left, right, top, bottom],
+            ..self
+        }
+    }
+
     fn with_depths(self, near: Num, far: Num) -> Choices
         requires near { pos 1 ≤ℤ near }
         requires far { near <ℤ far }
@@ -195,6 +313,7 @@ impl Choices {
         requires y { pos 65536 ≤ℤ y }
         ensures { result ≡ with_samples (Some x) (Some y) self }
     {
+        let picture = self.picture;
         let xs = times(x, 65536);
         let ys = times(y, 65536);
         if xs > 16 || ys > 16 {
@@ -204,7 +323,7 @@ impl Choices {
             picture: Options {
                 xs: xs as u8,
                 ys: ys as u8,
-                ..self.picture
+                ..picture
             },
             ..self
         })
@@ -218,12 +337,13 @@ impl Choices {
         if x.raw() > 1048576 || y.raw() > 1048576 {
             return Err(StateCode::M6);
         }
+        let picture = self.picture;
         Ok(Choices {
             picture: Options {
                 filter: filter_named(name),
-                wx: times(x, 256),
-                wy: times(y, 256),
-                ..self.picture
+                wx: filter_width(x),
+                wy: filter_width(y),
+                ..picture
             },
             ..self
         })
@@ -233,11 +353,12 @@ impl Choices {
         requires { pos 1 ≤ℤ gamma }
         ensures { result ≡ with_exposure (Some gain) (Some gamma) self }
     {
+        let picture = self.picture;
         Choices {
             picture: Options {
                 gain,
                 gamma,
-                ..self.picture
+                ..picture
             },
             ..self
         }
@@ -250,12 +371,13 @@ impl Choices {
         let Some(levels) = request.levels() else {
             return self;
         };
+        let picture = self.picture;
         Choices {
             picture: Options {
                 one: levels.one,
                 min: levels.least,
                 max: levels.most,
-                ..self.picture
+                ..picture
             },
             ..self
         }
@@ -270,6 +392,12 @@ impl Choices {
             Req::Format => self.with_format(request.whole(0), request.whole(1)),
             Req::FrameAspectRatio => Ok(self.with_ratio(request.number(0))),
             Req::ScreenWindow => Ok(self.with_window(
+                request.number(0),
+                request.number(1),
+                request.number(2),
+                request.number(3),
+            )),
+            Req::CropWindow => Ok(self.with_crop(
                 request.number(0),
                 request.number(1),
                 request.number(2),

@@ -13,7 +13,7 @@ use Rattle.transforms.specs.declared.fault.FormFault.TheVariants as forms
 use Rattle.rib_reader.specs.Rules.{word_at, whole_at}
 use Rattle.rib_reader.specs.Reading.{Read}
 use Rattle.scene.specs.Scene.{PrimValue, FrameValue, most_prims}
-use Rattle.scene_parts.specs.Choices.{ChoiceValues, first_choices, chosen, view_of}
+use Rattle.scene_parts.specs.Choices.{ChoiceValues, first_choices, chosen, view_of, picture_of}
 use Rattle.scene_parts.specs.Looks.{LookValues, is_single}
 use Rattle.primitives.specs.Patches.{PatchValue, Made, patches_of}
 use Rattle.scene_state.specs.Shaders.{first_attributes, first_shaders, with_request, worn_by, light_of}
@@ -106,7 +106,7 @@ abbrev pub most_frames : ℕ
 most_frames = 1000
 
 abbrev pub frame_of : World → State → FrameValue
-frame_of w s = record { name = s.name; options = s.choices.picture; camera = w.camera; world = w.to_camera; prims = s.prims }
+frame_of w s = record { name = s.name; options = picture_of s.choices w.camera.width w.camera.height; camera = w.camera; world = w.to_camera; prims = s.prims }
 
 -- the world's primitives are a frame; no light is in force then, and none has a number
 abbrev pub with_frame : World → Attributes → Map → State → State

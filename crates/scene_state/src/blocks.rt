@@ -1,6 +1,6 @@
 // Blocks: what they save, and what their ends bring back.
 ghost use Rattle.std.specs.Prelude.{◌≡◌, Some, [], ◌∷◌, ◌++◌, IfOk};
-ghost use Rattle.scene_state.specs.State.{opened, innermost, frame_begun, closed, frame_ended, frame_of, frame_made, attributes_ended, transform_ended, world_begun, world_ended};
+ghost use Rattle.scene_state.specs.State.{opened, innermost, outer, frame_begun, closed, frame_ended, frame_of, frame_made, attributes_ended, transform_ended, world_begun, world_ended};
 ghost use Rattle.scene_state.specs.Answers.{Steps};
 ghost use Rattle.scene_state.specs.declared.state.Block.TheVariants.{InAttributes, InTransform};
 
@@ -16,6 +16,14 @@ use transforms::{Affine, Camera};
 const MOST_BLOCKS: usize = 64;
 
 const MOST_FRAMES: usize = 1000;
+
+// Takes the innermost block out.
+fn take_innermost(blocks: &mut List<Block>) -> Option<Block>
+    ensures block { result ≡ innermost blocks.old }
+    ensures rest { blocks.new ≡ outer blocks.old }
+{
+    blocks.0.pop()
+}
 
 impl State {
     fn open(&mut self, block: Block) -> Result<(), StepFault>
@@ -33,7 +41,7 @@ impl State {
         ensures block { result ≡ innermost self.old.blocks }
         ensures closed { self.new ≡ closed self.old }
     {
-        self.blocks.0.pop()
+        take_innermost(&mut self.blocks)
     }
 
     // Brings back what a block saved. Where a world has ended in the block, no light that was in force at its start has a number.
@@ -163,9 +171,10 @@ impl State {
         ensures frame { IfOk result (λ frame. frame ≡ frame_of world.now self.old) }
         ensures taken { IfOk result (λ _. self.new ≡ record self.old { prims = [] }) }
     {
+        let view = world.camera.view();
         Ok(Frame {
             name: self.name.shared()?,
-            options: self.choices.picture(),
+            options: self.choices.picture(view.width, view.height),
             camera: world.camera,
             world: world.to_camera,
             prims: self.prims.take(alloc),

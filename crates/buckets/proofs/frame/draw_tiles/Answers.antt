@@ -84,6 +84,13 @@ returns-clause-put g c =
     puts_last g.begun c.loop-progress.progress.drawing.at (g.O.FrameSink.written c.loop-progress.sink) q.0.drawable is i.put
 
 -- at the end the invariant tells the counts
+pub returns-clause-drawn : goal.returns-clause-drawn
+returns-clause-drawn g c =
+    let q = c.requires.1 in
+    let i = c.loop-progress.invariant in
+    let is : c.loop-progress.progress.drawing.at ≡ tile_count g.begun.drawing = (let t = c.loop-progress-test.false in let n = q.0.tiles in let l = i.within in omega (arith, t, n, l)) in
+    i.ended is
+
 pub returns-clause-few_shadings : goal.returns-clause-few_shadings
 returns-clause-few_shadings g c =
     let q = c.requires.1 in

@@ -3,19 +3,30 @@ use Rattle.scene.specs.Scene.{FrameValue}
 use Rattle.scene.specs.Settings.{OptionValues}
 use Rattle.transforms.specs.declared.view.View.{View}
 use Rattle.bound_split.specs.Extents.{pixels_of}
+use Rattle.hider.specs.declared.sample_grid.SampleGrid.{SampleGrid}
+use Rattle.hider.specs.Tiles.{IsSampleGrid}
 use Rattle.buckets.specs.declared.frame.Progress.{Progress}
 use Rattle.buckets.specs.TileWalk.{format_in, tile_rect}
 use Rattle.buckets.specs.Standing.{InEpoch, to_come}
 use Rattle.buckets.specs.Rows.{IsRowTo}
 use Rattle.buckets.specs.Progress.{Stands, next_of, report_before}
 use Rattle.buckets.proofs.BucketRows.{some_tiles, first_left}
-use Rattle.buckets.proofs.BucketPixels.{grid_from}
+use Rattle.buckets.proofs.BucketPixels.{grid_from, is_sample_grid}
 use Rattle.buckets.proofs.Passing.{gives_first}
 use Rattle.buckets.proofs.StepsOn.{stands_in, before_first}
 use Rattle.buckets.proofs.frame.started.Goals as goal
 
 pub new_row-requires : goal.new_row-requires
 new_row-requires g c = (c.requires.0, some_tiles g.begun.drawing c.requires.0.drawable)
+
+pub new-requires : goal.new-requires
+new-requires g c =
+    let d = g.begun.drawing in
+    let q = c.requires.0 in
+    let options : c.frame.inside.options ≡ d.frame.options = ap (λ (v : FrameValue). v.options) (c.frame.view_is ∙ q.frame) in
+    let xs = ap (λ (o : OptionValues). o.xs) (c.options.view_is ∙ options) in
+    let ys = ap (λ (o : OptionValues). o.ys) (c.options.view_is ∙ options) in
+    subst (λ (s : SampleGrid). IsSampleGrid s) (sym (grid_from d 0 c.tile_at-rect.result c.options.inside.xs c.options.inside.ys c.tile_at-rect.ensures xs ys)) (is_sample_grid d 0 q.drawable (some_tiles d q.drawable))
 
 pub returns-clause-stands : goal.returns-clause-stands
 returns-clause-stands g c = λ e is.

@@ -6,7 +6,7 @@ use Rattle.buckets.specs.Rows.{IsRowTo}
 use Rattle.buckets.proofs.StepsOn.{take_front}
 use Rattle.fixed_math.specs.Spots.{PixelRect}
 use Rattle.filter_ppm.specs.Sampled.{FilmFormat}
-use Rattle.filter_ppm.specs.Bands.{rect_with, IsPartOfFrame, seen_from, grid_over}
+use Rattle.filter_ppm.specs.Bands.{rect_with, IsPartOfPicture, seen_from, grid_over}
 use Rattle.buckets.specs.TileWalk.{format_in, bucket_of}
 use Rattle.buckets.proofs.BucketRows.{part_of}
 use Rattle.buckets.proofs.BucketPixels.{grid_is, bucket_put}
@@ -15,7 +15,7 @@ use Rattle.buckets.proofs.row_band.put_bucket.Goals as goal
 pub put-requires-clause-part : goal.put-requires-clause-part
 put-requires-clause-part g c =
     let d = g.begun.drawing in
-    subst (λ (r : PixelRect). IsPartOfFrame c.args.filter.now r) (sym c.bucket_at.ensures) (subst (λ (f : FilmFormat). IsPartOfFrame f (bucket_of d c.args.at)) (sym c.requires.1.1.0) (part_of d c.args.at c.requires.0.drawable c.requires.1.0))
+    subst (λ (r : PixelRect). IsPartOfPicture c.args.filter.now r) (sym c.bucket_at.ensures) (subst (λ (f : FilmFormat). IsPartOfPicture f (bucket_of d c.args.at)) (sym c.requires.1.1.0) (part_of d c.args.at c.requires.0.drawable c.requires.1.0))
 
 pub put-requires-clause-grid : goal.put-requires-clause-grid
 put-requires-clause-grid g c =

@@ -1,4 +1,4 @@
-use Rattle.std.proofs.Common.{◌≡◌, ◌∙◌, ap, sym, subst, arith, ◌+◌, length, length-append}
+use Rattle.std.proofs.Common.{ap, sym, subst, arith, ◌+◌, length, length-append}
 use Rattle.parts.proofs.Bucketry.{Reading, reading_fails, reading_more}
 use Rattle.parts.proofs.buckets.buckets_in.Goals as goal
 

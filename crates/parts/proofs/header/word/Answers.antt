@@ -1,4 +1,4 @@
-use Rattle.std.proofs.Common.{◌≡◌, ◌++◌, arith}
+use Rattle.std.proofs.Common.{arith}
 use Rattle.parts.proofs.Words.{word_read}
 use Rattle.parts.proofs.header.word.Goals as goal
 

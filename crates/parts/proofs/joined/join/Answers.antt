@@ -1,4 +1,3 @@
-use Rattle.std.proofs.Common.{◌≡◌, List, ℕ}
 use Rattle.parts.proofs.Pictured.{division_is}
 use Rattle.parts.proofs.joined.join.Goals as goal
 

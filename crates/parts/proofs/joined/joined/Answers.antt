@@ -1,4 +1,4 @@
-use Rattle.std.proofs.Common.{◌≡◌, ◌∙◌, ap, sym, refl, Err}
+use Rattle.std.proofs.Common.{◌∙◌, ap, sym, refl, Err}
 use Rattle.std.proofs.lemmas.Result.{err_from_is_err_and}
 use Rattle.parts.specs.declared.fault.JoinFault.{JoinFault}
 use Rattle.parts.proofs.Joins.{AreFound, read_is, read_numbers, read_parts, read_again, read_wanting, read_whole, read_joined, fault_is}

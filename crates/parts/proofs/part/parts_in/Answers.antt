@@ -1,4 +1,4 @@
-use Rattle.std.proofs.Common.{◌≡◌, ◌∙◌, ap, sym, subst, arith, [], ◌<◌, length, length-append, get_or}
+use Rattle.std.proofs.Common.{◌∙◌, ap, subst, arith, [], length, length-append, get_or}
 use Rattle.std.proofs.lemmas.List.{get_or_read}
 use Rattle.parts.specs.Formats.{IsNoPart, IsParsed, no_part}
 use Rattle.parts.proofs.Bucketry.{parsed_more}

@@ -1,4 +1,4 @@
-use Rattle.std.proofs.Common.{◌≡◌, ◌∙◌, ap, sym, subst, arith, ◌<◌, ◌++◌, List, take, length, get_or}
+use Rattle.std.proofs.Common.{◌∙◌, ap, sym, ◌++◌, List, take}
 use Rattle.std.proofs.lemmas.List.{get_or_read}
 use Rattle.parts.specs.Formats.{Bucket, Part, no_part}
 use Rattle.parts.specs.Placing.{Placed, placed_in, placed_from}

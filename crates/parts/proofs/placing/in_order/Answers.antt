@@ -1,4 +1,4 @@
-use Rattle.std.proofs.Common.{◌≡◌, ◌∙◌, ap, arith, rules, ◌<◌, length}
+use Rattle.std.proofs.Common.{◌∙◌, ap, arith, rules}
 use Rattle.std.proofs.lemmas.List.{get_or_read}
 use Rattle.parts.specs.Placing.{Placed, not_placed}
 use Rattle.parts.proofs.Places.{ordered_more, placed_same}

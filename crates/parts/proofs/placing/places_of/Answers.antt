@@ -1,4 +1,4 @@
-use Rattle.std.proofs.Common.{◌≡◌, arith, ◌<◌, length, get_or, ◌∙◌, ap, sym, refl, subst, Some, None}
+use Rattle.std.proofs.Common.{arith, ◌<◌, ◌∙◌, ap, sym, refl, subst, None}
 use Rattle.std.proofs.lemmas.List.{get_or_read}
 use Rattle.std.specs.Option.{is_some}
 use Rattle.parts.specs.Formats.{Bucket}

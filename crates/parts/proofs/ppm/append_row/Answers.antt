@@ -1,4 +1,4 @@
-use Rattle.std.proofs.Common.{◌≡◌, arith, ◌<◌, ◌≤◌, ◌*◌, ◌+◌, ◌++◌, length, ◌∙◌, ap, sym, subst}
+use Rattle.std.proofs.Common.{◌<◌, subst}
 use Rattle.parts.specs.Placing.{pixel_of}
 use Rattle.parts.proofs.Rows.{row_none, row_more}
 use Rattle.parts.proofs.ppm.append_row.Goals as goal

@@ -1,4 +1,4 @@
-use Rattle.std.proofs.Common.{◌≡◌, arith, rules, ◌<◌, ◌≤◌, ◌*◌, ◌/◌, ◌%◌, ◌+◌, ◌++◌, ℕ, List, length, get_or, ◌∙◌, ap, sym, subst}
+use Rattle.std.proofs.Common.{◌≡◌, rules, ◌<◌, ◌≤◌, ◌*◌, ◌/◌, ◌%◌, ◌+◌, ◌++◌, ℕ, List, length, get_or, ◌∙◌, ap, sym}
 use Rattle.std.proofs.lemmas.List.{get_or_read}
 use Rattle.parts.specs.Formats.{Bucket, channel_bytes, area}
 use Rattle.parts.specs.Placing.{Placed, not_placed, width_at}

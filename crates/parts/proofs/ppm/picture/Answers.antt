@@ -1,4 +1,4 @@
-use Rattle.std.proofs.Common.{◌≡◌, arith, ◌*◌, ◌+◌, ◌++◌, ◌/◌, ◌%◌, ◌∙◌}
+use Rattle.std.proofs.Common.{◌/◌, ◌%◌, ◌∙◌}
 use Rattle.parts.specs.Pictures.{ppm_header}
 use Rattle.parts.specs.Placing.{pixel_of}
 use Rattle.parts.proofs.Rows.{rows_none, rows_more}
