@@ -7,6 +7,7 @@ use Rattle.hider.specs.declared.sample_grid.SampleGrid.{SampleGrid}
 use Rattle.filter_ppm.specs.Weight.{reach}
 use Rattle.filter_ppm.specs.Film.{FilmValues, pixel}
 use Rattle.filter_ppm.specs.Sampled.{FilmFormat}
+use Rattle.filter_ppm.specs.declared.rect.Rect.{Rect}
 
 -- ---- which samples
 -- the rectangle with this left, top, right and bottom
@@ -48,9 +49,20 @@ pub record HoldsWindow (f : FilmFormat) (r : PixelRect) (x y : ℕ) : Type 0 whe
 abbrev pub rows : FilmFormat → ℕ → ℕ → PixelRect
 rows f top bottom = record { left = (crop_in f).left; top = top; right = (crop_in f).right; bottom = bottom }
 
--- the pixel x, y in a band of rows from `top` on, each from `left` to below `right`
+-- the pixel x, y in a band of rows from `top` on, each from `left` to below `right`: its place, and its levels
+abbrev pub place_in : ℕ → ℕ → ℕ → ℕ → ℕ → ℕ
+place_in left right top x y = (y - top) * (right - left) + (x - left)
+
 abbrev pub entry : ℕ → ℕ → ℕ → List (List ℕ) → ℕ → ℕ → List ℕ
-entry left right top band x y = get_or band ((y - top) * (right - left) + (x - left)) []
+entry left right top band x y = get_or band (place_in left right top x y) []
+
+-- a number isn't from the one to below the other
+abbrev pub IsOutside : ℕ → ℕ → ℕ → Type 0
+IsOutside first end n = (n < first) ⊎ (end ≤ n)
+
+-- two bands of a rectangle's rows are the same beside it
+abbrev pub AreSameBeside : ℕ → ℕ → Rect → List (List ℕ) → List (List ℕ) → Type 0
+AreSameBeside left right r old new = (x y : ℕ) → IsOutside r.left r.right x → left ≤ x → x < right → r.top ≤ y → y < r.bottom → entry left right r.top new x y ≡ entry left right r.top old x y
 
 -- in a band of rows of the picture
 abbrev pub entry_in : OptionValues → ℕ → List (List ℕ) → ℕ → ℕ → List ℕ
@@ -59,7 +71,7 @@ entry_in o top band x y = entry (crop_of o).left (crop_of o).right top band x y
 -- in the band of a rectangle's rows, the rectangle's entries are pixels now, and every other one is what it was
 pub record PutsPixels (f : FilmValues) (r : PixelRect) (old new : List (List ℕ)) : Type 0 where
   pub inside : (x y : ℕ) → r.left ≤ x → x < r.right → r.top ≤ y → y < r.bottom → entry_in f.options r.top new x y ≡ pixel f x y
-  pub beside : (x y : ℕ) → (x < r.left) ⊎ (r.right ≤ x) → (crop_of f.options).left ≤ x → x < (crop_of f.options).right → r.top ≤ y → y < r.bottom
+  pub beside : (x y : ℕ) → IsOutside r.left r.right x → (crop_of f.options).left ≤ x → x < (crop_of f.options).right → r.top ≤ y → y < r.bottom
       → entry_in f.options r.top new x y ≡ entry_in f.options r.top old x y
 
 -- in a band of the picture's rows from `top` to below `bottom`, the entries of its columns below `right` are pixels

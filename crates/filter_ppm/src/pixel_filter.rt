@@ -6,7 +6,7 @@ ghost use Rattle.hider.specs.declared.sample.Sample.{Sample};
 ghost use Rattle.hider.specs.Composite.{composite};
 ghost use Rattle.hider.specs.Tiles.{Shows, IsSampleGrid, sample_count};
 ghost use Rattle.filter_ppm.specs.Sampled.{FilmFormat, IsFormat, film_with};
-ghost use Rattle.filter_ppm.specs.Bands.{rect_with, grid_over, seen_from, entry, crop_in, IsPartOfPicture, PutsPixels};
+ghost use Rattle.filter_ppm.specs.Bands.{rect_with, grid_over, seen_from, place_in, entry, crop_in, IsOutside, AreSameBeside, IsPartOfPicture, PutsPixels};
 ghost use Rattle.filter_ppm.specs.Levels.{levels};
 ghost use Rattle.filter_ppm.specs.Sums.{none, mean_of, total_at, IsRect, HasTotals, AreOver, AreTotals};
 
@@ -86,7 +86,7 @@ fn put_row(
     requires totals { HasTotals r.now totals.now }
     requires over { AreOver n r.now totals.now }
     ensures inside { (x : ℕ) → r.now.left ≤ x → x < r.now.right → entry columns.first columns.end r.now.top band.new x y ≡ levels options.now (mean_of (total_at r.now totals.now x y)) }
-    ensures others { (p : ℕ) → (p < (y - r.now.top) * (columns.end - columns.first) + (r.now.left - columns.first)) ⊎ ((y - r.now.top) * (columns.end - columns.first) + (r.now.right - columns.first) ≤ p) → get_or band.new p [] ≡ get_or band.old p [] }
+    ensures others { let at = λ (x : ℕ). place_in columns.first columns.end r.now.top x y in (p : ℕ) → IsOutside (at r.now.left) (at r.now.right) p → get_or band.new p [] ≡ get_or band.old p [] }
 {
     let start = (y - r.top) * (columns.end - columns.first);
     let first = (y - r.top) * r.width();
@@ -113,7 +113,7 @@ fn put_rows(
     requires totals { HasTotals r.now totals.now }
     requires over { AreOver n r.now totals.now }
     ensures inside { (x y : ℕ) → r.now.left ≤ x → x < r.now.right → r.now.top ≤ y → y < r.now.bottom → entry columns.first columns.end r.now.top band.new x y ≡ levels options.now (mean_of (total_at r.now totals.now x y)) }
-    ensures beside { (x y : ℕ) → (x < r.now.left) ⊎ (r.now.right ≤ x) → columns.first ≤ x → x < columns.end → r.now.top ≤ y → y < r.now.bottom → entry columns.first columns.end r.now.top band.new x y ≡ entry columns.first columns.end r.now.top band.old x y }
+    ensures beside { AreSameBeside columns.first columns.end r.now band.old band.new }
 {
     for y in r.top..r.bottom {
         put_row(band, columns, options, r, y, totals, n);

@@ -61,13 +61,21 @@ fn turned(point: Vec3, quarter: u64) -> Vec3
     let Vec3 { x, y, z } = point;
     match quarter {
         0 => point,
-        1 => Vec3 { x: y.neg(), y: x, z },
+        1 => Vec3 {
+            x: y.neg(),
+            y: x,
+            z,
+        },
         2 => Vec3 {
             x: x.neg(),
             y: y.neg(),
             z,
         },
-        _ => Vec3 { x: y, y: x.neg(), z },
+        _ => Vec3 {
+            x: y,
+            y: x.neg(),
+            z,
+        },
     }
 }
 

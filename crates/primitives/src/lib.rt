@@ -8,7 +8,7 @@ mod forms;
 mod meshes;
 mod patch;
 mod points;
-mod quadrics;
+mod quarters;
 mod requests;
 mod seat;
 mod spread;

@@ -14,7 +14,7 @@ use crate::forms::form_of;
 use crate::meshes::mesh_patches;
 use crate::patch::PrimitivePatch;
 use crate::points::placed_points;
-use crate::quadrics::quadric_patches;
+use crate::quarters::quadric_patches;
 use crate::variables::variables_in;
 use fixed_math::{List, Vec3};
 use rib_reader::{Req, Request};

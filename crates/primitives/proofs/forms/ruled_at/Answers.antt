@@ -5,7 +5,7 @@ use Rattle.primitives.proofs.forms.ruled_at.Goals as goal
 pub ruled-requires : goal.ruled-requires
 ruled-requires c =
     are_near (
-      slice_index_or c.placed_arc.result 0 c.index-placed_arc-0.result ∷ slice_index_or c.placed_arc.result 1 c.index-placed_arc-1.result
-          ∷ slice_index_or c.placed_arc.result 2 c.index-placed_arc-2.result ∷ slice_index_or c.placed_arc-2.result 0 c.index-placed_arc-0-2.result
-          ∷ slice_index_or c.placed_arc-2.result 1 c.index-placed_arc-1-2.result ∷ slice_index_or c.placed_arc-2.result 2 c.index-placed_arc-2-2.result ∷ []
+    slice_index_or c.placed_arc.result 0 c.index-placed_arc-0.result ∷ slice_index_or c.placed_arc.result 1 c.index-placed_arc-1.result
+    ∷ slice_index_or c.placed_arc.result 2 c.index-placed_arc-2.result ∷ slice_index_or c.placed_arc-2.result 0 c.index-placed_arc-0-2.result
+    ∷ slice_index_or c.placed_arc-2.result 1 c.index-placed_arc-1-2.result ∷ slice_index_or c.placed_arc-2.result 2 c.index-placed_arc-2-2.result ∷ []
     ) (sym c.are_in_range.ensures ∙ c.if-are_in_range.true)

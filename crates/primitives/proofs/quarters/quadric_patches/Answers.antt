@@ -9,7 +9,7 @@ use Rattle.primitives.specs.Patches.{all_seated, quadric_patches}
 use Rattle.primitives.specs.Answers.{GivesMade}
 use Rattle.primitives.proofs.Distinct.{variables_distinct}
 use Rattle.primitives.proofs.Spreading.{quadric_there, quadric_is}
-use Rattle.primitives.proofs.quadrics.quadric_patches.Goals as goal
+use Rattle.primitives.proofs.quarters.quadric_patches.Goals as goal
 
 pub spread_variables-requires-clause-distinct : goal.spread_variables-requires-clause-distinct
 spread_variables-requires-clause-distinct c =

@@ -4,7 +4,7 @@ use Rattle.mesh_basis.specs.Meshes.{all_from}
 use Rattle.primitives.specs.Variables.{quadric_seat}
 use Rattle.primitives.specs.Quadrics.{halves, patch_at}
 use Rattle.primitives.proofs.Seating.{mesh_behind}
-use Rattle.primitives.proofs.quadrics.quadric_seated.Given as goal
+use Rattle.primitives.proofs.quarters.quadric_seated.Given as goal
 
 abbrev pub invariant-loop-k : goal.invariant-loop-k
 invariant-loop-k l =

@@ -7,7 +7,7 @@ use Rattle.primitives.specs.Variables.{quadric_seat}
 use Rattle.primitives.specs.Quadrics.{halves, patch_at}
 use Rattle.primitives.specs.Patches.{PatchValue, patch_with}
 use Rattle.primitives.proofs.Seating.{mesh_start, mesh_next, mesh_none, mesh_end}
-use Rattle.primitives.proofs.quadrics.quadric_seated.Goals as goal
+use Rattle.primitives.proofs.quarters.quadric_seated.Goals as goal
 
 pub returns-in_default : goal.returns-in_default
 returns-in_default c =
