@@ -13,15 +13,17 @@ const LEFT: &[u8] =
 const FOREIGN: &[u8] =
     b"REYPART1\0\0\0\x05\0\0\0\x01\0\0\0\xff\0\0\0\x04\0\0\0\x4e\0\0\0\x01\0\0\0\0abcdefghijkl";
 
+// The bytes of a text, in memory of their own.
+fn bytes_of(alloc: Global, text: &[u8]) -> Result<List<u8>, Fail> {
+    let mut bytes = Vec::new(alloc);
+    bytes.extend_from_slice(text)?;
+    Ok(List(bytes))
+}
+
 // What becomes of two parts.
 fn joined(alloc: Global, first: &[u8], second: &[u8]) -> Result<Result<Vec<u8>, JoinFault>, Fail> {
-    let mut parts = Vec::new(alloc);
-    for text in [first, second] {
-        let mut bytes = Vec::new(alloc);
-        bytes.extend_from_slice(text)?;
-        parts.push(List(bytes))?;
-    }
-    Ok(join(alloc, parts.as_slice()))
+    let parts = [bytes_of(alloc, first)?, bytes_of(alloc, second)?];
+    Ok(join(alloc, &parts))
 }
 
 #[test]
