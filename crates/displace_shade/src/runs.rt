@@ -108,6 +108,19 @@ fn run_into<'s, 'a>(
     run(code, arena, &inputs, &lights, out)
 }
 
+/// So many zeros. They are put a kilobyte at a time, for which no instruction has to go through memory byte by byte.
+fn zero_rows<'a>(arena: &'a Bump, count: usize) -> Result<Vec<i64, &'a Bump>, NoMemory>
+    ensures { IfOk result (λ rows. length rows.items ≡ count) }
+{
+    let zeros = [0; 128];
+    let mut rows = Vec::with_capacity(arena, count)?;
+    for _ in 0..count / 128 {
+        rows.extend_from_slice(&zeros)?;
+    }
+    rows.extend_from_slice(&zeros[..count % 128])?;
+    Ok(rows)
+}
+
 /// The six rows that a run of a shader under lights leaves.
 fn run_on<'a, 's>(
     arena: &'a Bump,
@@ -125,7 +138,7 @@ fn run_on<'a, 's>(
 {
     let spaces = kept(arena, spaces_of(leaf, bound.space))?;
     let width = length_of_row(leaf.point_count());
-    let zeros = vec![in arena; 0; 6 * width]?;
+    let zeros = zero_rows(arena, 6 * width)?;
     let out = into_bump_slice_mut(zeros);
     run_into(arena, leaf, bound, lamps, spaces, uniforms, rows, out)?;
     Ok(out)

@@ -1,4 +1,4 @@
-use Rattle.std.proofs.Common.{◌≡◌, ◌*◌, length, refl, sym, ap, ◌∙◌}
+use Rattle.std.proofs.Common.{◌*◌, length, refl, sym, ap, ◌∙◌}
 use Rattle.place_rows.specs.Layout.{row_length}
 use Rattle.grid_variables.specs.Places.{point_count}
 use Rattle.displace_shade.specs.Shop.{bound_value}
@@ -9,13 +9,11 @@ run_into-requires-clause-spaces c = c.in_ok-spaces.ensures ∙ c.spaces_of.ensur
 
 pub run_into-requires-clause-out : goal.run_into-requires-clause-out
 run_into-requires-clause-out c =
-    let items : length c.in_ok-zeros.zeros.items ≡ c.in_ok-zeros.zeros.len = sym c.in_ok-zeros.zeros.ok.0 in
-    ap (λ xs. length xs) c.into_bump_slice_mut-out.ensures ∙ items ∙ c.in_ok-zeros.ensures.len ∙ ap (λ w. 6 * w) (c.length_of_row-width.ensures.value ∙ ap row_length c.point_count.ensures.value) ∙ ap (λ n. n * row_length (point_count c.args.leaf.now)) (sym c.requires.given.written)
+    ap (λ xs. length xs) c.into_bump_slice_mut-out.ensures ∙ c.in_ok-zeros.ensures ∙ ap (λ w. 6 * w) (c.length_of_row-width.ensures.value ∙ ap row_length c.point_count.ensures.value) ∙ ap (λ n. n * row_length (point_count c.args.leaf.now)) (sym c.requires.given.written)
 
 pub returns-clause-long : goal.returns-clause-long
 returns-clause-long c =
-    let items : length c.in_ok-zeros.zeros.items ≡ c.in_ok-zeros.zeros.len = sym c.in_ok-zeros.zeros.ok.0 in
-    c.run_into.auto.out ∙ ap (λ xs. length xs) c.into_bump_slice_mut-out.ensures ∙ items ∙ c.in_ok-zeros.ensures.len
+    c.run_into.auto.out ∙ ap (λ xs. length xs) c.into_bump_slice_mut-out.ensures ∙ c.in_ok-zeros.ensures
     ∙ ap (λ w. 6 * w) (c.length_of_row-width.ensures.value ∙ ap row_length c.point_count.ensures.value)
 
 pub returns-clause-small : goal.returns-clause-small
