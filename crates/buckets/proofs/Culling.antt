@@ -158,10 +158,10 @@ shown_reaches v w b r s g i at =
         ap (λ c. c && overlaps (side 1 0 box) (side 1 1 box) r.top r.bottom) x ∙ y
 
 -- ---- what shows of the cells of a grid whose points lie in a box
-cell_in : (columns rows i : ℕ) (points colours opacities : List Vec3) (lo hi : Vec3) → 2 ≤ columns → 2 ≤ rows → i < (columns - 1) * (rows - 1) → ((n : ℕ) → n < columns * rows → IsInBox lo hi (get_or points n origin)) →
-    LiesIn lo hi (cell_at columns points colours opacities i)
+cell_in : (smooth : Bool) (columns rows i : ℕ) (points colours opacities : List Vec3) (lo hi : Vec3) → 2 ≤ columns → 2 ≤ rows → i < (columns - 1) * (rows - 1) → ((n : ℕ) → n < columns * rows → IsInBox lo hi (get_or points n origin)) →
+    LiesIn lo hi (cell_at smooth columns points colours opacities i)
 unfolding cell_at
-cell_in columns rows i points colours opacities lo hi hc hr h all =
+cell_in smooth columns rows i points colours opacities lo hi hc hr h all =
     let most = corner_inside columns rows i hc hr h in
     let n = first_corner columns i in
     record { a = all n (omega (arith, most)); b = all (n + 1) (omega (arith, most, hc)); c = all (n + columns + 1) most; d = all (n + columns) (omega (arith, most)) }
@@ -195,9 +195,9 @@ diced_shows a f prim part p q s is part_is hp hq =
     let b = leaf_box prim part in
     let wide = shaded_wide l a.set a.scene.uses in
     let tall = shaded_tall l a.set a.scene.uses in
-    each_given (LeafShows f prim part s) (fragment_of f.camera s) (still prim.one_sided prim.flip) (cell_at g.columns g.points g.colours g.opacities) 0 ((g.columns - 1) * (g.rows - 1))
-    (λ i h lt e. cell_shows f.camera b.low b.high prim.one_sided prim.flip (cell_at g.columns g.points g.colours g.opacities i) s h
-    (cell_in g.columns g.rows i g.points g.colours g.opacities b.low b.high wide tall (omega (arith, lt)) (shaded_in a f prim part p q is part_is hp hq)) e)
+    each_given (LeafShows f prim part s) (fragment_of f.camera s) (still prim.one_sided prim.flip) (cell_at prim.smooth g.columns g.points g.colours g.opacities) 0 ((g.columns - 1) * (g.rows - 1))
+    (λ i h lt e. cell_shows f.camera b.low b.high prim.one_sided prim.flip (cell_at prim.smooth g.columns g.points g.colours g.opacities i) s h
+    (cell_in prim.smooth g.columns g.rows i g.points g.colours g.opacities b.low b.high wide tall (omega (arith, lt)) (shaded_in a f prim part p q is part_is hp hq)) e)
 
 by_decision_shows : (a : AcceptedValue) (f : FrameValue) (prim : PrimValue) (part : Part) (d : Decision) (s : Sample) → IsShadedPrim a f prim → IsPart part → FitsPart d part →
     Each (LeafShows f prim part s) (filter_map (fragment_of f.camera s) (map (still prim.one_sided prim.flip) (leaf_cells a f prim part d)))

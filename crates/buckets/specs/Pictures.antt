@@ -1,5 +1,5 @@
 -- What a frame shows: the micropolygons of its primitives, and its picture.
-use Rattle.std.specs.Prelude.{ℕ, ◌-◌, List, [], map}
+use Rattle.std.specs.Prelude.{ℕ, ◌-◌, Bool, List, [], map}
 use Rattle.std.specs.List.{flat_map, enumerate_from}
 use Rattle.patches.specs.Parts.{Part, whole_of}
 use Rattle.quadrics.specs.AnyPatches.{patch_net, patch_width}
@@ -24,13 +24,13 @@ use Rattle.filter_ppm.specs.Film.{FilmValues, picture}
 abbrev pub decide : View → PrimValue → Part → Decision
 decide v p part = decision_of v p.rate p.bound (patch_width p.patch) (patch_net p.patch) part
 
--- the cells of a grid: each has the colour and opacity of its first point
-abbrev pub grid_cells : GridValue → List Cell
-grid_cells g = cells_of g.columns g.rows g.points g.colours g.opacities
+-- the cells of a grid: each has the colour and opacity of its first point or, where they vary, of its four
+abbrev pub grid_cells : Bool → GridValue → List Cell
+grid_cells smooth g = cells_of smooth g.columns g.rows g.points g.colours g.opacities
 
 -- the cells of a leaf, shaded
 unfoldable pub diced_cells : AcceptedValue → FrameValue → PrimValue → Part → ℕ → ℕ → List Cell
-diced_cells a f prim part p q = grid_cells (shaded (leaf_of f prim part p q) a.set a.scene.uses)
+diced_cells a f prim part p q = grid_cells prim.smooth (shaded (leaf_of f prim part p q) a.set a.scene.uses)
 
 abbrev pub leaf_cells : AcceptedValue → FrameValue → PrimValue → Part → Decision → List Cell
 leaf_cells a f prim part SplitU = []

@@ -33,9 +33,9 @@ use scene::Prim;
 // Hides the micropolygons of a shaded grid of a primitive.
 fn hide_grid(tile: &mut Tile, seen: &SeenGrid<'_>, prim: &Prim) -> Result<(), NoMemory>
     ensures grid { tile.new.grid ≡ tile.old.grid }
-    ensures shows { OnOk result ((v : View) → IsSeenBy v seen.now → ShowsMore v (map (still prim.now.one_sided prim.now.flip) (grid_cells (grid_value seen.now.grid))) tile.old tile.new) }
+    ensures shows { OnOk result ((v : View) → IsSeenBy v seen.now → ShowsMore v (map (still prim.now.one_sided prim.now.flip) (grid_cells prim.now.smooth (grid_value seen.now.grid))) tile.old tile.new) }
 {
-    tile.hide_seen(seen, prim.one_sided, prim.flip)?;
+    tile.hide_seen(seen, prim.smooth, prim.one_sided, prim.flip)?;
     Ok(())
 }
 

@@ -52,7 +52,31 @@ fn hide(
     let ci = [triple(colour)?; 4];
     let oi = [triple(opacity)?; 4];
     let grid = one_cell(&p, &ci, &oi).ok_or("four corners")?;
-    tile.hide(&GridCells { grid }, &camera, false, false)?;
+    let cells = GridCells {
+        grid,
+        smooth: false,
+    };
+    tile.hide(&cells, &camera, false, false)?;
+    Ok(())
+}
+
+// Hides a cell with these corners, each of which has a colour and an opacity of its own.
+fn hide_smooth(
+    tile: &mut Tile,
+    alloc: Global,
+    corners: &str,
+    colours: &str,
+    opacities: &str,
+) -> Result<(), Fail>
+    ensures { tile.new.grid ≡ tile.old.grid }
+{
+    let camera = camera()?;
+    let p = triples(alloc, corners)?;
+    let ci = triples(alloc, colours)?;
+    let oi = triples(alloc, opacities)?;
+    let grid = one_cell(&p, &ci, &oi).ok_or("four corners")?;
+    let cells = GridCells { grid, smooth: true };
+    tile.hide(&cells, &camera, false, false)?;
     Ok(())
 }
 
@@ -114,6 +138,30 @@ fn squares_behind_one_another(rt: HostRuntime) -> Result<(), Fail> {
                 645 53 32768 49152 100; 515 227 32768 49152 100; 678 212 32768 49152 100; 329 297 32771 5 100; \
                 415 328 32771 5 100; 288 401 32771 5 100; 385 497 32771 5 100; 523 313 32768 49152 100; \
                 679 337 32768 49152 100; 637 445 32768 49152 100; 703 387 32768 49152 100";
+    assert_eq!(rt; samples(rt.alloc(), &tile)?.as_str(), want);
+    Ok(())
+}
+
+// Its first triangle has two of the samples, its second the others.
+#[test]
+fn a_smooth_square_before_a_green_one(rt: HostRuntime) -> Result<(), Fail> {
+    let mut tile = Tile::new(rt.alloc(), [1, 0, 3, 2], 2, 2)?;
+    let near = "-65536 -65536 65536, 65536 -65536 65536, -65536 65536 65536, 65536 65536 65536";
+    hide_smooth(
+        &mut tile,
+        rt.alloc(),
+        near,
+        "0 0 0, 65536 0 0, 0 65536 0, 65536 65536 30000",
+        "65536 65536 65536, 32768 65536 0, 65536 65536 65536, 65536 0 65536",
+    )?;
+    assert!(rt; !tile.all_behind(Num::sat(131072)));
+    let far = "-65536 -65536 131072, 65536 -65536 131072, -65536 65536 131072, 65536 65536 131072";
+    hide(&mut tile, rt.alloc(), far, "0 65536 0", "65536 65536 65536")?;
+    let want =
+        "362 1 23168 88640 10605; 388 64 24832 86272 11367; 260 152 16640 72448 7617; 438 154 28032 83712 12832; \
+                615 10 39360 104256 18017; 645 53 41280 103424 18896; 515 227 32960 83968 15087; 678 212 43392 95360 19863; \
+                329 297 21056 67584 9638; 415 328 26560 71104 12158; 288 401 18432 58304 8437; 385 497 24640 58368 11279; \
+                523 313 33472 78976 15322; 679 337 43456 87424 19892; 637 445 40768 74112 16962; 703 387 44992 81536 18662";
     assert_eq!(rt; samples(rt.alloc(), &tile)?.as_str(), want);
     Ok(())
 }

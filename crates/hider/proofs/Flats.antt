@@ -1,4 +1,4 @@
--- Micropolygons of one colour and opacity.
+-- Micropolygons of a grid whose points were put on the raster before.
 use Rattle.std.proofs.Common.{◌≡◌, ℕ, ◌<◌, ◌≤◌, ap, arith, refl, sym, ◌∙◌, Bool, true, false, List, [], ◌∷◌, inl, inr, slice_index_or, length}
 use Rattle.std.specs.Prelude.{ℤ, pos, negsuc, zero, suc, ◌+ℤ◌, ◌<ℤ◌, ◌&&◌, int_le, Option, Some, None, is_some}
 use Rattle.std.specs.List.{cons_option}
@@ -9,9 +9,12 @@ use Rattle.fixed_math.specs.declared.vec3.Vec3.{Vec3}
 use Rattle.fixed_math.specs.Axes.{origin}
 use Rattle.fixed_math.specs.Edges.{edge}
 use Rattle.fixed_math.specs.Spots.{Spot}
+use Rattle.dice.specs.declared.diced.GridRef.{GridRef}
 use Rattle.transforms.specs.declared.view.View.{View}
+use Rattle.transforms.specs.Raster.{raster_x, raster_y}
 use Rattle.hider.specs.declared.areas.Areas.{Areas}
 use Rattle.hider.specs.declared.bounds.Bounds.{Bounds}
+use Rattle.hider.specs.declared.cell.Cell.{Cell}
 use Rattle.hider.specs.declared.facing.Facing.{Facing}
 use Rattle.hider.specs.declared.flat_cell.FlatCell.{FlatCell}
 use Rattle.hider.specs.declared.fragment.Fragment.{Fragment}
@@ -21,9 +24,9 @@ use Rattle.hider.specs.declared.sample.Sample.{Sample}
 use Rattle.hider.specs.declared.sample_grid.SampleGrid.{SampleGrid}
 use Rattle.hider.specs.Bounding.{bounds_of, holds}
 use Rattle.hider.specs.Cells.{still, corner_of, projected, is_all_in_depth, is_turned_away, turn, seen, quad_of}
-use Rattle.hider.specs.CellValues.{CellValues, cell_when, grid_values, micropolygon_of}
+use Rattle.hider.specs.CellValues.{CellValues, cell_when, grid_values, values_of, micropolygon_of}
 use Rattle.hider.specs.Coverage.{is_in_three, areas_at, mean_at, means_at, by_sign, covers_facing, covers_triangle, covers}
-use Rattle.hider.specs.Flat.{is_seen, raster_point, AreOnRaster, flat_corner, flat_quad, are_all_seen, IsFlat, facing_covers, IsFacingOf}
+use Rattle.hider.specs.Flat.{is_seen, raster_point, AreOnRaster, AreBoxes, flat_corner, flat_quad, are_all_seen, IsPlaced, IsFlat, facing_covers, IsFacingOf}
 use Rattle.hider.specs.Fragments.{fragment_of, covering}
 use Rattle.hider.specs.Searching.{StaysIn, LiesBeside, column_of, row_of}
 use Rattle.hider.specs.Tiles.{HavePut, sample_of}
@@ -59,17 +62,17 @@ all_seen f e =
 projected_is : (v : View) (k : CellValues) (i : ℕ) (f : FlatCell) → IsFlat v k i f → AreSeen f → projected v (cell_when k i 0) ≡ flat_quad f
 unfolding projected cell_when flat_quad
 projected_is v k i f h s =
-    let a = corner_is v (k.corner i 0 0) (k.colour i) (k.opacity i) f f.a h.a h.colour h.opacity s.a in
-    let b = corner_is v (k.corner i 1 0) (k.colour i) (k.opacity i) f f.b h.b h.colour h.opacity s.b in
-    let c = corner_is v (k.corner i 2 0) (k.colour i) (k.opacity i) f f.c h.c h.colour h.opacity s.c in
-    let d = corner_is v (k.corner i 3 0) (k.colour i) (k.opacity i) f f.d h.d h.colour h.opacity s.d in
+    let a = corner_is v (k.corner i 0 0) (k.colour i 0) (k.opacity i 0) f f.a h.placed.a (h.colour 0) (h.opacity 0) s.a in
+    let b = corner_is v (k.corner i 1 0) (k.colour i 1) (k.opacity i 1) f f.b h.placed.b (h.colour 1) (h.opacity 1) s.b in
+    let c = corner_is v (k.corner i 2 0) (k.colour i 2) (k.opacity i 2) f f.c h.placed.c (h.colour 2) (h.opacity 2) s.c in
+    let d = corner_is v (k.corner i 3 0) (k.colour i 3) (k.opacity i 3) f f.d h.placed.d (h.colour 3) (h.opacity 3) s.d in
     rw (a, b, c, d) refl
 
 seen_is : (v : View) (p : Vec3) (r : RasterPoint) → r ≡ raster_point v p → is_seen v p.z ≡ r.is_seen
 unfolding raster_point
 seen_is v p r e = sym (ap (λ (x : RasterPoint). x.is_seen) e)
 
-depth_is : (v : View) (k : CellValues) (i : ℕ) (f : FlatCell) → IsFlat v k i f → is_all_in_depth v (cell_when k i 0) ≡ are_all_seen f
+depth_is : (v : View) (k : CellValues) (i : ℕ) (f : FlatCell) → IsPlaced v k.corner i f → is_all_in_depth v (cell_when k i 0) ≡ are_all_seen f
 unfolding is_all_in_depth cell_when
 depth_is v k i f h =
     let a = seen_is v (k.corner i 0 0) f.a h.a in
@@ -78,24 +81,56 @@ depth_is v k i f h =
     let d = seen_is v (k.corner i 3 0) f.d h.d in
     rw (a, b, c, d) refl
 
--- what is seen of such a cell
+-- ---- what a camera sees of a cell
+seen_cell : (v : View) (one_sided flip : Bool) (k : Cell) (s : Sample) → is_all_in_depth v k ≡ true →
+    fragment_of v s (still one_sided flip k) ≡ option_and_then (λ q. covers q s.place) (seen one_sided flip (projected v k))
+unfolding fragment_of quad_of
+seen_cell v one_sided flip k s d = rw d refl
+
+pub seen_placed_put : (v : View) (k : CellValues) (i : ℕ) (f : FlatCell) (one_sided flip : Bool) (g : SampleGrid) (a b : List (List Fragment)) → IsPlaced v k.corner i f → are_all_seen f ≡ true →
+    HavePut g (λ s. cons_option (option_and_then (λ q. covers q s.place) (seen one_sided flip (projected v (cell_when k i 0)))) []) a b → HavePut g (covering v (still one_sided flip (cell_when k i 0) ∷ [])) a b
+seen_placed_put v k i f one_sided flip g a b h e p n d l =
+    let u = seen_cell v one_sided flip (cell_when k i 0) (sample_of g n) (depth_is v k i f h ∙ e) in
+    rw u (p n d l)
+
+-- ---- its box, whatever its colours
+place_is : (v : View) (p : Vec3) (r : RasterPoint) → r ≡ raster_point v p → r.is_seen ≡ true → r.place ≡ record { x = raster_x v p; y = raster_y v p }
+unfolding raster_point
+place_is v p r e s =
+    let t : is_seen v p.z ≡ true = sym (ap (λ (x : RasterPoint). x.is_seen) e) ∙ s in
+    rw (e, t) refl
+
+pub placed_box : (v : View) (k : CellValues) (i : ℕ) (f : FlatCell) → IsPlaced v k.corner i f → are_all_seen f ≡ true → bounds_of (flat_quad f) ≡ bounds_of (projected v (cell_when k i 0))
+unfolding bounds_of flat_quad projected corner_of cell_when
+placed_box v k i f h e =
+    let s = all_seen f e in
+    let a = place_is v (k.corner i 0 0) f.a h.a s.a in
+    let b = place_is v (k.corner i 1 0) f.b h.b s.b in
+    let c = place_is v (k.corner i 2 0) f.c h.c s.c in
+    let d = place_is v (k.corner i 3 0) f.d h.d s.d in
+    rw (a, b, c, d) refl
+
+pub boxes_of_any : (v : View) (g : GridRef) (boxes : List Bounds) (smooth : Bool) → AreBoxes v (values_of false g) boxes → AreBoxes v (values_of smooth g) boxes
+boxes_of_any v g boxes smooth h = record { count = h.count; each = h.each }
+
+-- ---- a cell of one colour
 seen_flat : (v : View) (k : CellValues) (i : ℕ) (f : FlatCell) (one_sided flip : Bool) (s : Sample) → IsFlat v k i f → are_all_seen f ≡ true →
     fragment_of v s (still one_sided flip (cell_when k i 0)) ≡ option_and_then (λ q. covers q s.place) (seen one_sided flip (flat_quad f))
 unfolding fragment_of quad_of
 seen_flat v k i f one_sided flip s h e =
-    let d = depth_is v k i f h ∙ e in
+    let d = depth_is v k i f h.placed ∙ e in
     let p = projected_is v k i f h (all_seen f e) in
     rw (d, p) refl
 
-unseen_flat : (v : View) (k : CellValues) (i : ℕ) (f : FlatCell) (one_sided flip : Bool) (s : Sample) → IsFlat v k i f → are_all_seen f ≡ false →
+unseen_placed : (v : View) (k : CellValues) (i : ℕ) (f : FlatCell) (one_sided flip : Bool) (s : Sample) → IsPlaced v k.corner i f → are_all_seen f ≡ false →
     fragment_of v s (still one_sided flip (cell_when k i 0)) ≡ None
 unfolding fragment_of quad_of
-unseen_flat v k i f one_sided flip s h e = let d = depth_is v k i f h ∙ e in rw d refl
+unseen_placed v k i f one_sided flip s h e = let d = depth_is v k i f h ∙ e in rw d refl
 
 -- what is put in of one that isn't seen
-pub unseen_flat_put : (v : View) (k : CellValues) (i : ℕ) (f : FlatCell) (one_sided flip : Bool) (g : SampleGrid) (a : List (List Fragment)) → IsFlat v k i f → are_all_seen f ≡ false →
+pub unseen_placed_put : (v : View) (k : CellValues) (i : ℕ) (f : FlatCell) (one_sided flip : Bool) (g : SampleGrid) (a : List (List Fragment)) → IsPlaced v k.corner i f → are_all_seen f ≡ false →
     HavePut g (covering v (still one_sided flip (cell_when k i 0) ∷ [])) a a
-unseen_flat_put v k i f one_sided flip g a h e n d l = let u = unseen_flat v k i f one_sided flip (sample_of g n) h e in rw u refl
+unseen_placed_put v k i f one_sided flip g a h e n d l = let u = unseen_placed v k i f one_sided flip (sample_of g n) h e in rw u refl
 
 -- of one that is
 pub seen_flat_put : (v : View) (k : CellValues) (i : ℕ) (f : FlatCell) (one_sided flip : Bool) (g : SampleGrid) (a b : List (List Fragment)) → IsFlat v k i f → are_all_seen f ≡ true →
@@ -106,9 +141,9 @@ seen_flat_put v k i f one_sided flip g a b h e p n d l = let u = seen_flat v k i
 outside_seen : (q : Quad) (one_sided flip : Bool) (s : Spot) → covers q s ≡ None → option_and_then (λ r. covers r s) (seen one_sided flip q) ≡ None
 outside_seen q one_sided flip s e = by_bool (is_turned_away one_sided flip (turn q)) (λ t. rw t refl) (λ t. rw t e)
 
-pub outside_put : (f : FlatCell) (one_sided flip : Bool) (g part : SampleGrid) (a : List (List Fragment)) → StaysIn part g (λ s. covers (flat_quad f) s.place) → ((n : ℕ) → LiesBeside part g n) →
-    HavePut g (λ s. cons_option (option_and_then (λ q. covers q s.place) (seen one_sided flip (flat_quad f))) []) a a
-outside_put f one_sided flip g part a s b n d l = let u = outside_seen (flat_quad f) one_sided flip (sample_of g n).place (s n l (b n)) in rw u refl
+pub outside_put : (q : Quad) (one_sided flip : Bool) (g part : SampleGrid) (a : List (List Fragment)) → StaysIn part g (λ s. covers q s.place) → ((n : ℕ) → LiesBeside part g n) →
+    HavePut g (λ s. cons_option (option_and_then (λ r. covers r s.place) (seen one_sided flip q)) []) a a
+outside_put q one_sided flip g part a s b n d l = let u = outside_seen q one_sided flip (sample_of g n).place (s n l (b n)) in rw u refl
 
 -- a part without columns or without rows
 pub no_column : (part g : SampleGrid) (n : ℕ) → part.right ≤ part.left → LiesBeside part g n
@@ -118,14 +153,14 @@ pub no_row : (part g : SampleGrid) (n : ℕ) → part.bottom ≤ part.top → Li
 no_row part g n h = by_lt (row_of g n) part.top (λ l. inr (inr (inl l))) (λ l. inr (inr (inr (omega (arith, l, h)))))
 
 -- turned away
-pub away_put : (f : FlatCell) (one_sided flip : Bool) (g : SampleGrid) (a : List (List Fragment)) → is_turned_away one_sided flip (turn (flat_quad f)) ≡ true →
-    HavePut g (λ s. cons_option (option_and_then (λ q. covers q s.place) (seen one_sided flip (flat_quad f))) []) a a
-away_put f one_sided flip g a e n d l = rw e refl
+pub away_put : (q : Quad) (one_sided flip : Bool) (g : SampleGrid) (a : List (List Fragment)) → is_turned_away one_sided flip (turn q) ≡ true →
+    HavePut g (λ s. cons_option (option_and_then (λ r. covers r s.place) (seen one_sided flip q)) []) a a
+away_put q one_sided flip g a e n d l = rw e refl
 
 -- and not
-pub facing_put : (f : FlatCell) (one_sided flip : Bool) (g : SampleGrid) (a b : List (List Fragment)) → is_turned_away one_sided flip (turn (flat_quad f)) ≡ false →
-    HavePut g (λ s. cons_option (covers (flat_quad f) s.place) []) a b → HavePut g (λ s. cons_option (option_and_then (λ q. covers q s.place) (seen one_sided flip (flat_quad f))) []) a b
-facing_put f one_sided flip g a b e p n d l = rw e (p n d l)
+pub facing_put : (q : Quad) (one_sided flip : Bool) (g : SampleGrid) (a b : List (List Fragment)) → is_turned_away one_sided flip (turn q) ≡ false →
+    HavePut g (λ s. cons_option (covers q s.place) []) a b → HavePut g (λ s. cons_option (option_and_then (λ r. covers r s.place) (seen one_sided flip q)) []) a b
+facing_put q one_sided flip g a b e p n d l = rw e (p n d l)
 
 -- ---- a triangle turned
 above_is : {A : Type 0} (z : ℤ) (p q r : A) → pos 0 <ℤ z → r ≡ by_sign z p q r
@@ -198,10 +233,10 @@ by_second f t u s ht hu e =
     rw (← x, ← y, n) refl
 
 -- ---- a grid's cells stay where they are
-pub same_at_all_times : (v : View) (columns rows : ℕ) (p ci oi : List Vec3) (i : ℕ) (one_sided flip : Bool) (g : SampleGrid) (a b : List (List Fragment)) →
-    HavePut g (covering v (still one_sided flip (cell_when (grid_values columns rows p ci oi) i 0) ∷ [])) a b → HavePut g (covering v (micropolygon_of (grid_values columns rows p ci oi) one_sided flip i ∷ [])) a b
+pub same_at_all_times : (v : View) (smooth : Bool) (columns rows : ℕ) (p ci oi : List Vec3) (i : ℕ) (one_sided flip : Bool) (g : SampleGrid) (a b : List (List Fragment)) →
+    HavePut g (covering v (still one_sided flip (cell_when (grid_values smooth columns rows p ci oi) i 0) ∷ [])) a b → HavePut g (covering v (micropolygon_of (grid_values smooth columns rows p ci oi) one_sided flip i ∷ [])) a b
 unfolding fragment_of cell_when
-same_at_all_times v columns rows p ci oi i one_sided flip g a b h n d l = h n d l
+same_at_all_times v smooth columns rows p ci oi i one_sided flip g a b h n d l = h n d l
 
 -- ---- a grid's points
 pub seen_at : (v : View) (points : List Vec3) (seen : List RasterPoint) (n m : ℕ) (r : RasterPoint) → AreOnRaster v points seen → n < length points → r ≡ slice_index_or seen n r → n ≡ m →

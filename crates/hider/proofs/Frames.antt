@@ -33,9 +33,9 @@ pub shows_further : (t : TileValue) (v : View) (ms ns : List Micropolygon) → S
 shows_further t v ms ns h = same_shown t (with_covering v ns (fragments v ms)) (fragments v (ms ++ ns)) (λ s. sym (with_fragments v ms ns s)) h
 
 -- where those of a grid were
-pub shows_grid : (t : TileValue) (v : View) (ms : List Micropolygon) (columns rows : ℕ) (points colours opacities : List Vec3) (one_sided flip : Bool) →
-    Shows t (with_covering v (micropolygons_of (grid_values columns rows points colours opacities) one_sided flip) (fragments v ms)) →
-    Shows t (fragments v (ms ++ map (still one_sided flip) (cells_of columns rows points colours opacities)))
-shows_grid t v ms columns rows points colours opacities one_sided flip h =
-    shows_further t v ms (map (still one_sided flip) (cells_of columns rows points colours opacities))
-    (rw (grid_cells_are columns rows points colours opacities one_sided flip) at h)
+pub shows_grid : (t : TileValue) (v : View) (ms : List Micropolygon) (smooth : Bool) (columns rows : ℕ) (points colours opacities : List Vec3) (one_sided flip : Bool) →
+    Shows t (with_covering v (micropolygons_of (grid_values smooth columns rows points colours opacities) one_sided flip) (fragments v ms)) →
+    Shows t (fragments v (ms ++ map (still one_sided flip) (cells_of smooth columns rows points colours opacities)))
+shows_grid t v ms smooth columns rows points colours opacities one_sided flip h =
+    shows_further t v ms (map (still one_sided flip) (cells_of smooth columns rows points colours opacities))
+    (rw (grid_cells_are smooth columns rows points colours opacities one_sided flip) at h)

@@ -20,5 +20,6 @@ pub mod Showings
 pub mod Frames
 pub mod Depths
 pub mod Flats
+pub mod Smooths
 pub mod Numbers
 pub mod Besides

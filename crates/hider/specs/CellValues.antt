@@ -1,5 +1,5 @@
--- Micropolygons that are given by what can be asked of them: their corners at each time, their colours and opacities.
-use Rattle.std.specs.Prelude.{ℕ, zero, suc, ◌+◌, ◌-◌, ◌*◌, ◌<◌, ◌≤◌, ℤ, ◌≤ℤ◌, ◌≡◌, refl, Bool, List, map, slice_index_or}
+-- Micropolygons that are given by what can be asked of them: their corners at each time, and the colours and opacities of these.
+use Rattle.std.specs.Prelude.{ℕ, zero, suc, ◌+◌, ◌-◌, ◌*◌, ◌<◌, ◌≤◌, ℤ, ◌≤ℤ◌, ◌≡◌, refl, Bool, true, false, List, map, slice_index_or}
 use Rattle.std.specs.Int.{int_min, int_max}
 use Rattle.std.specs.List.{range_with_len}
 use Rattle.std.proofs.Common.{arith}
@@ -10,17 +10,17 @@ use Rattle.fixed_math.specs.Axes.{part_of, origin}
 use Rattle.dice.specs.declared.diced.GridRef.{GridRef}
 use Rattle.hider.specs.declared.cell.CellCorner.{CellCorner}
 use Rattle.hider.specs.declared.cell.Cell.{Cell}
-use Rattle.hider.specs.Cells.{Micropolygon, first_corner}
+use Rattle.hider.specs.Cells.{Micropolygon, first_corner, shade_point}
 
--- so many cells, each with corner k at each time, and with one colour and opacity
+-- so many cells, each with corner k at each time, and with a colour and an opacity of corner k
 pub record CellValues : Type 0 where
   pub count : ℕ
   pub corner : ℕ → ℕ → ℕ → Vec3
-  pub colour : ℕ → Vec3
-  pub opacity : ℕ → Vec3
+  pub colour : ℕ → ℕ → Vec3
+  pub opacity : ℕ → ℕ → Vec3
 
 abbrev pub corner_when : CellValues → ℕ → ℕ → ℕ → CellCorner
-corner_when v i t k = record { point = v.corner i k t; colour = v.colour i; opacity = v.opacity i }
+corner_when v i t k = record { point = v.corner i k t; colour = v.colour i k; opacity = v.opacity i k }
 
 -- cell i at a time
 unfoldable pub cell_when : CellValues → ℕ → ℕ → Cell
@@ -48,17 +48,21 @@ corner_number columns n (suc zero) = n + 1
 corner_number columns n (suc (suc zero)) = n + columns + 1
 corner_number columns n (suc (suc (suc k))) = n + columns
 
--- the cells of a grid that doesn't move
-abbrev pub grid_values : ℕ → ℕ → List Vec3 → List Vec3 → List Vec3 → CellValues
-grid_values columns rows points colours opacities = record {
+-- the number of the point whose colour and opacity corner k of cell i has
+abbrev pub shade_number : Bool → ℕ → ℕ → ℕ → ℕ
+shade_number smooth columns i k = shade_point smooth (first_corner columns i) (corner_number columns (first_corner columns i) k)
+
+-- the cells of a grid that doesn't move: of one colour and opacity each, or such that these vary over it
+abbrev pub grid_values : Bool → ℕ → ℕ → List Vec3 → List Vec3 → List Vec3 → CellValues
+grid_values smooth columns rows points colours opacities = record {
   count = (columns - 1) * (rows - 1);
   corner = λ i k t. slice_index_or points (corner_number columns (first_corner columns i) k) origin;
-  colour = λ i. slice_index_or colours (first_corner columns i) origin;
-  opacity = λ i. slice_index_or opacities (first_corner columns i) origin;
+  colour = λ i k. slice_index_or colours (shade_number smooth columns i k) origin;
+  opacity = λ i k. slice_index_or opacities (shade_number smooth columns i k) origin;
 }
 
-abbrev pub values_of : GridRef → CellValues
-values_of g = grid_values g.columns g.rows g.p.now g.ci.now g.oi.now
+abbrev pub values_of : Bool → GridRef → CellValues
+values_of smooth g = grid_values smooth g.columns g.rows g.p.now g.ci.now g.oi.now
 
 -- what stays lies between its two ends
 pub stays_between : (z : ℤ) → LiesBetween z z z
@@ -70,3 +74,10 @@ stays_between z =
 -- worked values: a grid of three columns has the second cell's corners at points 1, 2, 5 and 4
 third_corner : corner_number 3 (first_corner 3 1) 2 ≡ 5
 third_corner = refl
+
+-- its third corner has the colour of point 1, or where that varies, of point 5
+of_the_first : shade_number false 3 1 2 ≡ 1
+of_the_first = refl
+
+of_its_own : shade_number true 3 1 2 ≡ 5
+of_its_own = refl

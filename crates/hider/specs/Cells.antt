@@ -11,32 +11,41 @@ use Rattle.hider.specs.declared.cell.Cell.{Cell}
 use Rattle.hider.specs.declared.quad.Corner.{Corner}
 use Rattle.hider.specs.declared.quad.Quad.{Quad}
 
--- point n of a grid as a corner of this colour and opacity
-abbrev pub cell_corner : List Vec3 → Vec3 → Vec3 → ℕ → CellCorner
-cell_corner points colour opacity n = record { point = slice_index_or points n origin; colour = colour; opacity = opacity }
+-- the point whose colour and opacity corner n of a cell has, of which point m is the first: that one, or where they vary over the
+-- cell, its own
+abbrev pub shade_point : Bool → ℕ → ℕ → ℕ
+shade_point false m n = m
+shade_point true m n = n
 
--- the corners whose first is point n of a grid with this many columns of points, by rows, all of one colour and opacity
-abbrev pub cell_from : ℕ → List Vec3 → Vec3 → Vec3 → ℕ → Cell
-cell_from columns points colour opacity n = record {
-  a = cell_corner points colour opacity n;
-  b = cell_corner points colour opacity (n + 1);
-  c = cell_corner points colour opacity (n + columns + 1);
-  d = cell_corner points colour opacity (n + columns);
+-- point n of a grid as a corner of a cell of which point m is the first
+abbrev pub cell_corner : Bool → List Vec3 → List Vec3 → List Vec3 → ℕ → ℕ → CellCorner
+cell_corner smooth points colours opacities m n = record {
+  point = slice_index_or points n origin;
+  colour = slice_index_or colours (shade_point smooth m n) origin;
+  opacity = slice_index_or opacities (shade_point smooth m n) origin;
+}
+
+-- the corners whose first is point n of a grid with this many columns of points, by rows
+abbrev pub cell_from : Bool → ℕ → List Vec3 → List Vec3 → List Vec3 → ℕ → Cell
+cell_from smooth columns points colours opacities n = record {
+  a = cell_corner smooth points colours opacities n n;
+  b = cell_corner smooth points colours opacities n (n + 1);
+  c = cell_corner smooth points colours opacities n (n + columns + 1);
+  d = cell_corner smooth points colours opacities n (n + columns);
 }
 
 -- the number of the first corner of cell i: cells go by rows, one fewer in a row than points
 abbrev pub first_corner : ℕ → ℕ → ℕ
 first_corner columns i = i / (columns - 1) * columns + i % (columns - 1)
 
--- cell i: each of its corners has the colour and opacity of the first
-unfoldable pub cell_at : ℕ → List Vec3 → List Vec3 → List Vec3 → ℕ → Cell
-cell_at columns points colours opacities i =
-    let n = first_corner columns i in
-    cell_from columns points (slice_index_or colours n origin) (slice_index_or opacities n origin) n
+-- cell i: each of its corners has the colour and opacity of the first or, under smooth interpolation, its own (RenderMan
+-- Interface 3.2, ShadingInterpolation)
+unfoldable pub cell_at : Bool → ℕ → List Vec3 → List Vec3 → List Vec3 → ℕ → Cell
+cell_at smooth columns points colours opacities i = cell_from smooth columns points colours opacities (first_corner columns i)
 
 -- all cells of a grid of columns by rows points, by rows
-abbrev pub cells_of : ℕ → ℕ → List Vec3 → List Vec3 → List Vec3 → List Cell
-cells_of columns rows points colours opacities = map (cell_at columns points colours opacities) (range_with_len 0 ((columns - 1) * (rows - 1)))
+abbrev pub cells_of : Bool → ℕ → ℕ → List Vec3 → List Vec3 → List Vec3 → List Cell
+cells_of smooth columns rows points colours opacities = map (cell_at smooth columns points colours opacities) (range_with_len 0 ((columns - 1) * (rows - 1)))
 
 -- a micropolygon: its corners at each time of the shutter's interval, from 0 to 65535, whether it has one side alone, and
 -- whether that is the other one

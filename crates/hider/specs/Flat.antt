@@ -1,10 +1,12 @@
--- Micropolygons of one colour and opacity, whose corners were put on the raster before.
-use Rattle.std.specs.Prelude.{◌≡◌, ℕ, ◌<◌, ℤ, pos, Bool, cond, ◌&&◌, int_le, Option, Some, None, List, length, slice_index_or}
+-- Micropolygons of a grid whose points were put on the raster before: those of one colour and opacity, and those whose corners have
+-- their own.
+use Rattle.std.specs.Prelude.{◌≡◌, ℕ, ◌<◌, ℤ, pos, Bool, false, cond, ◌&&◌, int_le, Option, Some, None, List, length, slice_index_or}
 use Rattle.fixed_math.specs.declared.vec3.Vec3.{Vec3}
 use Rattle.fixed_math.specs.Axes.{origin}
 use Rattle.fixed_math.specs.Spots.{Spot}
 use Rattle.transforms.specs.declared.view.View.{View}
 use Rattle.transforms.specs.Raster.{raster_x, raster_y}
+use Rattle.dice.specs.declared.diced.GridRef.{GridRef}
 use Rattle.hider.specs.declared.bounds.Bounds.{Bounds}
 use Rattle.hider.specs.declared.facing.Facing.{Facing}
 use Rattle.hider.specs.declared.flat_cell.FlatCell.{FlatCell}
@@ -12,10 +14,12 @@ use Rattle.hider.specs.declared.fragment.Fragment.{Fragment}
 use Rattle.hider.specs.declared.quad.Corner.{Corner}
 use Rattle.hider.specs.declared.quad.Quad.{Quad}
 use Rattle.hider.specs.declared.raster_point.RasterPoint.{RasterPoint}
+use Rattle.hider.specs.declared.sample.Sample.{Sample}
 use Rattle.hider.specs.declared.seen_grid.SeenGrid.{SeenGrid}
 use Rattle.hider.specs.Bounding.{bounds_of}
-use Rattle.hider.specs.CellValues.{CellValues, values_of}
+use Rattle.hider.specs.CellValues.{CellValues, values_of, micropolygons_of}
 use Rattle.hider.specs.Coverage.{covers_facing, covers_triangle}
+use Rattle.hider.specs.Tiles.{TileValue, Shows, with_covering}
 
 -- a depth from near to far
 abbrev pub is_seen : View → ℤ → Bool
@@ -44,24 +48,37 @@ flat_quad f = record { a = flat_corner f f.a; b = flat_corner f f.b; c = flat_co
 abbrev pub are_all_seen : FlatCell → Bool
 are_all_seen f = f.a.is_seen && (f.b.is_seen && (f.c.is_seen && f.d.is_seen))
 
--- f is cell i of cells that stay where they are
+-- the corners of f are those of cell i of cells that stay where they are
+pub record IsPlaced (v : View) (corner : ℕ → ℕ → ℕ → Vec3) (i : ℕ) (f : FlatCell) : Type 0 where
+  pub a : f.a ≡ raster_point v (corner i 0 0)
+  pub b : f.b ≡ raster_point v (corner i 1 0)
+  pub c : f.c ≡ raster_point v (corner i 2 0)
+  pub d : f.d ≡ raster_point v (corner i 3 0)
+
+-- f is that cell, whose corners all have one colour and opacity
 pub record IsFlat (v : View) (k : CellValues) (i : ℕ) (f : FlatCell) : Type 0 where
-  pub a : f.a ≡ raster_point v (k.corner i 0 0)
-  pub b : f.b ≡ raster_point v (k.corner i 1 0)
-  pub c : f.c ≡ raster_point v (k.corner i 2 0)
-  pub d : f.d ≡ raster_point v (k.corner i 3 0)
-  pub colour : f.colour ≡ k.colour i
-  pub opacity : f.opacity ≡ k.opacity i
+  pub placed : IsPlaced v k.corner i f
+  pub colour : (j : ℕ) → f.colour ≡ k.colour i j
+  pub opacity : (j : ℕ) → f.opacity ≡ k.opacity i j
 
 -- the boxes round all cells, in order
 pub record AreBoxes (v : View) (k : CellValues) (boxes : List Bounds) : Type 0 where
   pub count : length boxes ≡ k.count
-  pub each : (i : ℕ) (d : Bounds) (f : FlatCell) → i < k.count → IsFlat v k i f → slice_index_or boxes i d ≡ bounds_of (flat_quad f)
+  pub each : (i : ℕ) (d : Bounds) (f : FlatCell) → i < k.count → IsPlaced v k.corner i f → slice_index_or boxes i d ≡ bounds_of (flat_quad f)
 
--- a grid as a camera sees it
+-- a grid as a camera sees it, whatever its colours
 pub record IsSeenBy (v : View) (s : SeenGrid) : Type 0 where
   pub points : AreOnRaster v s.grid.p.now s.points.now
-  pub boxes : AreBoxes v (values_of s.grid) s.boxes.now
+  pub boxes : AreBoxes v (values_of false s.grid) s.boxes.now
+
+-- a tile that showed what some function of samples gives shows that with what any camera sees of the grid's micropolygons
+abbrev pub ShowsSeen : SeenGrid → Bool → Bool → Bool → TileValue → TileValue → Type 0
+ShowsSeen s smooth one_sided flip old new =
+    (v : View) (f : Sample → List Fragment) → IsSeenBy v s → Shows old f → Shows new (with_covering v (micropolygons_of (values_of smooth s.grid) one_sided flip) f)
+
+-- point n of a grid, which is on the raster, as a corner with its own colour and opacity
+abbrev pub own_corner : GridRef → RasterPoint → ℕ → Corner
+own_corner g p n = record { place = p.place; depth = p.depth; colour = slice_index_or g.ci.now n origin; opacity = slice_index_or g.oi.now n origin }
 
 -- what a triangle of a micropolygon shows, if it is one
 abbrev pub facing_covers : FlatCell → Option Facing → Spot → Option Fragment

@@ -79,9 +79,9 @@ abbrev pub GoesOn : View → TileValue → List Micropolygon → List Micropolyg
 GoesOn v t ks ns = (ms : List Micropolygon) → Shows t (with_covering v ks (fragments v ms)) → Shows t (fragments v (ms ++ ns))
 
 -- the same of the cells of a grid, which stay where they are
-abbrev pub HidesGrid : View → TileValue → Bool → Bool → ℕ → ℕ → List Vec3 → List Vec3 → List Vec3 → Type 0
-HidesGrid v t one_sided flip columns rows points colours opacities =
-    GoesOn v t (micropolygons_of (grid_values columns rows points colours opacities) one_sided flip) (map (still one_sided flip) (cells_of columns rows points colours opacities))
+abbrev pub HidesGrid : View → TileValue → Bool → Bool → Bool → ℕ → ℕ → List Vec3 → List Vec3 → List Vec3 → Type 0
+HidesGrid v t smooth one_sided flip columns rows points colours opacities =
+    GoesOn v t (micropolygons_of (grid_values smooth columns rows points colours opacities) one_sided flip) (map (still one_sided flip) (cells_of smooth columns rows points colours opacities))
 
 -- at each sample an opaque fragment lies nearer than z
 abbrev pub BlocksAll : ℤ → SampleGrid → (Sample → List Fragment) → Type 0

@@ -1,12 +1,12 @@
 // Micropolygons that may move.
 ghost use Rattle.std.specs.Prelude.{◌≡◌, ◌<◌, IfSome};
-ghost use Rattle.hider.specs.CellValues.{CellValues, MovesBetween, grid_values};
+ghost use Rattle.hider.specs.CellValues.{CellValues, MovesBetween, values_of};
 
-use dice::GridRef;
+use crate::grid_cells::GridCells;
 use fixed_math::Vec3;
 
-/// Micropolygons that may move: each is asked for its corners at a time, in 1/65536 of the shutter's interval, and for its
-/// colour and opacity. A coordinate of a corner lies at any time between those at the times 0 and 65535.
+/// Micropolygons that may move: each is asked for its corners at a time, in 1/65536 of the shutter's interval, and for their
+/// colours and opacities. A coordinate of a corner lies at any time between those at the times 0 and 65535.
 pub trait Cells {
     ghost values: { Self → CellValues };
 
@@ -20,19 +20,21 @@ pub trait Cells {
         requires corner { k < 4 }
         ensures { result ≡ (values self.now).corner cell k time };
 
-    /// The colour of a cell.
-    fn colour(&self, cell: usize) -> Vec3
-        requires { cell < (values self.now).count }
-        ensures { result ≡ (values self.now).colour cell };
+    /// The colour of corner `k` of a cell.
+    fn colour(&self, cell: usize, k: usize) -> Vec3
+        requires cell { cell < (values self.now).count }
+        requires corner { k < 4 }
+        ensures { result ≡ (values self.now).colour cell k };
 
-    /// The opacity of a cell.
-    fn opacity(&self, cell: usize) -> Vec3
-        requires { cell < (values self.now).count }
-        ensures { result ≡ (values self.now).opacity cell };
+    /// The opacity of corner `k` of a cell.
+    fn opacity(&self, cell: usize, k: usize) -> Vec3
+        requires cell { cell < (values self.now).count }
+        requires corner { k < 4 }
+        ensures { result ≡ (values self.now).opacity cell k };
 
-    /// The grid whose cells they are, where they stay where they are at all times; None where they may move.
-    fn still_grid(&self) -> Option<GridRef<'_>>
-        ensures { IfSome result (λ g. values self.now ≡ grid_values g.columns g.rows g.p.now g.ci.now g.oi.now) };
+    /// The cells of a grid that they are, where they stay where they are at all times; None where they may move.
+    fn still_grid(&self) -> Option<GridCells<'_>>
+        ensures { IfSome result (λ c. values self.now ≡ values_of c.smooth c.grid) };
 
     ghost between: { (c : Self) → MovesBetween (values c) };
 }

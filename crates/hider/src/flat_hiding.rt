@@ -1,10 +1,10 @@
-// The cells of a grid that stays where it is: its points are put on the raster once.
-ghost use Rattle.std.specs.Prelude.{◌≡◌, ◌<◌, ◌≤◌, ◌^◌, ◌+ℤ◌, [], ◌∷◌, IsTrue, OnOk, ℕ, length, unsigned_abs};
+// The cells of a grid that stays where it is, each of one colour and opacity: its points are put on the raster once.
+ghost use Rattle.std.specs.Prelude.{◌≡◌, ◌<◌, ◌≤◌, ◌^◌, ◌+ℤ◌, [], ◌∷◌, false, OnOk, ℕ, length, unsigned_abs};
 ghost use Rattle.std.specs.List.{cons_option};
 ghost use Rattle.std.specs.Option.{option_and_then};
 ghost use Rattle.transforms.specs.declared.view.View.{View};
 ghost use Rattle.hider.specs.Bounding.{bounds_of};
-ghost use Rattle.hider.specs.CellValues.{CellValues, grid_values, micropolygon_of, micropolygons_of, cell_when, values_of};
+ghost use Rattle.hider.specs.CellValues.{CellValues, micropolygons_of, cell_when, values_of};
 ghost use Rattle.hider.specs.Cells.{still, seen};
 ghost use Rattle.hider.specs.Coverage.{covers};
 ghost use Rattle.hider.specs.Flat.{AreBoxes, AreOnRaster, IsFlat, IsSeenBy, are_all_seen, flat_quad};
@@ -62,7 +62,7 @@ fn bounds_of(cell: &FlatCell) -> Bounds
     }
 }
 
-fn are_all_seen(cell: &FlatCell) -> bool
+pub(crate) fn are_all_seen(cell: &FlatCell) -> bool
     ensures { result ≡ are_all_seen cell.now }
 {
     cell.a.is_seen && cell.b.is_seen && cell.c.is_seen && cell.d.is_seen
@@ -135,10 +135,10 @@ fn hide_flat(
 }
 
 /// Cell `cell` of a grid, whose points are on the raster.
-fn flat_cell(grid: &GridRef<'_>, seen: &[RasterPoint], cell: usize) -> FlatCell
+pub(crate) fn flat_cell(grid: &GridRef<'_>, seen: &[RasterPoint], cell: usize) -> FlatCell
     requires count { length seen.now ≡ length grid.now.p.now }
-    requires cell { cell < (grid_values grid.now.columns grid.now.rows grid.now.p.now grid.now.ci.now grid.now.oi.now).count }
-    ensures { (v : View) → AreOnRaster v grid.now.p.now seen.now → IsFlat v (grid_values grid.now.columns grid.now.rows grid.now.p.now grid.now.ci.now grid.now.oi.now) cell result }
+    requires cell { cell < (values_of false grid.now).count }
+    ensures { (v : View) → AreOnRaster v grid.now.p.now seen.now → IsFlat v (values_of false grid.now) cell result }
 {
     let columns = grid.columns;
     let n = first_of(columns, cell);
@@ -159,8 +159,8 @@ pub(crate) fn fill_boxes<A: Allocator>(
     seen: &[RasterPoint],
 ) -> Result<(), NoMemory>
     requires { length seen.now ≡ length grid.now.p.now }
-    ensures count { OnOk result (length boxes.new.items ≡ (values_of grid.now).count) }
-    ensures boxes { OnOk result ((v : View) → AreOnRaster v grid.now.p.now seen.now → AreBoxes v (values_of grid.now) boxes.new.items) }
+    ensures count { OnOk result (length boxes.new.items ≡ (values_of false grid.now).count) }
+    ensures boxes { OnOk result ((v : View) → AreOnRaster v grid.now.p.now seen.now → AreBoxes v (values_of false grid.now) boxes.new.items) }
 {
     boxes.clear();
     for cell in 0..(grid.columns - 1) * (grid.rows - 1) {
@@ -179,8 +179,8 @@ fn hide_at(
     flip: bool,
 ) -> Result<(), NoMemory>
     requires enough { sample_count places.now.grid ≤ length lists.old }
-    requires cell { cell < (values_of seen.now.grid).count }
-    ensures { OnOk result ((v : View) → IsSeenBy v seen.now → HavePut places.now.grid (covering v (still one_sided flip (cell_when (values_of seen.now.grid) cell 0) ∷ [])) lists.old lists.new) }
+    requires cell { cell < (values_of false seen.now.grid).count }
+    ensures { OnOk result ((v : View) → IsSeenBy v seen.now → HavePut places.now.grid (covering v (still one_sided flip (cell_when (values_of false seen.now.grid) cell 0) ∷ [])) lists.old lists.new) }
 {
     if is_beside(&places.grid, &seen.boxes[cell]) {
         return Ok(());
@@ -199,7 +199,7 @@ pub(crate) fn hide_grid(
     flip: bool,
 ) -> Result<(), NoMemory>
     requires { sample_count places.now.grid ≤ length lists.old }
-    ensures { OnOk result ((v : View) → IsSeenBy v seen.now → HavePut places.now.grid (covering v (micropolygons_of (values_of seen.now.grid) one_sided flip)) lists.old lists.new) }
+    ensures { OnOk result ((v : View) → IsSeenBy v seen.now → HavePut places.now.grid (covering v (micropolygons_of (values_of false seen.now.grid) one_sided flip)) lists.old lists.new) }
 {
     for cell in 0..seen.boxes.len() {
         hide_at(lists, places, seen, cell, one_sided, flip)?;

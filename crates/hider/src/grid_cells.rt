@@ -1,16 +1,18 @@
 // The micropolygons of a shaded grid.
 ghost use Rattle.std.specs.Prelude.{◌≡◌, ◌<◌, ◌+◌, ◌*◌, ◌-◌, ◌≤◌, ◌^◌, map, length};
 ghost use Rattle.hider.specs.Cells.{still, first_corner, cells_of};
-ghost use Rattle.hider.specs.CellValues.{CellValues, corner_number, grid_values, micropolygons_of, stays_between};
+ghost use Rattle.hider.specs.CellValues.{CellValues, corner_number, shade_number, values_of, micropolygons_of, stays_between};
 
 use crate::cells::Cells;
 use dice::GridRef;
 use fixed_math::Vec3;
 
-/// The micropolygons of a shaded grid, at the same places at all times.
+/// The micropolygons of a shaded grid, at the same places at all times. Each has the colour and opacity of its first point, or
+/// where it is `smooth`, those of all four: they vary over the micropolygon then (RenderMan Interface 3.2, ShadingInterpolation).
 #[derive(Clone, Copy)]
 pub struct GridCells<'a> {
     pub grid: GridRef<'a>,
+    pub smooth: bool,
 }
 
 /// The number of the first corner of a cell: cells go by rows, one fewer in a row than points.
@@ -38,8 +40,25 @@ fn corner_of(columns: usize, n: usize, k: usize) -> usize
     }
 }
 
+impl<'a> GridCells<'a> {
+    /// The number of the point whose colour and opacity corner `k` of a cell has.
+    fn shade_of(&self, cell: usize, k: usize) -> usize
+        requires cell { cell < (values_of self.now.smooth self.now.grid).count }
+        requires corner { k < 4 }
+        ensures { result ≡ shade_number self.now.smooth self.now.grid.columns cell k }
+    {
+        let columns = self.grid.columns;
+        let first = first_of(columns, cell);
+        if self.smooth {
+            corner_of(columns, first, k)
+        } else {
+            first
+        }
+    }
+}
+
 impl<'a> Cells for GridCells<'a> {
-    ghost values = { λ c. grid_values c.grid.columns c.grid.rows c.grid.p.now c.grid.ci.now c.grid.oi.now };
+    ghost values = { λ c. values_of c.smooth c.grid };
 
     fn count(&self) -> usize {
         (self.grid.columns - 1) * (self.grid.rows - 1)
@@ -50,16 +69,16 @@ impl<'a> Cells for GridCells<'a> {
         self.grid.p[corner_of(columns, first_of(columns, cell), k)]
     }
 
-    fn colour(&self, cell: usize) -> Vec3 {
-        self.grid.ci[first_of(self.grid.columns, cell)]
+    fn colour(&self, cell: usize, k: usize) -> Vec3 {
+        self.grid.ci[self.shade_of(cell, k)]
     }
 
-    fn opacity(&self, cell: usize) -> Vec3 {
-        self.grid.oi[first_of(self.grid.columns, cell)]
+    fn opacity(&self, cell: usize, k: usize) -> Vec3 {
+        self.grid.oi[self.shade_of(cell, k)]
     }
 
-    fn still_grid(&self) -> Option<GridRef<'_>> {
-        Some(self.grid)
+    fn still_grid(&self) -> Option<GridCells<'_>> {
+        Some(*self)
     }
 
     ghost between = { λ c i k t a hi hk ht. stays_between _ };
@@ -67,5 +86,5 @@ impl<'a> Cells for GridCells<'a> {
 
 /// The law of the cells of a grid: they are those between its points by rows, each of which stays where it is.
 pub fn grid_cells_law(cells: &GridCells, one_sided: bool, flip: bool)
-    ensures { let g = cells.now.grid in micropolygons_of (grid_values g.columns g.rows g.p.now g.ci.now g.oi.now) one_sided flip ≡ map (still one_sided flip) (cells_of g.columns g.rows g.p.now g.ci.now g.oi.now) }
+    ensures { let g = cells.now.grid in micropolygons_of (values_of cells.now.smooth g) one_sided flip ≡ map (still one_sided flip) (cells_of cells.now.smooth g.columns g.rows g.p.now g.ci.now g.oi.now) }
 {}

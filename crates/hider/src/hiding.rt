@@ -1,9 +1,11 @@
 // Cells put on the raster and into the samples that they cover.
 ghost use Rattle.std.specs.Prelude.{◌≡◌, ◌<◌, ◌≤◌, ◌≤ℤ◌, [], ◌∷◌, OnOk, length};
+ghost use Rattle.transforms.specs.declared.view.View.{View};
 ghost use Rattle.std.specs.List.{cons_option};
 ghost use Rattle.hider.specs.Cells.{still};
-ghost use Rattle.hider.specs.CellValues.{cell_when, micropolygon_of, micropolygons_of};
+ghost use Rattle.hider.specs.CellValues.{cell_when, micropolygon_of, micropolygons_of, values_of};
 ghost use Rattle.hider.specs.Extents.{IsBelow, HoldsRaster};
+ghost use Rattle.hider.specs.Flat.{IsSeenBy};
 ghost use Rattle.hider.specs.Fragments.{covering};
 ghost use Rattle.hider.specs.Tiles.{HavePut, sample_count};
 
@@ -20,6 +22,7 @@ use crate::places::Places;
 use crate::runs::put_between;
 use crate::seen_grid::SeenGrid;
 use crate::sight::quad_of;
+use crate::smooth_hiding::hide_smooth_grid;
 use fixed_math::{NoMemory, Vec3};
 use std::alloc::Global;
 use transforms::Camera;
@@ -133,6 +136,25 @@ fn hide_all<C: Cells>(
     Ok(())
 }
 
+/// Puts in what the cells of a grid show at each sample, which is on the raster already.
+pub(crate) fn hide_seen_grid(
+    lists: &mut [FragmentList],
+    places: &Places<'_>,
+    seen: &SeenGrid<'_>,
+    smooth: bool,
+    one_sided: bool,
+    flip: bool,
+) -> Result<(), NoMemory>
+    requires { sample_count places.now.grid ≤ length lists.old }
+    ensures { OnOk result ((v : View) → IsSeenBy v seen.now → HavePut places.now.grid (covering v (micropolygons_of (values_of smooth seen.now.grid) one_sided flip)) lists.old lists.new) }
+{
+    if smooth {
+        hide_smooth_grid(lists, places, seen, one_sided, flip)
+    } else {
+        hide_grid(lists, places, seen, one_sided, flip)
+    }
+}
+
 /// Puts in what the cells show at each sample. The points of a grid that stays where it is are put on the raster once.
 pub(crate) fn hide_cells<C: Cells>(
     lists: &mut [FragmentList],
@@ -146,18 +168,18 @@ pub(crate) fn hide_cells<C: Cells>(
     requires enough { sample_count places.now.grid ≤ length lists.old }
     ensures { OnOk result (HavePut places.now.grid (covering camera.now (micropolygons_of (C.values cells.now) one_sided flip)) lists.old lists.new) }
 {
-    let Some(grid) = cells.still_grid() else {
+    let Some(still) = cells.still_grid() else {
         return hide_all(lists, places, cells, camera, one_sided, flip);
     };
     let mut points = Vec::new(alloc);
-    fill_points(&mut points, camera, grid.p)?;
+    fill_points(&mut points, camera, still.grid.p)?;
     let mut boxes = Vec::new(alloc);
-    fill_boxes(&mut boxes, &grid, points.as_slice())?;
+    fill_boxes(&mut boxes, &still.grid, points.as_slice())?;
     let seen = SeenGrid {
-        grid,
+        grid: still.grid,
         points: points.as_slice(),
         boxes: boxes.as_slice(),
     };
-    hide_grid(lists, places, &seen, one_sided, flip)?;
+    hide_seen_grid(lists, places, &seen, still.smooth, one_sided, flip)?;
     Ok(())
 }

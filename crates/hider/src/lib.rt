@@ -37,6 +37,7 @@ mod seeing;
 mod seen_grid;
 mod showing;
 mod sight;
+mod smooth_hiding;
 mod spans;
 mod spot;
 mod tile;

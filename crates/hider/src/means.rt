@@ -9,6 +9,7 @@ use crate::edges::edge_at;
 use crate::fragment::Fragment;
 use crate::quad::Corner;
 use crate::spot::Spot;
+use crate::weighed::Weighed;
 use fixed_math::{Num, Vec3, floor_div, plus, times};
 
 /// The areas of a triangle of positive area at a place inside it.
@@ -50,6 +51,18 @@ pub(crate) fn mean_at(areas: &Areas, a: Num, b: Num, c: Num) -> Num
     Num::sat(floor_div(plus(plus(at_a, at_b), at_c), areas.whole as i128))
 }
 
+/// The mean of a number of the corners, by short numbers where the areas are small.
+fn quick_mean_at(areas: &Areas, a: Num, b: Num, c: Num) -> Num
+    requires parts { AreAreas areas.now }
+    requires small { unsigned_abs areas.now.whole ≤ 2 ^ 59 }
+    ensures { result ≡ mean_at areas.now a b c }
+{
+    match Weighed::of(areas, a, b, c) {
+        None => mean_at(areas, a, b, c),
+        Some(weighed) => weighed.mean(),
+    }
+}
+
 /// The mean of a number of the corners, which is that number where all three are equal.
 #[tactic(auto, using(crate::proofs::Between::sames))]
 fn mean_or_same(areas: &Areas, a: Num, b: Num, c: Num) -> Num
@@ -60,7 +73,7 @@ fn mean_or_same(areas: &Areas, a: Num, b: Num, c: Num) -> Num
     if a.raw() == b.raw() && b.raw() == c.raw() {
         a
     } else {
-        mean_at(areas, a, b, c)
+        quick_mean_at(areas, a, b, c)
     }
 }
 

@@ -1,6 +1,6 @@
 // A micropolygon at the time of a sample.
 ghost use Rattle.std.specs.Prelude.{◌≡◌, ◌<◌};
-ghost use Rattle.hider.specs.CellValues.{cell_when, micropolygon_of};
+ghost use Rattle.hider.specs.CellValues.{corner_when, cell_when, micropolygon_of};
 ghost use Rattle.hider.specs.Fragments.{fragment_of};
 
 use crate::cell::{Cell, CellCorner};
@@ -15,24 +15,30 @@ use crate::sight::quad_of;
 use fixed_math::NoMemory;
 use transforms::Camera;
 
+/// Corner `k` of a cell at a time.
+fn corner_when<C: Cells>(cells: &C, cell: usize, k: usize, time: u16) -> CellCorner
+    requires cell { cell < (C.values cells.now).count }
+    requires corner { k < 4 }
+    ensures { result ≡ corner_when (C.values cells.now) cell time k }
+{
+    CellCorner {
+        point: cells.corner(cell, k, time),
+        colour: cells.colour(cell, k),
+        opacity: cells.opacity(cell, k),
+    }
+}
+
 /// Cell `cell` at a time.
 #[tactic(auto, unfolding(crate::specs::CellValues::cell_when))]
 pub(crate) fn cell_when<C: Cells>(cells: &C, cell: usize, time: u16) -> Cell
     requires { cell < (C.values cells.now).count }
     ensures { result ≡ cell_when (C.values cells.now) cell time }
 {
-    let colour = cells.colour(cell);
-    let opacity = cells.opacity(cell);
-    let corner = |point| CellCorner {
-        point,
-        colour,
-        opacity,
-    };
     Cell {
-        a: corner(cells.corner(cell, 0, time)),
-        b: corner(cells.corner(cell, 1, time)),
-        c: corner(cells.corner(cell, 2, time)),
-        d: corner(cells.corner(cell, 3, time)),
+        a: corner_when(cells, cell, 0, time),
+        b: corner_when(cells, cell, 1, time),
+        c: corner_when(cells, cell, 2, time),
+        d: corner_when(cells, cell, 3, time),
     }
 }
 

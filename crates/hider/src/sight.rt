@@ -57,7 +57,7 @@ fn projected(camera: &Camera, cell: &Cell) -> Quad
 
 /// Twice the area of the quad on the raster, with the sign of its turn.
 #[tactic(auto, unfolding(crate::specs::Cells::turn))]
-fn turn_of(quad: &Quad) -> i64
+pub(crate) fn turn_of(quad: &Quad) -> i64
     ensures { result ≡ turn quad.now }
 {
     let first = edge_at(quad.a.place, quad.b.place, quad.c.place);

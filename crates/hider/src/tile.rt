@@ -1,19 +1,17 @@
 // A tile of samples, in which cells are hidden.
 ghost use Rattle.std.specs.Prelude.{ℕ, ◌≡◌, ◌<◌, ◌≤◌, ◌↔◌, true, [], ◌∷◌, map, IsTrue, IfOk, OnOk, List, length, slice_index_or, vec_capacity};
-ghost use Rattle.transforms.specs.declared.view.View.{View};
 ghost use Rattle.hider.specs.declared.fragment.Fragment.{Fragment};
 ghost use Rattle.hider.specs.declared.sample.Sample.{Sample};
-ghost use Rattle.hider.specs.CellValues.{grid_values, micropolygons_of, values_of};
+ghost use Rattle.hider.specs.CellValues.{micropolygons_of};
 ghost use Rattle.hider.specs.Cells.{still, cells_of};
 ghost use Rattle.hider.specs.Composite.{composite};
-ghost use Rattle.hider.specs.Flat.{IsSeenBy};
+ghost use Rattle.hider.specs.Flat.{ShowsSeen};
 ghost use Rattle.hider.specs.Kept.{blocks};
 ghost use Rattle.hider.specs.Tiles.{TileValue, IsTile, IsSampleGrid, Shows, BlocksAll, HidesGrid, grid_of, sample_count, sample_of, with_covering};
 
 use crate::cells::Cells;
-use crate::flat_hiding::hide_grid;
 use crate::grid_cells::GridCells;
-use crate::hiding::hide_cells;
+use crate::hiding::{hide_cells, hide_seen_grid};
 use crate::list::FragmentList;
 use crate::places::Places;
 use crate::rooms::{all_block, fill_lists, fill_places, next_open};
@@ -130,21 +128,23 @@ impl Tile {
         Ok(())
     }
 
-    /// Adds what the cells of a grid show that a camera sees, as `hide` does: what is the same for all tiles is known before.
+    /// Adds what the cells of a grid show that a camera sees, as `hide` does: what is the same for all tiles is known before. Where
+    /// it is `smooth`, colours and opacities vary over each of them.
     pub fn hide_seen(
         &mut self,
         seen: &SeenGrid<'_>,
+        smooth: bool,
         one_sided: bool,
         flip: bool,
     ) -> Result<(), NoMemory>
         ensures grid { self.new.grid ≡ self.old.grid }
-        ensures shows { OnOk result ((v : View) (f : Sample → List Fragment) → IsSeenBy v seen.now → Shows self.old f → Shows self.new (with_covering v (micropolygons_of (values_of seen.now.grid) one_sided flip) f)) }
+        ensures shows { OnOk result (ShowsSeen seen.now smooth one_sided flip self.old self.new) }
     {
         let places = Places {
             grid: self.grid,
             spots: self.spots.as_slice(),
         };
-        hide_grid(&mut self.lists, &places, seen, one_sided, flip)?;
+        hide_seen_grid(&mut self.lists, &places, seen, smooth, one_sided, flip)?;
         self.open = next_open(self.lists.as_slice(), self.open, self.grid.count());
         Ok(())
     }
@@ -185,5 +185,5 @@ impl Tile {
 /// The law of leaves: where a tile that showed all fragments of some micropolygons had a grid hidden in it, it shows those of
 /// these and then of the grid's.
 pub fn leaf_law(tile: &Tile, grid: &GridCells, camera: &Camera, one_sided: bool, flip: bool)
-    ensures { let g = grid.now.grid in HidesGrid camera.now tile.now one_sided flip g.columns g.rows g.p.now g.ci.now g.oi.now }
+    ensures { let g = grid.now.grid in HidesGrid camera.now tile.now grid.now.smooth one_sided flip g.columns g.rows g.p.now g.ci.now g.oi.now }
 {}

@@ -1,4 +1,4 @@
-// The mean of three depths, as a sum that isn't divided yet.
+// The mean of a number of three corners, as a sum that isn't divided yet.
 ghost use Rattle.std.specs.Prelude.{◌≡◌, ◌≤◌, ◌+◌, ◌^◌, ◌<ℤ◌, ◌+ℤ◌, ◌*ℤ◌, pos, unsigned_abs, IfSome};
 ghost use Rattle.fixed_math.specs.Fixed.{sat};
 ghost use Rattle.fixed_math.specs.Whole.{floor_div};
@@ -9,8 +9,8 @@ use crate::areas::Areas;
 use crate::fragment::Fragment;
 use fixed_math::Num;
 
-/// A sum of three depths, each times the area opposite to its corner, and the whole area: their mean is the quotient, rounded
-/// down.
+/// A sum of a number of three corners, each times the area opposite to the corner, and the whole area: the mean is the quotient,
+/// rounded down.
 #[derive(Clone, Copy)]
 pub(crate) struct Weighed {
     pub(crate) sum: i64,
@@ -57,7 +57,7 @@ fn weighed_sum(areas: &Areas, a: Num, b: Num, c: Num) -> i64
 }
 
 impl Weighed {
-    /// The sum of three depths by areas; None where the areas are too large for short numbers.
+    /// The sum of three numbers by areas; None where the areas are too large for short numbers.
     pub(crate) fn of(areas: &Areas, a: Num, b: Num, c: Num) -> Option<Weighed>
         requires { AreAreas areas.now }
         ensures sum { IfSome result (λ w. w.sum ≡ areas.now.a *ℤ a +ℤ areas.now.b *ℤ b +ℤ areas.now.c *ℤ c) }
@@ -84,7 +84,7 @@ impl Weighed {
         Num::sat(self.sum.div_euclid(self.whole) as i128)
     }
 
-    /// Whether the mean lies behind an opaque fragment, or at its depth: asked without a division.
+    /// Whether the mean, of depths, lies behind an opaque fragment, or at its depth: asked without a division.
     pub(crate) fn is_behind(&self, back: &Option<Fragment>) -> bool
         ensures { result ≡ is_behind back.now (floor_div self.now.sum self.now.whole) }
     {

@@ -2,6 +2,10 @@
 ghost use Rattle.std.specs.Prelude.{◌≡◌};
 ghost use Rattle.mask_codegen.specs.declared.fault.CodeFault.TheVariants.{NoMemory as OutOfMemory};
 
+use fixed_math::NoMemory;
+use std::error::Error;
+use std::fmt;
+
 /// Why a tree has no code.
 #[derive(Debug, Clone, Copy, PartialEq, Eq)]
 pub enum CodeFault {
@@ -10,10 +14,21 @@ pub enum CodeFault {
     NoMemory,
 }
 
-impl From<fixed_math::NoMemory> for CodeFault {
+impl fmt::Display for CodeFault {
+    fn fmt<W: fmt::Write>(&self, f: &mut fmt::Formatter<W>) -> fmt::Result {
+        match self {
+            CodeFault::NoMemory => NoMemory.fmt(f),
+            code => write!(f, "{code:?}"),
+        }
+    }
+}
+
+impl Error for CodeFault {}
+
+impl From<NoMemory> for CodeFault {
     ghost from_gives = { λ _ e. e ≡ OutOfMemory };
 
-    fn from(_: fixed_math::NoMemory) -> CodeFault {
+    fn from(_: NoMemory) -> CodeFault {
         CodeFault::NoMemory
     }
 }

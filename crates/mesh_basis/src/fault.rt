@@ -2,7 +2,10 @@
 ghost use Rattle.std.specs.Prelude.{◌≡◌};
 ghost use Rattle.mesh_basis.specs.declared.fault.MeshFault.TheVariants.{NoMemory as OutOfMemory};
 
+use fixed_math::NoMemory;
 use std::alloc::{AllocError, AllocFailed};
+use std::error::Error;
+use std::fmt;
 
 /// Why points are no patches, the first one of these.
 #[derive(Debug, Clone, Copy, PartialEq, Eq)]
@@ -14,6 +17,17 @@ pub enum MeshFault {
     /// Want of memory.
     NoMemory,
 }
+
+impl fmt::Display for MeshFault {
+    fn fmt<W: fmt::Write>(&self, f: &mut fmt::Formatter<W>) -> fmt::Result {
+        match self {
+            MeshFault::NoMemory => NoMemory.fmt(f),
+            code => write!(f, "{code:?}"),
+        }
+    }
+}
+
+impl Error for MeshFault {}
 
 impl From<AllocError> for MeshFault {
     ghost from_gives = { λ _ e. e ≡ OutOfMemory };

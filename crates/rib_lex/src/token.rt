@@ -4,6 +4,8 @@ ghost use Rattle.rib_lex.specs.declared.token.LexFault.TheVariants.{NoMemory as 
 
 use fixed_math::{Decimal, NoMemory, Text};
 use std::alloc::{AllocError, AllocFailed};
+use std::error::Error;
+use std::fmt;
 
 /// What a token is. A string's text has its escapes resolved.
 #[derive(Drop)]
@@ -35,12 +37,31 @@ pub enum LexCode {
     L4,
 }
 
+impl fmt::Display for LexCode {
+    fn fmt<W: fmt::Write>(&self, f: &mut fmt::Formatter<W>) -> fmt::Result {
+        write!(f, "{self:?}")
+    }
+}
+
+impl Error for LexCode {}
+
 /// Why there is no token list: the first fault, with the line on which its token begins, or want of memory.
 #[derive(Debug, Clone, Copy, PartialEq, Eq)]
 pub enum LexFault {
     At { code: LexCode, line: u32 },
     NoMemory,
 }
+
+impl fmt::Display for LexFault {
+    fn fmt<W: fmt::Write>(&self, f: &mut fmt::Formatter<W>) -> fmt::Result {
+        match self {
+            LexFault::At { code, line } => write!(f, "{code} in line {line}"),
+            LexFault::NoMemory => NoMemory.fmt(f),
+        }
+    }
+}
+
+impl Error for LexFault {}
 
 impl From<NoMemory> for LexFault {
     ghost from_gives = { λ _ e. e ≡ OutOfMemory };

@@ -6,7 +6,7 @@ use Rattle.rib_reader.specs.declared.req.Req.TheVariants as reqs
 use Rattle.rib_reader.specs.declared.table.Shape.{Shape}
 use Rattle.rib_reader.specs.declared.table.Shape.TheVariants.{Whole, Number, Word, Array, Wholes}
 use Rattle.rib_reader.specs.declared.table.Words.{Words}
-use Rattle.rib_reader.specs.declared.table.Words.TheVariants.{Projections, Filters, Modes, Interpolations, Smooth, Orientations, Handed, Bases, Patches, Bicubic, Wraps, Bounds}
+use Rattle.rib_reader.specs.declared.table.Words.TheVariants.{Projections, Filters, Modes, Interpolations, Orientations, Handed, Bases, Patches, Bicubic, Wraps, Bounds}
 use Rattle.rib_reader.specs.declared.table.Rule.{Rule}
 use Rattle.rib_reader.specs.declared.table.Rule.TheVariants.{Within, AtLeast, Rising, Only, Between, OneOf, NoneOf, NoArray, Levels, WholeSphere, Declaration}
 use Rattle.rib_reader.specs.declared.table.Tail.{Tail}
@@ -19,7 +19,6 @@ words_in Projections = codes "orthographic" ∷ codes "perspective" ∷ []
 words_in Filters = codes "box" ∷ codes "triangle" ∷ codes "gaussian" ∷ []
 words_in Modes = codes "rgb" ∷ codes "rgba" ∷ []
 words_in Interpolations = codes "constant" ∷ codes "smooth" ∷ []
-words_in Smooth = codes "smooth" ∷ []
 words_in Orientations = codes "outside" ∷ codes "inside" ∷ codes "lh" ∷ codes "rh" ∷ []
 words_in Handed = codes "lh" ∷ codes "rh" ∷ []
 words_in Bases = codes "bezier" ∷ codes "b-spline" ∷ codes "catmull-rom" ∷ codes "hermite" ∷ codes "power" ∷ []
@@ -80,7 +79,7 @@ row_of reqs.Display = row (Word ∷ Word ∷ Word ∷ []) (OneOf 2 Modes S2 ∷ 
 row_of reqs.Color = plain_row (Array 3 ∷ [])
 row_of reqs.Opacity = plain_row (Array 3 ∷ [])
 row_of reqs.ShadingRate = plain_row (Number ∷ [])
-row_of reqs.ShadingInterpolation = row (Word ∷ []) (OneOf 0 Interpolations S3 ∷ NoneOf 0 Smooth ∷ []) tails.Empty
+row_of reqs.ShadingInterpolation = row (Word ∷ []) (OneOf 0 Interpolations S3 ∷ []) tails.Empty
 row_of reqs.Sides = row (Whole ∷ []) (Within 0 (pos 1) (pos 2) ∷ []) tails.Empty
 row_of reqs.Orientation = row (Word ∷ []) (OneOf 0 Orientations S3 ∷ NoneOf 0 Handed ∷ []) tails.Empty
 row_of reqs.Surface = row (Word ∷ []) [] tails.Parameters

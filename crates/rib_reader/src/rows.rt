@@ -126,10 +126,7 @@ pub fn row(name: Req) -> Row
         },
         Req::ShadingInterpolation => Row {
             shapes: &[Shape::Word],
-            rules: &[
-                Rule::OneOf(0, Words::Interpolations, RibCode::S3),
-                Rule::NoneOf(0, Words::Smooth),
-            ],
+            rules: &[Rule::OneOf(0, Words::Interpolations, RibCode::S3)],
             tail: Tail::Empty,
         },
         Req::Sides => Row {

@@ -22,7 +22,6 @@ pub enum Words {
     Filters,
     Modes,
     Interpolations,
-    Smooth,
     Orientations,
     Handed,
     Bases,

@@ -18,7 +18,6 @@ fn members(words: Words) -> &'static [Word]
         Words::Filters => &[Word("box"), Word("triangle"), Word("gaussian")],
         Words::Modes => &[Word("rgb"), Word("rgba")],
         Words::Interpolations => &[Word("constant"), Word("smooth")],
-        Words::Smooth => &[Word("smooth")],
         Words::Orientations => &[Word("outside"), Word("inside"), Word("lh"), Word("rh")],
         Words::Handed => &[Word("lh"), Word("rh")],
         Words::Bases => &[

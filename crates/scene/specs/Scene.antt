@@ -31,8 +31,8 @@ pub record IsVariable (v : VariableValue) : Type 0 where
 
 -- A primitive: its patch in camera space; the flat normal of a polygon; colour and opacity; the places of its shaders among the
 -- scene's uses; how far displacement may move it, and the shading rate; whether it is seen from one side alone, and whether that
--- is turned; its variables; the map from its object space to camera space; the column c of m and row d of n that the patch has
--- in its mesh, as c, m, d, n; and the line of its request.
+-- is turned; whether colour and opacity vary over its micropolygons; its variables; the map from its object space to camera space;
+-- the column c of m and row d of n that the patch has in its mesh, as c, m, d, n; and the line of its request.
 pub record PrimValue : Type 0 where
   pub patch : AnyPatch
   pub flat : Option Vec3
@@ -46,6 +46,7 @@ pub record PrimValue : Type 0 where
   pub rate : ℤ
   pub one_sided : Bool
   pub flip : Bool
+  pub smooth : Bool
   pub vars : List VariableValue
   pub object : Map
   pub place : List ℕ

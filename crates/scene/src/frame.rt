@@ -16,8 +16,9 @@ use transforms::{Affine, Camera};
 /// The patch's control points are in camera space. `flat` is the normal of a flat polygon; `cs` and `os` are colour and
 /// opacity. `surface`, `displacement`, `atmosphere` and `lights` are places among the scene's uses, of those kinds. Displacement
 /// moves a point by at most `bound` in camera space, raw 0 to 2^29. `rate` is the shading rate in square pixels. Where it is
-/// `one_sided`, `flip` turns the side that is seen. `object` maps object space to camera space. `place` is the column c of m and
-/// the row d of n that the patch has in its mesh, as [c, m, d, n], with m and n at most 65,536. `line` is that of its request.
+/// `one_sided`, `flip` turns the side that is seen. Where it is `smooth`, colour and opacity vary over a micropolygon. `object` maps
+/// object space to camera space. `place` is the column c of m and the row d of n that the patch has in its mesh, as [c, m, d, n],
+/// with m and n at most 65,536. `line` is that of its request.
 #[derive(Drop)]
 pub struct Primitive {
     pub patch: AnyPatch,
@@ -32,6 +33,7 @@ pub struct Primitive {
     pub rate: Num,
     pub one_sided: bool,
     pub flip: bool,
+    pub smooth: bool,
     pub vars: PrimitiveVariables,
     pub object: Affine,
     pub place: [u32; 4],
@@ -41,9 +43,9 @@ pub struct Primitive {
 impl Model for Primitive {
     ghost Value = { PrimValue };
 
-    ghost view = { λ p. record { patch = p.patch; flat = p.flat; cs = p.cs; os = p.os; surface = p.surface; displacement = p.displacement; atmosphere = p.atmosphere; lights = p.lights; bound = p.bound; rate = p.rate; one_sided = p.one_sided; flip = p.flip; vars = p.vars; object = p.object; place = p.place; line = p.line } };
+    ghost view = { λ p. record { patch = p.patch; flat = p.flat; cs = p.cs; os = p.os; surface = p.surface; displacement = p.displacement; atmosphere = p.atmosphere; lights = p.lights; bound = p.bound; rate = p.rate; one_sided = p.one_sided; flip = p.flip; smooth = p.smooth; vars = p.vars; object = p.object; place = p.place; line = p.line } };
 
-    ghost invariant = { λ p. IsPrim (record { patch = p.patch; flat = p.flat; cs = p.cs; os = p.os; surface = p.surface; displacement = p.displacement; atmosphere = p.atmosphere; lights = p.lights; bound = p.bound; rate = p.rate; one_sided = p.one_sided; flip = p.flip; vars = p.vars; object = p.object; place = p.place; line = p.line }) };
+    ghost invariant = { λ p. IsPrim (record { patch = p.patch; flat = p.flat; cs = p.cs; os = p.os; surface = p.surface; displacement = p.displacement; atmosphere = p.atmosphere; lights = p.lights; bound = p.bound; rate = p.rate; one_sided = p.one_sided; flip = p.flip; smooth = p.smooth; vars = p.vars; object = p.object; place = p.place; line = p.line }) };
 }
 
 /// A frame: the name of its picture, its options, its camera, the map from world space to camera space, and at most

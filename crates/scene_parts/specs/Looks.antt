@@ -13,13 +13,14 @@ use Rattle.rib_reader.specs.Rules.{word_at, raw_at, whole_at, numbers_at}
 use Rattle.scene_parts.specs.Choices.{one, is_word, first_number}
 
 -- How a primitive looks beside its shaders: colour and opacity; the shading rate; whether it is seen from one side alone, and whether
--- that side is turned; and how far displacement may move it, in camera space.
+-- that side is turned; whether colour and opacity vary over a micropolygon; and how far displacement may move it, in camera space.
 pub record LookValues : Type 0 where
   pub cs : Vec3
   pub os : Vec3
   pub rate : ℤ
   pub one_sided : Bool
   pub flip : Bool
+  pub smooth : Bool
   pub bound : ℤ
 
 -- the most that displacement may move a point
@@ -34,7 +35,7 @@ abbrev pub white : Vec3
 white = record { x = one; y = one; z = one }
 
 abbrev pub first_look : LookValues
-first_look = record { cs = white; os = white; rate = one; one_sided = false; flip = false; bound = pos 0 }
+first_look = record { cs = white; os = white; rate = one; one_sided = false; flip = false; smooth = false; bound = pos 0 }
 
 -- ---- what a request sets
 
@@ -69,6 +70,7 @@ abbrev pub look_after : Req → List Arg → List Param → LookValues → LookV
 look_after reqs.Color args params l = record l { cs = colour_or (numbers_at args 0) l.cs }
 look_after reqs.Opacity args params l = record l { os = colour_or (numbers_at args 0) l.os }
 look_after reqs.ShadingRate args params l = with_rate (raw_at args 0) l
+look_after reqs.ShadingInterpolation args params l = record l { smooth = is_word (word_at args 0) (codes "smooth") }
 look_after reqs.Sides args params l = record l { one_sided = is_single (whole_at args 0) }
 look_after reqs.Orientation args params l = record l { flip = is_word (word_at args 0) (codes "inside") }
 look_after reqs.ReverseOrientation args params l = record l { flip = not l.flip }

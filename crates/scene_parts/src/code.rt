@@ -1,3 +1,7 @@
+// The codes of faults of a scene's state.
+use std::error::Error;
+use std::fmt;
+
 /// The faults of a scene's state. Of one request, those of nesting come first, then those of geometry, then the limits, and
 /// of one kind the lower number first, but `G4` before `G1` and `G2`.
 #[derive(Debug, Clone, Copy, PartialEq, Eq)]
@@ -38,3 +42,11 @@ pub enum StateCode {
     /// A point, or a control point that is made of them, whose raw coordinate in camera space passes 2^30.
     M7,
 }
+
+impl fmt::Display for StateCode {
+    fn fmt<W: fmt::Write>(&self, f: &mut fmt::Formatter<W>) -> fmt::Result {
+        write!(f, "{self:?}")
+    }
+}
+
+impl Error for StateCode {}

@@ -11,8 +11,9 @@ use rib_reader::{Req, Request, last_named};
 use scene::Param;
 use std::marker::Model;
 
-/// How a primitive looks beside its shaders: colour and opacity, the shading rate in square pixels, its sides, and how far
-/// displacement may move it in camera space, raw 0 to 2^29. Contracts see it as a record.
+/// How a primitive looks beside its shaders: colour and opacity, the shading rate in square pixels, its sides, whether colour and
+/// opacity vary over a micropolygon, and how far displacement may move it in camera space, raw 0 to 2^29. Contracts see it as a
+/// record.
 #[derive(Clone, Copy)]
 pub struct Look {
     pub cs: Vec3,
@@ -20,17 +21,18 @@ pub struct Look {
     pub rate: Num,
     pub one_sided: bool,
     pub flip: bool,
+    pub smooth: bool,
     pub bound: Num,
 }
 
 impl Model for Look {
     ghost Value = { LookValues };
 
-    ghost view = { λ l. record { cs = l.cs; os = l.os; rate = l.rate; one_sided = l.one_sided; flip = l.flip; bound = l.bound } };
+    ghost view = { λ l. record { cs = l.cs; os = l.os; rate = l.rate; one_sided = l.one_sided; flip = l.flip; smooth = l.smooth; bound = l.bound } };
 
-    ghost invariant = { λ l. IsLook (record { cs = l.cs; os = l.os; rate = l.rate; one_sided = l.one_sided; flip = l.flip; bound = l.bound }) };
+    ghost invariant = { λ l. IsLook (record { cs = l.cs; os = l.os; rate = l.rate; one_sided = l.one_sided; flip = l.flip; smooth = l.smooth; bound = l.bound }) };
 
-    ghost inverse = { λ l. record { cs = l.cs; os = l.os; rate = l.rate; one_sided = l.one_sided; flip = l.flip; bound = l.bound } };
+    ghost inverse = { λ l. record { cs = l.cs; os = l.os; rate = l.rate; one_sided = l.one_sided; flip = l.flip; smooth = l.smooth; bound = l.bound } };
 }
 
 // A colour of three numbers.
@@ -66,7 +68,7 @@ fn grey(part: Num) -> Vec3
 }
 
 impl Look {
-    /// White and opaque, seen from both sides, at one square pixel.
+    /// White and opaque, seen from both sides, at one square pixel, of one colour and opacity over a micropolygon.
     pub fn first() -> Look
         ensures { result ≡ first_look }
     {
@@ -77,6 +79,7 @@ impl Look {
             rate: one,
             one_sided: false,
             flip: false,
+            smooth: false,
             bound: Num::sat(0),
         }
     }
@@ -113,6 +116,10 @@ impl Look {
             },
             Req::ShadingRate => Look {
                 rate: request.number(0),
+                ..self
+            },
+            Req::ShadingInterpolation => Look {
+                smooth: request.word(0).as_str() == "smooth",
                 ..self
             },
             Req::Sides => Look {

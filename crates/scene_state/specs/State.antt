@@ -247,6 +247,7 @@ prim_of r object l w p = record {
   rate = l.rate;
   one_sided = l.one_sided;
   flip = differ l.flip object.mirrored;
+  smooth = l.smooth;
   vars = p.vars;
   object = object;
   place = p.place;

@@ -55,6 +55,7 @@ step reqs.Display r s = display_set r s
 step reqs.Color r s = look_set r s
 step reqs.Opacity r s = look_set r s
 step reqs.ShadingRate r s = look_set r s
+step reqs.ShadingInterpolation r s = look_set r s
 step reqs.Sides r s = look_set r s
 step reqs.Orientation r s = look_set r s
 step reqs.ReverseOrientation r s = look_set r s

@@ -9,6 +9,8 @@ use fixed_math::NoMemory;
 use primitives::PrimitiveFault;
 use scene_parts::StateCode;
 use std::alloc::{AllocError, AllocFailed};
+use std::error::Error;
+use std::fmt;
 use transforms::FormFault;
 
 /// Why there is no scene: the first fault, with the line of its request's name, or want of memory.
@@ -17,6 +19,17 @@ pub enum StateFault {
     At { code: StateCode, line: u32 },
     NoMemory,
 }
+
+impl fmt::Display for StateFault {
+    fn fmt<W: fmt::Write>(&self, f: &mut fmt::Formatter<W>) -> fmt::Result {
+        match self {
+            StateFault::At { code, line } => write!(f, "{code} in line {line}"),
+            StateFault::NoMemory => NoMemory.fmt(f),
+        }
+    }
+}
+
+impl Error for StateFault {}
 
 impl From<NoMemory> for StateFault {
     ghost from_gives = { λ _ e. e ≡ OutOfMemory };

@@ -45,6 +45,7 @@ fn primitive(
         rate: look.rate,
         one_sided: look.one_sided,
         flip: look.flip != object.mirrored(),
+        smooth: look.smooth,
         vars: patch.vars,
         object,
         place,

@@ -86,6 +86,7 @@ impl State {
             Req::Color
             | Req::Opacity
             | Req::ShadingRate
+            | Req::ShadingInterpolation
             | Req::Sides
             | Req::Orientation
             | Req::ReverseOrientation

@@ -1,7 +1,7 @@
 // The numbers of docs/TOUR.md: the scene of examples/tour.rib from its bytes to its pixels. They were computed from the formulas by a
 // program that shares nothing with this one.
 ghost use Rattle.std.specs.Prelude.{◌<◌};
-ghost use Rattle.hider.specs.CellValues.{grid_values};
+ghost use Rattle.hider.specs.CellValues.{values_of};
 
 use crate::shading::Texts;
 use bound_split::{Walk, halves};
@@ -145,13 +145,13 @@ fn look(alloc: Global) -> Result<(Camera, Options), Fail> {
 
 // A corner of a micropolygon of a grid.
 fn corner_of(cells: &GridCells<'_>, cell: usize, k: usize) -> CellCorner
-    requires cell { cell < (grid_values cells.now.grid.columns cells.now.grid.rows cells.now.grid.p.now cells.now.grid.ci.now cells.now.grid.oi.now).count }
+    requires cell { cell < (values_of cells.now.smooth cells.now.grid).count }
     requires corner { k < 4 }
 {
     CellCorner {
         point: cells.corner(cell, k, 0),
-        colour: cells.colour(cell),
-        opacity: cells.opacity(cell),
+        colour: cells.colour(cell, k),
+        opacity: cells.opacity(cell, k),
     }
 }
 
@@ -173,7 +173,11 @@ fn micropolygon(alloc: Global) -> Result<Quad, Fail> {
     let [first, ..] = leaves();
     let arena = Bump::new(alloc);
     let grid = tour().grid(&arena, alloc, &first, 4, 4)?;
-    let cell = cell_of(&GridCells { grid }, 167).ok_or("a micropolygon")?;
+    let cells = GridCells {
+        grid,
+        smooth: false,
+    };
+    let cell = cell_of(&cells, 167).ok_or("a micropolygon")?;
     let (camera, _) = look(alloc)?;
     Ok(quad_of(&camera, &cell, false, false).ok_or("a side")?)
 }
@@ -208,7 +212,11 @@ fn hide_all(tile: &mut Tile, alloc: Global, camera: &Camera) -> Result<(), Fail>
     for piece in leaves() {
         let arena = Bump::new(alloc);
         let grid = tour().grid(&arena, alloc, &piece, 4, 4)?;
-        tile.hide(&GridCells { grid }, camera, false, false)?;
+        let cells = GridCells {
+            grid,
+            smooth: false,
+        };
+        tile.hide(&cells, camera, false, false)?;
     }
     Ok(())
 }

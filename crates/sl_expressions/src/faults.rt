@@ -4,6 +4,8 @@ ghost use Rattle.sl_expressions.specs.declared.faults.TypeFault.TheVariants.{At,
 
 use fixed_math::NoMemory;
 use std::alloc::{AllocError, AllocFailed};
+use std::error::Error;
+use std::fmt;
 
 /// The faults of types, in the order in which the lower one comes first at one place.
 #[derive(Debug, Clone, Copy, PartialEq, Eq)]
@@ -34,12 +36,31 @@ pub enum TypeCode {
     M8,
 }
 
+impl fmt::Display for TypeCode {
+    fn fmt<W: fmt::Write>(&self, f: &mut fmt::Formatter<W>) -> fmt::Result {
+        write!(f, "{self:?}")
+    }
+}
+
+impl Error for TypeCode {}
+
 /// Why there is no typed tree: the first fault, with the line on which its token begins, or want of memory.
 #[derive(Debug, Clone, Copy, PartialEq, Eq)]
 pub enum TypeFault {
     At { code: TypeCode, line: u32 },
     NoMemory,
 }
+
+impl fmt::Display for TypeFault {
+    fn fmt<W: fmt::Write>(&self, f: &mut fmt::Formatter<W>) -> fmt::Result {
+        match self {
+            TypeFault::At { code, line } => write!(f, "{code} in line {line}"),
+            TypeFault::NoMemory => NoMemory.fmt(f),
+        }
+    }
+}
+
+impl Error for TypeFault {}
 
 impl From<AllocError> for TypeFault {
     ghost from_gives = { λ _ e. e ≡ OutOfMemory };

@@ -15,6 +15,6 @@ returns-clause-shows g c =
     let leaf = c.args.leaf.now in
     let seen : List Cell → List Micropolygon = map (still p.one_sided p.flip) in
     let is = c.requires.1.1 in
-    let made = ap (λ (v : GridValue). seen (grid_cells v)) (is.1 p leaf.p leaf.q c.requires.0 c.requires.1.0)
+    let made = ap (λ (v : GridValue). seen (grid_cells p.smooth v)) (is.1 p leaf.p leaf.q c.requires.0 c.requires.1.0)
     ∙ ap (λ (e : Decision). seen (leaf_cells d.accepted d.frame p leaf.piece e)) (sym c.requires.1.0) in
     subst (λ ns. ShowsMore d.frame.camera ns c.args.tile.now c.hide_grid.new.tile) made (c.in_ok-hide_grid.ensures.shows d.frame.camera is.0)

@@ -51,10 +51,12 @@ returns c = λ v h.
     let lc : n + g.columns + 1 < length p = corner_number_below g.columns g.rows c.args.cell 2 (n + g.columns + 1) p g.columns_from g.rows_from c.requires.cell g.points (ap (λ n. n + g.columns + 1) e) in
     let ld : n + g.columns < length p = corner_number_below g.columns g.rows c.args.cell 3 (n + g.columns) p g.columns_from g.rows_from c.requires.cell g.points (ap (λ n. n + g.columns) e) in
     record {
-      a = seen_at v p seen n (corner_number g.columns (first_corner g.columns c.args.cell) 0) c.index-seen-n.result h la c.index-seen-n.is e;
-      b = seen_at v p seen (n + 1) (corner_number g.columns (first_corner g.columns c.args.cell) 1) c.index-seen-n-2.result h lb c.index-seen-n-2.is (ap (λ n. n + 1) e);
-      c = seen_at v p seen (n + g.columns + 1) (corner_number g.columns (first_corner g.columns c.args.cell) 2) c.index-seen-n-3.result h lc c.index-seen-n-3.is (ap (λ n. n + g.columns + 1) e);
-      d = seen_at v p seen (n + g.columns) (corner_number g.columns (first_corner g.columns c.args.cell) 3) c.index-seen-n-4.result h ld c.index-seen-n-4.is (ap (λ n. n + g.columns) e);
-      colour = corner_read g.columns g.rows c.args.cell 0 n g.ci.now c.index-grid-n.result g.columns_from g.rows_from c.requires.cell g.colours e c.index-grid-n.is;
-      opacity = corner_read g.columns g.rows c.args.cell 0 n g.oi.now c.index-grid-n-2.result g.columns_from g.rows_from c.requires.cell g.opacities e c.index-grid-n-2.is;
+      placed = record {
+        a = seen_at v p seen n (corner_number g.columns (first_corner g.columns c.args.cell) 0) c.index-seen-n.result h la c.index-seen-n.is e;
+        b = seen_at v p seen (n + 1) (corner_number g.columns (first_corner g.columns c.args.cell) 1) c.index-seen-n-2.result h lb c.index-seen-n-2.is (ap (λ n. n + 1) e);
+        c = seen_at v p seen (n + g.columns + 1) (corner_number g.columns (first_corner g.columns c.args.cell) 2) c.index-seen-n-3.result h lc c.index-seen-n-3.is (ap (λ n. n + g.columns + 1) e);
+        d = seen_at v p seen (n + g.columns) (corner_number g.columns (first_corner g.columns c.args.cell) 3) c.index-seen-n-4.result h ld c.index-seen-n-4.is (ap (λ n. n + g.columns) e);
+      };
+      colour = λ j. corner_read g.columns g.rows c.args.cell 0 n g.ci.now c.index-grid-n.result g.columns_from g.rows_from c.requires.cell g.colours e c.index-grid-n.is;
+      opacity = λ j. corner_read g.columns g.rows c.args.cell 0 n g.oi.now c.index-grid-n-2.result g.columns_from g.rows_from c.requires.cell g.opacities e c.index-grid-n-2.is;
     }

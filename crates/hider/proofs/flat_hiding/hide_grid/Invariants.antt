@@ -1,4 +1,4 @@
-use Rattle.std.proofs.Common.{map}
+use Rattle.std.proofs.Common.{map, false}
 use Rattle.std.specs.List.{range_with_len}
 use Rattle.transforms.specs.declared.view.View.{View}
 use Rattle.hider.specs.CellValues.{micropolygon_of, values_of}
@@ -10,4 +10,4 @@ use Rattle.hider.proofs.flat_hiding.hide_grid.Given as goal
 abbrev pub invariant-loop-cell : goal.invariant-loop-cell
 invariant-loop-cell l =
     (v : View) → IsSeenBy v l.seen →
-    HavePut l.places.grid (covering v (map (micropolygon_of (values_of l.seen.grid) l.one_sided l.flip) (range_with_len 0 l.cell))) l.initial.lists l.lists
+    HavePut l.places.grid (covering v (map (micropolygon_of (values_of false l.seen.grid) l.one_sided l.flip) (range_with_len 0 l.cell))) l.initial.lists l.lists

@@ -16,7 +16,7 @@ returns-then-is_turned_away c =
     let read : to_z w64 (of_z w64 c.turn_of.result) ≡ turn (flat_quad f) =
     read_whole c.turn_of.result c.turn_of.type_inv ∙ c.turn_of.ensures ∙ rw (a, b, c.edge_at-first.ensures.value, c.edge_at-second.ensures.value) refl ∙ sym (turn_is f) in
     let side : is_turned_away c.args.one_sided c.args.flip (turn (flat_quad f)) ≡ true = sym (c.if-is_turned_away.ensures ∙ ap (λ (t : ℤ). is_turned_away c.args.one_sided c.args.flip t) read) in
-    away_put f c.args.one_sided c.args.flip c.args.places.now.grid c.args.lists.now side
+    away_put (flat_quad f) c.args.one_sided c.args.flip c.args.places.now.grid c.args.lists.now side
 
 pub returns : goal.returns
 returns c =
@@ -26,4 +26,4 @@ returns c =
     let read : to_z w64 (of_z w64 c.turn_of.result) ≡ turn (flat_quad f) =
     read_whole c.turn_of.result c.turn_of.type_inv ∙ c.turn_of.ensures ∙ rw (a, b, c.edge_at-first.ensures.value, c.edge_at-second.ensures.value) refl ∙ sym (turn_is f) in
     let side : is_turned_away c.args.one_sided c.args.flip (turn (flat_quad f)) ≡ false = sym (c.if-is_turned_away.ensures ∙ ap (λ (t : ℤ). is_turned_away c.args.one_sided c.args.flip t) read) in
-    facing_put f c.args.one_sided c.args.flip c.args.places.now.grid c.args.lists.now c.put_rows.new.lists side c.in_ok-put_rows.ensures
+    facing_put (flat_quad f) c.args.one_sided c.args.flip c.args.places.now.grid c.args.lists.now c.put_rows.new.lists side c.in_ok-put_rows.ensures

@@ -1,4 +1,4 @@
-use Rattle.std.proofs.Common.{sym, subst}
+use Rattle.std.proofs.Common.{sym, subst, false}
 use Rattle.hider.specs.CellValues.{values_of}
 use Rattle.hider.specs.Flat.{AreBoxes, AreOnRaster}
 use Rattle.hider.proofs.seen_grid.SeenGrid.new.Goals as goal
@@ -10,5 +10,5 @@ returns-clause-seen c =
     let points = c.in_ok-fill_points.ensures in
     record {
       points = subst (AreOnRaster v p) (sym c.into_bump_slice.ensures) points;
-      boxes = subst (AreBoxes v (values_of c.args.grid)) (sym c.into_bump_slice-2.ensures) (c.in_ok-fill_boxes.ensures.boxes v (subst (AreOnRaster v p) (sym c.as_slice.ensures.value) points));
+      boxes = subst (AreBoxes v (values_of false c.args.grid)) (sym c.into_bump_slice-2.ensures) (c.in_ok-fill_boxes.ensures.boxes v (subst (AreOnRaster v p) (sym c.as_slice.ensures.value) points));
     }
