@@ -7,6 +7,7 @@ use rib_reader::RibCode;
 use scene_parts::StateCode;
 use sl_expression_grammar::SlCode;
 use sl_expressions::TypeCode;
+use std::error::Error;
 use std::fmt;
 
 /// The code of a refused scene or shader, as notes have it.
@@ -199,6 +200,8 @@ impl fmt::Display for FaultCode {
         write!(f, "{text}")
     }
 }
+
+impl Error for FaultCode {}
 
 /// The code of a lexical fault.
 pub fn of_lex(code: LexCode) -> FaultCode

@@ -8,6 +8,7 @@ ghost use Rattle.acceptance.specs.declared.refusal.Refusal.TheVariants.{ReadFaul
 use crate::code::FaultCode;
 use fixed_math::{NoMemory, Text};
 use std::alloc::{AllocError, AllocFailed, Global};
+use std::error::Error;
 use std::fmt;
 
 /// A file that has a fault.
@@ -76,6 +77,14 @@ impl fmt::Display for Refusal {
         }
     }
 }
+
+impl fmt::Debug for Refusal {
+    fn fmt<W: fmt::Write>(&self, f: &mut fmt::Formatter<W>) -> fmt::Result {
+        write!(f, "{self}")
+    }
+}
+
+impl Error for Refusal {}
 
 impl From<NoMemory> for Refusal {
     ghost from_gives = { λ _ e. e ≡ OutOfMemory };

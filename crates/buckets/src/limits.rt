@@ -4,6 +4,8 @@ ghost use Rattle.buckets.specs.declared.limits.DrawFault.TheVariants.{NoMemory a
 
 use fixed_math::NoMemory;
 use outside::Failed;
+use std::error::Error;
+use std::fmt;
 
 /// The side of a bucket in pixels, 4 to 64, and the most points of the grids that are kept, 289 to 1,000,000.
 #[derive(Clone, Copy)]
@@ -27,6 +29,17 @@ pub enum DrawFault {
     WriteFault,
     NoMemory,
 }
+
+impl fmt::Display for DrawFault {
+    fn fmt<W: fmt::Write>(&self, f: &mut fmt::Formatter<W>) -> fmt::Result {
+        match self {
+            DrawFault::WriteFault => write!(f, "write fault"),
+            DrawFault::NoMemory => NoMemory.fmt(f),
+        }
+    }
+}
+
+impl Error for DrawFault {}
 
 impl From<NoMemory> for DrawFault {
     ghost from_gives = { λ _ e. e ≡ OutOfMemory };

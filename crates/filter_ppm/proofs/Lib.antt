@@ -6,6 +6,7 @@ pub mod Filters
 pub mod Bytes
 pub mod Spans
 pub mod Joins
+pub mod Folded
 pub mod Totals
 pub mod SumsBelow
 pub mod Rows

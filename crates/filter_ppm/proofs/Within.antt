@@ -6,7 +6,7 @@ use Rattle.fixed_math.specs.Spots.{PixelRect, pixel_x, pixel_y}
 use Rattle.filter_ppm.specs.Levels.{levels, limited}
 use Rattle.filter_ppm.specs.Film.{FilmValues, pixel, pixels}
 
-limited_below : (low high : ℕ) (n : ℤ) → low ≤ high → limited low high n ≤ high
+pub limited_below : (low high : ℕ) (n : ℤ) → low ≤ high → limited low high n ≤ high
 unfolding limited
 limited_below low high n h = grind (arith, ints)
 

@@ -5,4 +5,5 @@ pub mod Mean
 pub mod Levels
 pub mod Bands
 pub mod Tables
+pub mod Bells
 pub mod Sums

@@ -8,13 +8,14 @@ ghost use Rattle.hider.specs.Composite.{composite};
 ghost use Rattle.hider.specs.Tiles.{Shows, IsSampleGrid, sample_count};
 ghost use Rattle.filter_ppm.specs.Weight.{counts, weight_at};
 ghost use Rattle.filter_ppm.specs.Tables.{part};
+ghost use Rattle.filter_ppm.specs.Bells.{IsRowOf};
 ghost use Rattle.filter_ppm.specs.Sums.{none, with_weighed, row_start, total_at, IsRect, IsOver, HasTotals, AddsInRow, AddsSample, AreOver, AreTotals};
 
 use crate::rect::Rect;
 use crate::sampling::sample_at;
 use crate::shown::ShownSample;
 use crate::span::{Span, span_of};
-use crate::tables::Weights;
+use crate::tables::{RowWeights, Weights};
 use crate::total::{Total, with_weighed};
 use fixed_math::Num;
 use hider::Tile;
@@ -32,17 +33,23 @@ fn place_of(r: &Rect, x: usize, y: usize) -> usize
     (y - r.top) * r.width() + (x - r.left)
 }
 
-/// The weight of a sample for a pixel for which it counts.
-fn weight_of(weights: &Weights, sample: &ShownSample, x: usize, y: usize, down: Num) -> Num
+/// The weight of a sample for a pixel of a row for which it counts.
+fn weight_of(
+    weights: &Weights,
+    row: &RowWeights<'_>,
+    sample: &ShownSample,
+    x: usize,
+    y: usize,
+) -> Num
     requires options { AreOptions weights.now }
     requires x { x < 4096 }
     requires across { counts weights.now.wx (sample.now.place.x -ℤ pos (256 * x + 128)) ≡ true }
     requires down { counts weights.now.wy (sample.now.place.y -ℤ pos (256 * y + 128)) ≡ true }
-    requires part { down ≡ part weights.now.filter weights.now.wy (sample.now.place.y -ℤ pos (256 * y + 128)) }
+    requires row { IsRowOf weights.now (part weights.now.filter weights.now.wy (sample.now.place.y -ℤ pos (256 * y + 128))) row.now }
     ensures value { result ≡ weight_at weights.now x y sample.now.place }
     ensures low { pos 0 ≤ℤ result }
 {
-    weights.weight(sample.place.x(), x, down)
+    row.weight(sample.place.x(), x)
 }
 
 /// The columns of a rectangle's pixels for which a sample counts.
@@ -99,10 +106,10 @@ fn add_to_row(
     ensures over { (x : ℕ) → r.now.left ≤ x → x < r.now.right → IsOver (n + 1) (total_at r.now totals.new x y) }
     ensures others { (p : ℕ) → (p < row_start r.now y) ⊎ (row_start r.now y + (r.now.right - r.now.left) ≤ p) → get_or totals.new p none ≡ get_or totals.old p none }
 {
-    let down = weights.down(sample.place.y(), y);
+    let row = weights.row(sample.place.y(), y);
     for x in columns.first..columns.end {
         let p = place_of(r, x, y);
-        let w = weight_of(weights, sample, x, y, down);
+        let w = weight_of(weights, &row, sample, x, y);
         totals[p] = with_weighed(&totals[p], w, &sample.colour, n);
     }
 }

@@ -2,6 +2,7 @@
 #![tactic(auto)]
 
 mod adding;
+mod bells;
 mod film;
 mod levels;
 mod pixel_filter;

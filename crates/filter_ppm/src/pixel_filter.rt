@@ -7,6 +7,7 @@ ghost use Rattle.hider.specs.Composite.{composite};
 ghost use Rattle.hider.specs.Tiles.{Shows, IsSampleGrid, sample_count};
 ghost use Rattle.filter_ppm.specs.Sampled.{FilmFormat, IsFormat, film_with};
 ghost use Rattle.filter_ppm.specs.Bands.{rect_with, grid_over, seen_from, place_in, entry, crop_in, IsOutside, AreSameBeside, IsPartOfPicture, PutsPixels};
+ghost use Rattle.filter_ppm.specs.Film.{pixels};
 ghost use Rattle.filter_ppm.specs.Levels.{levels};
 ghost use Rattle.filter_ppm.specs.Sums.{none, mean_of, total_at, IsRect, HasTotals, AreOver, AreTotals};
 
@@ -176,5 +177,36 @@ impl PixelFilter {
             tile.samples(),
         );
         Ok(())
+    }
+
+    /// The pixels of a rectangle of the picture by themselves, by rows from the top.
+    pub fn pixels(
+        &mut self,
+        alloc: Global,
+        tile: &Tile,
+        rect: [u32; 4],
+    ) -> Result<Vec<[u32; 3]>, NoMemory>
+        requires part { IsPartOfPicture self.old (rect_with rect) }
+        requires grid { tile.now.grid ≡ grid_over (seen_from self.old (rect_with rect)) self.old.options }
+        ensures film { self.new ≡ self.old }
+        ensures pixels { IfOk result (λ band. (f : Sample → List Fragment) → Shows tile.now f → band.items ≡ pixels (film_with self.old (λ s. composite (f s))) (rect_with rect)) }
+    {
+        let r = rect_of(rect);
+        let columns = Span {
+            first: r.left,
+            end: r.right,
+        };
+        self.options.ranges_known();
+        fill(&mut self.totals, &self.weights, &r, tile)?;
+        let mut band = vec![in alloc; [0; 3]; r.count()]?;
+        put_rows(
+            band.as_mut_slice(),
+            columns,
+            &self.options,
+            &r,
+            self.totals.as_slice(),
+            tile.samples(),
+        );
+        Ok(band)
     }
 }

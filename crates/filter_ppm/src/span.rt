@@ -11,13 +11,13 @@ pub(crate) struct Span {
 }
 
 /// Numbers of half a 256th of a pixel in whole pixels, rounded down.
-#[tactic(auto, using(fixed_math::proofs::Floor::div_euclid_is, crate::proofs::Spans::pixels_small))]
+#[tactic(auto, using(fixed_math::proofs::Floor::shr_is, crate::proofs::Spans::pixels_small))]
 fn pixels_of(n: i64) -> i64
     requires { unsigned_abs n ≤ 536875264 }
     ensures value { result ≡ floor_by n 512 }
     ensures size { unsigned_abs result ≤ 1048600 }
 {
-    n.div_euclid(512)
+    n >> 9
 }
 
 /// Twice a place less a pixel and the filter's width.

@@ -1,10 +1,13 @@
 // The filter's weights as tables over offsets.
-ghost use Rattle.std.specs.Prelude.{◌≡◌, ◌≤◌, ◌<◌, ◌+◌, ◌/◌, ◌*◌, ◌+ℤ◌, ◌-ℤ◌, pos, true, IfOk, unsigned_abs};
+ghost use Rattle.std.specs.Prelude.{ℕ, ◌≡◌, ◌≤◌, ◌<◌, ◌+◌, ◌/◌, ◌*◌, ◌+ℤ◌, ◌-ℤ◌, pos, true, IfOk, unsigned_abs, length};
 ghost use Rattle.scene.specs.Settings.{OptionValues};
 ghost use Rattle.filter_ppm.specs.Weight.{counts};
+ghost use Rattle.scene.specs.declared.filter.Filter.{Filter};
 ghost use Rattle.filter_ppm.specs.Tables.{part, joined, power, IsTable, ArePowers};
+ghost use Rattle.filter_ppm.specs.Bells.{AreBells, IsBellRow, IsRowOf};
 ghost use Rattle.fixed_math.specs.Fixed.{IsRaw};
 
+use crate::bells::{Bells, Side, weight_in};
 use crate::weights::{across_at, bell_of, slope_at};
 use fixed_math::{NoMemory, Num};
 use scene::{Filter, Options};
@@ -18,6 +21,7 @@ pub(crate) struct Weights {
     across: Vec<Num>,
     down: Vec<Num>,
     powers: Vec<i32>,
+    bells: Bells,
 }
 
 impl Model for Weights {
@@ -25,7 +29,7 @@ impl Model for Weights {
 
     ghost view = { λ w. w.options };
 
-    ghost invariant = { λ w. IsTable w.options.filter w.options.wx w.across.items × IsTable w.options.filter w.options.wy w.down.items × ArePowers w.powers.items };
+    ghost invariant = { λ w. IsTable w.options.filter w.options.wx w.across.items × IsTable w.options.filter w.options.wy w.down.items × ArePowers w.powers.items × AreBells w.options.filter w.options.wx w.options.wy w.bells };
 }
 
 /// The number of the offset `d` in one direction.
@@ -128,13 +132,35 @@ fn powers(alloc: Global, count: usize) -> Result<Vec<i32>, NoMemory>
     Ok(powers)
 }
 
-/// How many powers are kept for a frame of so many pixels: all that a gaussian can want, unless it looks up fewer than that.
-fn kept(filter: Filter, pixels: usize) -> usize
+/// How many powers are kept for a frame of so many pixels: all that a gaussian can want, unless it looks up fewer than that or has its
+/// weights in a table of their own.
+fn kept(filter: Filter, pixels: usize, has_bells: bool) -> usize
     ensures { result ≤ 131073 }
 {
     match filter {
-        Filter::Gaussian => { if pixels >= 8192 { 131073 } else { 0 } }
+        Filter::Gaussian if pixels >= 8192 && !has_bells => 131073,
         _ => 0,
+    }
+}
+
+/// The weights of a gaussian for pairs of offsets, for a frame of so many pixels, where they are few and not fewer are looked up; else
+/// none.
+fn bells_for(
+    alloc: Global,
+    filter: Filter,
+    pixels: usize,
+    across: &[Num],
+    down: &[Num],
+) -> Result<Bells, NoMemory>
+    requires across_some { 1 ≤ length across.now }
+    requires across_most { length across.now ≤ 4096 }
+    requires down_some { 1 ≤ length down.now }
+    requires down_most { length down.now ≤ 4096 }
+    ensures { IfOk result (λ b. (wx wy : ℕ) → IsTable filter wx across.now → IsTable filter wy down.now → AreBells filter wx wy b) }
+{
+    match filter {
+        Filter::Gaussian if pixels >= 8192 => Bells::new(alloc, across, down),
+        _ => Ok(Bells::none(alloc)),
     }
 }
 
@@ -183,11 +209,16 @@ impl Weights {
         ensures { IfOk result (λ weights. weights ≡ options.now) }
     {
         let o = *options;
+        let across = table(alloc, o.filter, o.wx)?;
+        let down = table(alloc, o.filter, o.wy)?;
+        let bells = bells_for(alloc, o.filter, pixels, across.as_slice(), down.as_slice())?;
+        let powers = powers(alloc, kept(o.filter, pixels, bells.are_some()))?;
         Ok(Weights {
             options: o,
-            across: table(alloc, o.filter, o.wx)?,
-            down: table(alloc, o.filter, o.wy)?,
-            powers: powers(alloc, kept(o.filter, pixels))?,
+            across,
+            down,
+            powers,
+            bells,
         })
     }
 
@@ -206,7 +237,7 @@ impl Weights {
     }
 
     /// The number of the row `y` for a place that counts for it.
-    pub(crate) fn down(&self, place: i64, y: usize) -> Num
+    fn down(&self, place: i64, y: usize) -> Num
         requires place { unsigned_abs place ≤ 268435456 }
         requires pixel { y < 4096 }
         requires counts { counts self.now.wy (place -ℤ pos (256 * y + 128)) ≡ true }
@@ -220,19 +251,70 @@ impl Weights {
         )
     }
 
-    /// The weight of a place that counts for the pixel `x` of a row whose number is `down`.
-    pub(crate) fn weight(&self, place: i64, x: usize, down: Num) -> Num
+    /// The weights of the row `y` of pixels for a place that counts for it.
+    pub(crate) fn row(&self, place: i64, y: usize) -> RowWeights<'_>
+        requires place { unsigned_abs place ≤ 268435456 }
+        requires pixel { y < 4096 }
+        requires counts { counts self.now.wy (place -ℤ pos (256 * y + 128)) ≡ true }
+        ensures { IsRowOf self.now (part self.now.filter self.now.wy (place -ℤ pos (256 * y + 128))) result }
+    {
+        RowWeights {
+            options: self.options,
+            across: self.across.as_slice(),
+            powers: self.powers.as_slice(),
+            down: self.down(place, y),
+            side: self.bells.across,
+            start: start_in(&self.bells, self.options.wy, from_middle(place, y)),
+            weights: self.bells.weights.as_slice(),
+        }
+    }
+}
+
+/// Where the row of an offset down that counts begins among a gaussian's weights.
+fn start_in(bells: &Bells, width: u32, d: i64) -> u32
+    requires most { width ≤ 4096 }
+    requires within { counts width d ≡ true }
+    ensures { (f : Filter) (wx : ℕ) → AreBells f wx width bells.now → IsBellRow f wx (part f width d) bells.now.across result bells.now.weights.items }
+{
+    bells.start(index_of(width, d))
+}
+
+/// A weight of 16 bits.
+fn num_of_short(weight: u16) -> Num
+    ensures { result ≡ pos weight }
+{
+    Num::sat(weight as i128)
+}
+
+/// The weights of a row of pixels for the samples of one height: what they are read from, each at hand for a loop over pixels.
+#[derive(Clone, Copy)]
+pub(crate) struct RowWeights<'a> {
+    pub(crate) options: Options,
+    across: &'a [Num],
+    powers: &'a [i32],
+    down: Num,
+    // the gaussian's weights for pairs of offsets, and where those of the row begin
+    side: Side,
+    start: u32,
+    weights: &'a [u16],
+}
+
+impl RowWeights<'_> {
+    /// The weight of a place that counts for the pixel `x` of the row.
+    pub(crate) fn weight(&self, place: i64, x: usize) -> Num
         requires place { unsigned_abs place ≤ 268435456 }
         requires pixel { x < 4096 }
-        requires counts { counts self.now.wx (place -ℤ pos (256 * x + 128)) ≡ true }
-        ensures { result ≡ joined self.now.filter (part self.now.filter self.now.wx (place -ℤ pos (256 * x + 128))) down }
+        requires row { IsRowOf self.now.options self.now.down self.now }
+        requires counts { counts self.now.options.wx (place -ℤ pos (256 * x + 128)) ≡ true }
+        ensures { result ≡ joined self.now.options.filter (part self.now.options.filter self.now.options.wx (place -ℤ pos (256 * x + 128))) self.now.down }
     {
-        let across = part_in(
-            self.options.filter,
-            self.options.wx,
-            self.across.as_slice(),
-            from_middle(place, x),
-        );
-        joined(self.options.filter, self.powers.as_slice(), across, down)
+        let offset = from_middle(place, x);
+        let index = index_of(self.options.wx, offset);
+        let kept = weight_in(self.side, self.start, self.weights, index);
+        if kept != 0 {
+            return num_of_short(kept);
+        }
+        let across = part_in(self.options.filter, self.options.wx, self.across, offset);
+        joined(self.options.filter, self.powers, across, self.down)
     }
 }

@@ -177,11 +177,11 @@ none_is (pos zero) p q r h = refl
 none_is (pos (suc n)) p q r h = absurd (omega (arith, ints, h))
 none_is (negsuc n) p q r h = absurd (omega (arith, ints, h))
 
-pub facing_above : (a b c : RasterPoint) (t : Facing) → t.a ≡ a → t.b ≡ b → t.c ≡ c → pos 0 <ℤ edge a.place b.place c.place → IsFacingOf a b c (Some t)
+pub facing_above : (a b c : RasterPoint) (t : Facing) → t.a.now ≡ a → t.b.now ≡ b → t.c.now ≡ c → pos 0 <ℤ edge a.place b.place c.place → IsFacingOf a b c (Some t)
 unfolding covers_triangle
 facing_above a b c t x y z h = record { same = λ f s. rw (x, y, z) (above_is (edge a.place b.place c.place) _ None _ h) }
 
-pub facing_below : (a b c : RasterPoint) (t : Facing) → t.a ≡ a → t.b ≡ c → t.c ≡ b → edge a.place b.place c.place <ℤ pos 0 → IsFacingOf a b c (Some t)
+pub facing_below : (a b c : RasterPoint) (t : Facing) → t.a.now ≡ a → t.b.now ≡ c → t.c.now ≡ b → edge a.place b.place c.place <ℤ pos 0 → IsFacingOf a b c (Some t)
 unfolding covers_triangle
 facing_below a b c t x y z h = record { same = λ f s. rw (x, y, z) (below_is (edge a.place b.place c.place) _ None _ h) }
 
@@ -196,12 +196,12 @@ flat_means w f p q r h =
     let same : (z : ℤ) → mean_at w z z z ≡ z = λ z. sym (mean_at-same w z z z h refl refl) in
     rw (same f.colour.x, same f.colour.y, same f.colour.z, same f.opacity.x, same f.opacity.y, same f.opacity.z) refl
 
-pub facing_some : (f : FlatCell) (t : Facing) (s : Spot) (w : Areas) → is_in_three t.a.place t.b.place t.c.place s ≡ true → w ≡ areas_at t.a.place t.b.place t.c.place s →
-    facing_covers f (Some t) s ≡ Some (means_at w (flat_corner f t.a) (flat_corner f t.b) (flat_corner f t.c))
+pub facing_some : (f : FlatCell) (t : Facing) (s : Spot) (w : Areas) → is_in_three t.a.now.place t.b.now.place t.c.now.place s ≡ true → w ≡ areas_at t.a.now.place t.b.now.place t.c.now.place s →
+    facing_covers f (Some t) s ≡ Some (means_at w (flat_corner f t.a.now) (flat_corner f t.b.now) (flat_corner f t.c.now))
 unfolding covers_facing
 facing_some f t s w i e = rw (i, e) refl
 
-pub facing_beside : (f : FlatCell) (t : Facing) (s : Spot) → is_in_three t.a.place t.b.place t.c.place s ≡ false → facing_covers f (Some t) s ≡ None
+pub facing_beside : (f : FlatCell) (t : Facing) (s : Spot) → is_in_three t.a.now.place t.b.now.place t.c.now.place s ≡ false → facing_covers f (Some t) s ≡ None
 unfolding covers_facing
 facing_beside f t s i = rw i refl
 

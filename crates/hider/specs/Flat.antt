@@ -83,7 +83,7 @@ own_corner g p n = record { place = p.place; depth = p.depth; colour = slice_ind
 -- what a triangle of a micropolygon shows, if it is one
 abbrev pub facing_covers : FlatCell → Option Facing → Spot → Option Fragment
 facing_covers f None s = None
-facing_covers f (Some t) s = covers_facing (flat_corner f t.a) (flat_corner f t.b) (flat_corner f t.c) s
+facing_covers f (Some t) s = covers_facing (flat_corner f t.a.now) (flat_corner f t.b.now) (flat_corner f t.c.now) s
 
 -- it is the triangle of three corners, turned so that its area is positive, and none where that is 0
 pub record IsFacingOf (a b c : RasterPoint) (t : Option Facing) : Type 0 where

@@ -11,38 +11,38 @@ use crate::spot::Spot;
 
 /// A triangle whose twofold area is `whole`, above 0, with what its three edges in turn own of the places on them.
 #[derive(Clone, Copy)]
-pub(crate) struct Facing {
-    pub(crate) a: RasterPoint,
-    pub(crate) b: RasterPoint,
-    pub(crate) c: RasterPoint,
+pub(crate) struct Facing<'a> {
+    pub(crate) a: &'a RasterPoint,
+    pub(crate) b: &'a RasterPoint,
+    pub(crate) c: &'a RasterPoint,
     pub(crate) whole: i64,
     first: bool,
     second: bool,
     third: bool,
-    pub(crate) ghost first_is: { first ≡ owns (b.place.x -ℤ a.place.x) (b.place.y -ℤ a.place.y) },
-    pub(crate) ghost second_is: { second ≡ owns (c.place.x -ℤ b.place.x) (c.place.y -ℤ b.place.y) },
-    pub(crate) ghost third_is: { third ≡ owns (a.place.x -ℤ c.place.x) (a.place.y -ℤ c.place.y) },
-    pub(crate) ghost whole_is: { whole ≡ edge a.place b.place c.place },
+    pub(crate) ghost first_is: { first ≡ owns (b.now.place.x -ℤ a.now.place.x) (b.now.place.y -ℤ a.now.place.y) },
+    pub(crate) ghost second_is: { second ≡ owns (c.now.place.x -ℤ b.now.place.x) (c.now.place.y -ℤ b.now.place.y) },
+    pub(crate) ghost third_is: { third ≡ owns (a.now.place.x -ℤ c.now.place.x) (a.now.place.y -ℤ c.now.place.y) },
+    pub(crate) ghost whole_is: { whole ≡ edge a.now.place b.now.place c.now.place },
     pub(crate) ghost some: { pos 0 <ℤ whole },
     pub(crate) ghost small: { unsigned_abs whole ≤ 2 ^ 59 },
 }
 
-impl Facing {
+impl<'a> Facing<'a> {
     ghost use Rattle.hider.specs.Flat.{IsFacingOf};
 
     /// The triangle of three corners whose twofold area is `whole`, above 0.
-    fn turned(a: &RasterPoint, b: &RasterPoint, c: &RasterPoint, whole: i64) -> Facing
+    fn turned(a: &'a RasterPoint, b: &'a RasterPoint, c: &'a RasterPoint, whole: i64) -> Facing<'a>
         requires whole { whole ≡ edge a.now.place b.now.place c.now.place }
         requires some { pos 0 <ℤ whole }
         requires small { unsigned_abs whole ≤ 2 ^ 59 }
-        ensures a { result.a ≡ a.now }
-        ensures b { result.b ≡ b.now }
-        ensures c { result.c ≡ c.now }
+        ensures a { result.a.now ≡ a.now }
+        ensures b { result.b.now ≡ b.now }
+        ensures c { result.c.now ≡ c.now }
     {
         Facing {
-            a: *a,
-            b: *b,
-            c: *c,
+            a,
+            b,
+            c,
             whole,
             first: owns_places(a.place, b.place),
             second: owns_places(b.place, c.place),
@@ -51,7 +51,12 @@ impl Facing {
     }
 
     /// The triangle of three corners, turned so that its area is positive: `area` is its twofold area with its sign.
-    pub(crate) fn of(a: &RasterPoint, b: &RasterPoint, c: &RasterPoint, area: i64) -> Option<Facing>
+    pub(crate) fn of(
+        a: &'a RasterPoint,
+        b: &'a RasterPoint,
+        c: &'a RasterPoint,
+        area: i64,
+    ) -> Option<Facing<'a>>
         requires area { area ≡ edge a.now.place b.now.place c.now.place }
         requires small { unsigned_abs area ≤ 2 ^ 59 }
         ensures { IsFacingOf a.now b.now c.now result }
@@ -67,8 +72,8 @@ impl Facing {
 
     /// The areas at a place that the triangle covers.
     pub(crate) fn areas(&self, s: Spot) -> Option<Areas>
-        ensures covers { MatchOption result (is_in_three self.now.a.place self.now.b.place self.now.c.place s ≡ false) (λ w. is_in_three self.now.a.place self.now.b.place self.now.c.place s ≡ true) }
-        ensures areas { IfSome result (λ w. w ≡ areas_at self.now.a.place self.now.b.place self.now.c.place s) }
+        ensures covers { MatchOption result (is_in_three self.now.a.now.place self.now.b.now.place self.now.c.now.place s ≡ false) (λ w. is_in_three self.now.a.now.place self.now.b.now.place self.now.c.now.place s ≡ true) }
+        ensures areas { IfSome result (λ w. w ≡ areas_at self.now.a.now.place self.now.b.now.place self.now.c.now.place s) }
         ensures parts { IfSome result (λ w. AreAreas w) }
         ensures small { IfSome result (λ w. unsigned_abs w.whole ≤ 2 ^ 59) }
     {

@@ -99,8 +99,8 @@ fn hide_in(
         return Ok(());
     }
     let quad = FlatQuad {
-        cell: *cell,
-        bounds: *bounds,
+        cell,
+        bounds,
         first: Facing::of(&cell.a, &cell.b, &cell.c, first),
         second: Facing::of(&cell.a, &cell.c, &cell.d, second),
     };

@@ -21,27 +21,27 @@ use fixed_math::NoMemory;
 
 /// A micropolygon of one colour and opacity with its box and its two triangles.
 #[derive(Drop)]
-pub(crate) struct FlatQuad {
-    pub(crate) cell: FlatCell,
-    pub(crate) bounds: Bounds,
-    pub(crate) first: Option<Facing>,
-    pub(crate) second: Option<Facing>,
-    pub(crate) ghost bounds_are: { bounds ≡ bounds_of (flat_quad cell) },
-    pub(crate) ghost first_is: { IsFacingOf cell.a cell.b cell.c first },
-    pub(crate) ghost second_is: { IsFacingOf cell.a cell.c cell.d second },
+pub(crate) struct FlatQuad<'a> {
+    pub(crate) cell: &'a FlatCell,
+    pub(crate) bounds: &'a Bounds,
+    pub(crate) first: Option<Facing<'a>>,
+    pub(crate) second: Option<Facing<'a>>,
+    pub(crate) ghost bounds_are: { bounds.now ≡ bounds_of (flat_quad cell.now) },
+    pub(crate) ghost first_is: { IsFacingOf cell.now.a cell.now.b cell.now.c first },
+    pub(crate) ghost second_is: { IsFacingOf cell.now.a cell.now.c cell.now.d second },
 }
 
 /// Puts in what a triangle of a micropolygon shows where it covers a place with these areas. Its colour and opacity are those
 /// of all corners.
 fn put_covered(
     cell: &FlatCell,
-    t: &Facing,
+    t: &Facing<'_>,
     areas: &Areas,
     list: &mut FragmentList,
 ) -> Result<(), NoMemory>
     requires parts { AreAreas areas.now }
     requires small { unsigned_abs areas.now.whole ≤ 2 ^ 59 }
-    ensures { OnOk result (list.new ≡ keep (means_at areas.now (flat_corner cell.now t.now.a) (flat_corner cell.now t.now.b) (flat_corner cell.now t.now.c)) list.old) }
+    ensures { OnOk result (list.new ≡ keep (means_at areas.now (flat_corner cell.now t.now.a.now) (flat_corner cell.now t.now.b.now) (flat_corner cell.now t.now.c.now)) list.old) }
 {
     let Some(depth) = list.visible_depth(areas, t.a.depth, t.b.depth, t.c.depth) else {
         return Ok(());
@@ -56,7 +56,7 @@ fn put_covered(
 /// Puts in what a triangle of a micropolygon shows at a place, and says whether it covers the place.
 fn put_facing(
     cell: &FlatCell,
-    facing: &Option<Facing>,
+    facing: &Option<Facing<'_>>,
     s: Spot,
     list: &mut FragmentList,
 ) -> Result<bool, NoMemory>
@@ -74,18 +74,18 @@ fn put_facing(
 }
 
 /// Puts in what the micropolygon shows at a place inside its box.
-fn put_inside(quad: &FlatQuad, s: Spot, list: &mut FragmentList) -> Result<(), NoMemory>
-    ensures { OnOk result (list.new ≡ keep_all list.old (cons_option (covers (flat_quad quad.now.cell) s) [])) }
+fn put_inside(quad: &FlatQuad<'_>, s: Spot, list: &mut FragmentList) -> Result<(), NoMemory>
+    ensures { OnOk result (list.new ≡ keep_all list.old (cons_option (covers (flat_quad quad.now.cell.now) s) [])) }
 {
-    if put_facing(&quad.cell, &quad.first, s, list)? {
+    if put_facing(quad.cell, &quad.first, s, list)? {
         return Ok(());
     }
-    put_facing(&quad.cell, &quad.second, s, list)?;
+    put_facing(quad.cell, &quad.second, s, list)?;
     Ok(())
 }
 
-impl Showing for FlatQuad {
-    ghost shown = { λ q s. covers (flat_quad q.cell) s.place };
+impl<'a> Showing for FlatQuad<'a> {
+    ghost shown = { λ q s. covers (flat_quad q.cell.now) s.place };
 
     fn put_at(
         &self,

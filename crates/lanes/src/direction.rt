@@ -4,7 +4,7 @@ ghost use Rattle.fixed_math.specs.Fixed.{IsRaw};
 ghost use Rattle.fixed_math.specs.Unit.{square, norm, part, unit_part};
 
 use crate::quotient::{Inverse, floor_by, inverse_of};
-use crate::root::isqrt;
+use crate::root::{Root, isqrt, root_of};
 
 /// The three parts of a direction.
 #[derive(Clone, Copy)]
@@ -30,6 +30,16 @@ fn norm(x: i32, y: i32, z: i32) -> u64
     ensures bound { result < 2 ^ 32 }
 {
     isqrt(square(x) + square(y) + square(z))
+}
+
+// The same with its inverse.
+#[inline(always)]
+#[tactic(auto, unfolding(fixed_math::specs::Unit::norm))]
+fn norm_with_inverse(x: i32, y: i32, z: i32) -> Root
+    ensures value { result.root ≡ norm x y z }
+    ensures bound { result.root < 2 ^ 32 }
+{
+    root_of(square(x) + square(y) + square(z))
 }
 
 #[inline(always)]
@@ -71,8 +81,8 @@ pub fn unit(x: i32, y: i32, z: i32) -> Direction
     ensures z { result.z ≡ unit_part z x y z }
     ensures raws { IsRaw result.x × IsRaw result.y × IsRaw result.z }
 {
-    let n = norm(x, y, z);
-    unit_by(x, y, z, n, inverse_of(n))
+    let n = norm_with_inverse(x, y, z);
+    unit_by(x, y, z, n.root, n.by)
 }
 
 /// Four directions.

@@ -1,5 +1,5 @@
 // Quotients, by a table's guess that is tested: the processor's own division is slow.
-ghost use Rattle.std.specs.Prelude.{◌≡◌, ◌<◌, ◌≤◌, ◌^◌, ◌/◌, ◌*◌, ℤ, pos, neg_ℤ, ◌≤ℤ◌, ◌*ℤ◌, unsigned_abs, cond, int_lt};
+ghost use Rattle.std.specs.Prelude.{◌≡◌, ◌+◌, ◌<◌, ◌≤◌, ◌^◌, ◌/◌, ◌*◌, ℤ, pos, neg_ℤ, ◌≤ℤ◌, ◌*ℤ◌, unsigned_abs, cond, int_lt, true, false};
 ghost use Rattle.fixed_math.specs.Fixed.{IsRaw, div, sat};
 ghost use Rattle.fixed_math.specs.Whole.{floor_by};
 ghost use Rattle.lanes.specs.Signs.{magnitude, signed_as};
@@ -14,6 +14,17 @@ pub struct Inverse {
     zeros: u32,
 }
 
+// The inverse by one step of Newton's from `first`, about 2^31 over `x`, which are the first 32 bits of the divisor. It is rounded
+// up, so that a quotient without a rest isn't guessed one too low.
+#[inline(always)]
+fn sharpened(x: u64, first: u64, zeros: u32) -> Inverse {
+    let rest = 0u64.wrapping_sub(x.wrapping_mul(first)) >> 32;
+    Inverse {
+        factor: first.wrapping_mul(rest.wrapping_add(1)),
+        zeros,
+    }
+}
+
 /// The inverse that `quotient` guesses by.
 #[inline(always)]
 pub fn inverse_of(d: u64) -> Inverse {
@@ -22,11 +33,15 @@ pub fn inverse_of(d: u64) -> Inverse {
     let x = top >> 32;
     let first = INVERSES[((top >> 55) & 255) as usize] as u64;
     let second = first.wrapping_mul(4398046511104u64.wrapping_sub(x.wrapping_mul(first))) >> 19;
-    let rest = 0u64.wrapping_sub(x.wrapping_mul(second)) >> 32;
-    Inverse {
-        factor: second.wrapping_mul(rest),
-        zeros,
-    }
+    sharpened(x, second, zeros)
+}
+
+/// The same of a divisor of 32 bits, where it is nearly known: `first` is about 2^31 over `d` with its first bit brought to the
+/// top of 32, which are `zeros` bits.
+#[inline(always)]
+pub(crate) fn inverse_near(d: u64, first: u64, zeros: u32) -> Inverse {
+    let zeros = zeros & 31;
+    sharpened(d << zeros, first, zeros + 32)
 }
 
 #[inline(always)]
@@ -37,20 +52,29 @@ pub(crate) fn guess(n: u64, by: Inverse) -> u64
     ((high << 1) >> (63 - (by.zeros & 63))) & 4294967295
 }
 
+/// Whether `n` is at least `from` and less than `room` above it, by one comparison: below `from` the difference wraps to more.
+#[inline(always)]
+pub(crate) fn lies_within(n: u64, from: u64, room: u64) -> bool
+    requires { from + room ≤ 2 ^ 64 }
+    ensures yes { result ≡ true → (from ≤ n) × (n < from + room) }
+    ensures no { result ≡ false → from ≤ n → from + room ≤ n }
+{
+    n.wrapping_sub(from) < room
+}
+
 // The quotient, at once where `q` is at most one off.
 #[inline(always)]
 fn settled(n: u64, d: u64, q: u64) -> u64
     requires some { 0 < d }
-    requires fits { q * d < 2 ^ 64 }
+    requires fits { q * d + d ≤ 2 ^ 64 }
     ensures { result ≡ n / d }
 {
     let product = q * d;
+    if lies_within(n, product, d) {
+        return q;
+    }
     if product <= n {
-        let rest = n - product;
-        if rest < d {
-            return q;
-        }
-        if rest - d < d {
+        if n - product - d < d {
             return q + 1;
         }
     } else if product - n <= d {

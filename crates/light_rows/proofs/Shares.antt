@@ -11,7 +11,7 @@ use Rattle.builtins.specs.Triples.{each_two, dot, normalize}
 use Rattle.builtins.specs.Values.{is_nonzero}
 use Rattle.number_rows.specs.Truths.{truth}
 use Rattle.light_rows.specs.declared.answers.Answers.{Answers}
-use Rattle.light_rows.specs.Loops.{half_way, weight, is_before, with_share, with_shares}
+use Rattle.light_rows.specs.Loops.{half_way, weight, is_before, with_share, with_shares, shown_highlight}
 use Rattle.light_rows.specs.Seen.{at_place, option_bind, reflected, with_gain, counts_in, IsAnswer}
 use Rattle.light_rows.specs.declared.sums.Sum.TheVariants.{Diffuse, Specular}
 use Rattle.number_rows.specs.declared.plane.Plane.{Plane}
@@ -37,6 +37,20 @@ truth_back : (b : Bool) → is_nonzero (truth b) ≡ b
 truth_back true = refl
 truth_back false = refl
 
+-- a share that is looked at where it is shown
+shown_once : (b : Bool) (t c : Vec3) (w : ℤ) → cond b (each_two add t (scaled_by (cond b w (pos 0)) c)) t ≡ cond b (each_two add t (scaled_by w c)) t
+shown_once true t c w = refl
+shown_once false t c w = refl
+
+-- a total with a highlight, where it is shown
+highlights_are : (b : Bool) (normal unit v : Vec3) (e : ℤ) (t c : Vec3) → with_shares (truth b) t c (shown_highlight (truth b) normal unit v e) ≡ cond b (each_two add t (scaled_by (pow (weight normal (half_way unit v)) e) c)) t
+unfolding shown_highlight
+highlights_are b normal unit v e t c =
+    let w = pow (weight normal (half_way unit v)) e in
+    shares_are (truth b) t c (cond (is_nonzero (truth b)) w (pos 0))
+    ∙ ap (λ d. cond d (each_two add t (scaled_by (cond d w (pos 0)) c)) t) (truth_back b)
+    ∙ shown_once b t c w
+
 module _ (a : Answers) (i : ℕ) (l : Light) (n normal t : Vec3) (h : a.ambient ≡ false) (is : IsAnswer a i l) (en : normal ≡ normalize n) where
   abbrev to : Vec3
   to = at_place a.towards i
@@ -55,15 +69,14 @@ module _ (a : Answers) (i : ℕ) (l : Light) (n normal t : Vec3) (h : a.ambient 
       ∙ ap (λ m. cond here (each_two add t (scaled_by (max (pos 0) (dot (normalize to) m)) (at_place a.colours i))) t) en
       ∙ sym (ap (λ o. with_gain t (option_bind o (λ x. Some (diffused n x)))) shown_here ∙ gain_if here t (to, at_place a.colours i) (diffused n))
 
-  pub specular_share : (v : Vec3) (r e : ℤ) → e ≡ div (pos 65536) r → with_shares (truth (is_before (get_or a.lit.items i (pos 0)) (at_place a.units i) normal)) t (at_place a.colours i) (pow (weight normal (half_way (at_place a.units i) v)) e) ≡ with_gain t (option_bind (shown [] l) (reflected n v r))
+  pub specular_share : (v : Vec3) (r e : ℤ) → e ≡ div (pos 65536) r → (let b = truth (is_before (get_or a.lit.items i (pos 0)) (at_place a.units i) normal) in with_shares b t (at_place a.colours i) (shown_highlight b normal (at_place a.units i) v e)) ≡ with_gain t (option_bind (shown [] l) (reflected n v r))
   unfolding weight is_before
   specular_share v r e he =
       let c = at_place a.colours i in
       let lit = get_or a.lit.items i (pos 0) in
       let d = int_le (pos 0) (facing to n) in
       let g = scaled_by (pow (max (pos 0) (facing n (each_two add (normalize to) v))) (div (pos 65536) r)) c in
-      shares_are (truth (is_before lit (at_place a.units i) normal)) t c (pow (weight normal (half_way (at_place a.units i) v)) e)
-      ∙ ap (λ b. cond b (each_two add t (scaled_by (pow (weight normal (half_way (at_place a.units i) v)) e) c)) t) (truth_back (is_before lit (at_place a.units i) normal))
+      highlights_are (is_before lit (at_place a.units i) normal) normal (at_place a.units i) v e t c
       ∙ ap (λ u. cond (here && int_le (pos 0) (dot u normal)) (each_two add t (scaled_by (pow (max (pos 0) (dot normal (half_way u v))) e) c)) t) (is.unit h)
       ∙ ap (λ m. cond (here && int_le (pos 0) (dot (normalize to) m)) (each_two add t (scaled_by (pow (max (pos 0) (dot m (half_way (normalize to) v))) e) c)) t) en
       ∙ ap (λ x. cond (here && d) (each_two add t (scaled_by (pow (max (pos 0) (facing n (each_two add (normalize to) v))) x) c)) t) he

@@ -2,3 +2,4 @@ pub mod Seen
 pub mod Loops
 pub mod Scopes
 pub mod Shares
+pub mod Cones

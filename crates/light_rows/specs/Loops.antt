@@ -1,6 +1,7 @@
 -- For private contracts alone: what the loops of sums over lights compute at a place.
 use Rattle.std.specs.Prelude.{ℤ, pos, Bool, int_le, cond, ◌&&◌}
 use Rattle.fixed_math.specs.Fixed.{add, mul}
+use Rattle.fixed_math.specs.Power.{pow}
 use Rattle.fixed_math.specs.declared.vec3.Vec3.{Vec3}
 use Rattle.builtins.specs.Numbers.{max}
 use Rattle.builtins.specs.Triples.{each_two, dot, normalize}
@@ -17,6 +18,10 @@ weight a b = max (pos 0) (dot a b)
 -- a light is lit in front of a surface, by the units of the direction to it and of the normal
 unfoldable pub is_before : ℤ → Vec3 → Vec3 → Bool
 is_before lit u n = is_nonzero lit && int_le (pos 0) (dot u n)
+
+-- the weight of a highlight where it is shown, by the units of the normal and of the direction to the light, seen from v
+unfoldable pub shown_highlight : ℤ → Vec3 → Vec3 → Vec3 → ℤ → ℤ
+shown_highlight shown normal unit v exponent = cond (is_nonzero shown) (pow (weight normal (half_way unit v)) exponent) (pos 0)
 
 -- a number with a share of another one, where that is shown
 unfoldable pub with_share : ℤ → ℤ → ℤ → ℤ → ℤ

@@ -143,14 +143,14 @@ pub record IsCone (c : ℕ) (cone : Cone) : Type 0 where
 abbrev pub IsSumOf : Sum → Lighting → (ℕ → Vec3) → (ℕ → Vec3) → Type 0
 IsSumOf s w points out = (q : ℕ → Vec3) → AtPlaces w.places q points → (i : ℕ) → i < w.places → out i ≡ gained (gain_at s i) origin (answers_at w.lights q i)
 
--- a workroom has rows of so many places
+-- a workroom has rows of so many places, and the units of the normals that it knows
 pub record HasRows (c : ℕ) (w : Workroom) : Type 0 where
+  pub sources : size w.sources ≡ c
   pub normals : size w.normals ≡ c
   pub exponents : length w.exponents.items ≡ c
-  pub half_ways : size w.half_ways ≡ c
-  pub cosines : length w.cosines.items ≡ c
   pub weights : length w.weights.items ≡ c
   pub shown : length w.shown.items ≡ c
+  pub units : w.known ≡ true → (i : ℕ) → i < c → at_place w.normals i ≡ normalize (at_place w.sources i)
 
 -- it has the units of normals, and the exponents of highlights of that roughness
 abbrev pub AreNormals : ℕ → (ℕ → Vec3) → Workroom → Type 0

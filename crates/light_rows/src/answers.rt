@@ -52,7 +52,7 @@ impl Answers<'_> {
     {
         copy(lit, &mut self.lit);
         self.towards.take_turned(directions);
-        self.units.take_units(&self.towards.planes());
+        self.units.take_units_of(&self.towards);
     }
 
     /// Takes what a light's code has left: where it is lit, its directions to the places, and its colours.

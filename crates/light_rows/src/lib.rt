@@ -4,12 +4,14 @@
 #![tactic(auto)]
 
 mod answers;
+mod cones;
 mod illumination;
 mod loops;
 mod points;
 mod sums;
 mod taking;
 mod triples;
+mod units;
 mod viewing;
 mod workroom;
 

@@ -1,17 +1,19 @@
 // Loops of sums over lights, one formula a place.
 ghost use Rattle.std.specs.Prelude.{◌≡◌, ℕ, ◌<◌, ◌&&◌, pos, int_le, cond, length, get_or};
 ghost use Rattle.fixed_math.specs.Fixed.{add, mul};
+ghost use Rattle.fixed_math.specs.Power.{pow};
 ghost use Rattle.builtins.specs.Numbers.{max};
 ghost use Rattle.builtins.specs.Triples.{each_two, dot};
 ghost use Rattle.builtins.specs.Values.{is_nonzero};
+ghost use Rattle.number_rows.specs.Planes.{triple_at, ArePlanes};
 ghost use Rattle.number_rows.specs.Truths as truths;
-ghost use Rattle.light_rows.specs.Loops.{half_way, weight, is_before, with_share};
+ghost use Rattle.light_rows.specs.Loops.{half_way, weight, is_before, with_share, shown_highlight};
 ghost use Rattle.light_rows.specs.Seen.{size, at_place};
 
 use crate::triples::Triples;
 use builtins::max;
 use fixed_math::{Num, Vec3};
-use number_rows::{Dot, Normalize, OfTriples, Planes, Raw, ToTriple, ToTriples};
+use number_rows::{Dot, Normalize, OfTriples, Planes, Power, Raw, ToTriple, ToTriples, Two};
 
 // The sum of two triples.
 #[inline(always)]
@@ -170,5 +172,49 @@ pub fn add_whole(colours: &[Raw], totals: &mut [Raw])
 {
     for i in 0..totals.len() {
         totals[i] = sum(totals[i], colours[i]);
+    }
+}
+
+// The weight of a highlight, by the units of the normal and of the direction to the light, seen from v.
+#[inline(always)]
+fn highlight(normal: Vec3, unit: Vec3, v: Vec3, exponent: Raw) -> Raw
+    ensures { result ≡ pow (weight normal (half_way unit v)) exponent }
+{
+    Power::apply(weight_of(normal, HalfWay::apply(unit, v)), exponent)
+}
+
+// The same where it is shown, else 0.
+#[inline(always)]
+#[tactic(auto, unfolding(crate::specs::Loops::shown_highlight))]
+fn shown_highlight(shown: Raw, normal: Vec3, unit: Vec3, v: Vec3, exponent: Raw) -> Raw
+    ensures { result ≡ shown_highlight shown normal unit v exponent }
+{
+    if is_nonzero(shown) {
+        highlight(normal, unit, v, exponent)
+    } else {
+        Raw::zero()
+    }
+}
+
+/// The weights of highlights where they are shown, else 0, by the units of the normals and of the directions to a light, seen from v.
+#[tactic(auto, using(number_rows::proofs::Shorter::all_shorter))]
+pub fn shine(
+    shown: &[Raw],
+    normals: &Triples,
+    units: &Triples,
+    v: &Planes,
+    exponents: &[Raw],
+    out: &mut [Raw],
+)
+    requires shown { length shown.now ≡ length out.old }
+    requires normals { size normals.now ≡ length out.old }
+    requires units { size units.now ≡ length out.old }
+    requires v { ArePlanes (length out.old) v.now }
+    requires exponents { length exponents.now ≡ length out.old }
+    ensures long { length out.new ≡ length out.old }
+    ensures each { (i : ℕ) → i < length out.old → get_or out.new i (pos 0) ≡ shown_highlight (get_or shown.now i (pos 0)) (at_place normals.now i) (at_place units.now i) (triple_at v.now i) (get_or exponents.now i (pos 0)) }
+{
+    for i in 0..out.len() {
+        out[i] = shown_highlight(shown[i], normals.at(i), units.at(i), v.at(i), exponents[i]);
     }
 }

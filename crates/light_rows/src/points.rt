@@ -6,6 +6,7 @@ ghost use Rattle.light_rows.specs.Seen.{cone_at, IsCone};
 ghost use Rattle.light_rows.specs.Scopes.{points_at, scope_at};
 
 use crate::viewing::Cone;
+use fixed_math::Vec3;
 use number_rows::{Plane, Planes, Raw};
 
 /// A number for each place.
@@ -83,6 +84,19 @@ impl Points {
             x: self.x.plane(),
             y: self.y.plane(),
             z: self.z.plane(),
+        }
+    }
+
+    /// The triple of a place.
+    #[inline(always)]
+    pub fn at(&self, place: usize) -> Vec3
+        requires { place < 289 }
+        ensures { result ≡ triple_in self.now.x.row self.now.y.row self.now.z.row place }
+    {
+        Vec3 {
+            x: self.x.row[place].number(),
+            y: self.y.row[place].number(),
+            z: self.z.row[place].number(),
         }
     }
 }

@@ -5,6 +5,7 @@ ghost use Rattle.number_rows.specs.Planes.{plane_at, triple_at, IsPlane, ArePlan
 ghost use Rattle.light_rows.specs.Seen.{size, at_place};
 
 use crate::triples::Triples;
+use crate::units::one_unit;
 use bumpalo::Bump;
 use fixed_math::{NoMemory, Vec3};
 use number_rows::{Normalize, Plane, Planes, Raw, copy, part_row, triple_of_triple};
@@ -56,6 +57,14 @@ fn is_plane(a: &[Raw], plane: &Plane) -> bool
     match plane {
         Plane::Row(b) => are_same(a, b),
         Plane::Value(x) => are_value(a, *x),
+    }
+}
+
+// The first number, or 0 where there is none.
+fn first_of(row: &[Raw]) -> Raw {
+    match row.first() {
+        Some(x) => *x,
+        None => Raw::zero(),
     }
 }
 
@@ -120,13 +129,54 @@ impl Triples<'_> {
         part_row(ValueOperation::Negate, &planes.z, &mut self.z);
     }
 
-    /// Takes the vectors of length 1 in the directions of planes.
+    /// Takes the vectors of length 1 in the directions of planes. A direction that is given once for all places is worked out once.
     pub fn take_units(&mut self, planes: &Planes)
         requires { ArePlanes (size self.old) planes.now }
         ensures size { size self.new ≡ size self.old }
         ensures each { (i : ℕ) → i < size self.old → at_place self.new i ≡ normalize (triple_at planes.now i) }
     {
-        triple_of_triple::<Normalize>(planes, &mut self.x, &mut self.y, &mut self.z);
+        match (&planes.x, &planes.y, &planes.z) {
+            (Plane::Value(x), Plane::Value(y), Plane::Value(z)) => {
+                self.take(&one_unit(*x, *y, *z))
+            }
+            _ => triple_of_triple::<Normalize>(planes, &mut self.x, &mut self.y, &mut self.z),
+        }
+    }
+
+    // The first triple at all places.
+    fn first(&self) -> Planes<'static>
+        ensures { (c : ℕ) → ArePlanes c result }
+    {
+        Planes {
+            x: Plane::Value(first_of(&self.x)),
+            y: Plane::Value(first_of(&self.y)),
+            z: Plane::Value(first_of(&self.z)),
+        }
+    }
+
+    // Takes the vectors of length 1 in the directions of others, which may all be the first one.
+    fn take_units_by(&mut self, others: &Triples, first: &Planes)
+        requires others { size others.now ≡ size self.old }
+        requires first { ArePlanes (size self.old) first.now }
+        ensures size { size self.new ≡ size self.old }
+        ensures each { (i : ℕ) → i < size self.old → at_place self.new i ≡ normalize (at_place others.now i) }
+    {
+        if others.are(first) {
+            self.take_units(first);
+        } else {
+            let Planes { x, y, z } = others.planes();
+            self.take_units(&Planes { x, y, z });
+        }
+    }
+
+    /// Takes the vectors of length 1 in the directions of others. Where those are all the same, as of a distant light, it is worked out once.
+    pub fn take_units_of(&mut self, others: &Triples)
+        requires { size others.now ≡ size self.old }
+        ensures size { size self.new ≡ size self.old }
+        ensures each { (i : ℕ) → i < size self.old → at_place self.new i ≡ normalize (at_place others.now i) }
+    {
+        let Planes { x, y, z } = others.first();
+        self.take_units_by(others, &Planes { x, y, z });
     }
 
     /// Whether these are the triples of planes.

@@ -8,6 +8,7 @@ ghost use Rattle.builtins.specs.Lights.{Light};
 ghost use Rattle.light_rows.specs.Seen.{cone_at, shown_by, HasPlaces, HasPlanes, IsAnswer, IsShown, IsCone};
 
 use crate::answers::Answers;
+use crate::cones::Cones;
 use fixed_math::Vec3;
 use number_rows::{Dot, Normalize, OfTriples, Plane, Planes, Raw, ToTriple};
 use place_rows::Mask;
@@ -74,11 +75,12 @@ impl Cone<'_> {
         requires directions { ArePlanes count directions.now }
         ensures { (i : ℕ) → i < count → get_or result.places i false ≡ cone_at self.now i (triple_at directions.now i) }
     {
-        let mut mask = Mask::none();
-        for place in 0..count {
-            mask.places[place] = self.holds(place, Normalize::apply(directions.at(place)));
+        if self.given {
+            let cones = Cones::of(self, count);
+            cones.mask(directions, count)
+        } else {
+            Mask::full()
         }
-        mask
     }
 }
 

@@ -1,26 +1,27 @@
 // What sums over lights are worked out in.
 ghost use Rattle.std.specs.Prelude.{◌≡◌, ℕ, ◌<◌, pos, true, false, length, get_or, IfOk};
 ghost use Rattle.number_rows.specs.Planes.{plane_at, triple_at, triple_in, IsPlane, ArePlanes};
-ghost use Rattle.light_rows.specs.Shares.{matte_at, highlight_at, shining_at, HaveGained};
+ghost use Rattle.light_rows.specs.Shares.{matte_at, shining_at, HaveGained};
 ghost use Rattle.light_rows.specs.Seen.{size, at_place, counts_in, HasPlaces, HasRows, HasBegun, AreNormals, AreExponents, IsSum};
 
 use crate::answers::Answers;
-use crate::loops::{HalfWay, add_shares, add_whole, mark, weigh};
+use crate::loops::{add_shares, add_whole, mark, shine, weigh};
 use crate::sums::Sum;
 use crate::taking::zeros;
 use crate::triples::Triples;
 use bumpalo::Bump;
 use fixed_math::{NoMemory, Num};
-use number_rows::{Plane, Planes, Power, Raw, parts_rows, triple_of_triples, two_planes};
+use number_rows::{Plane, Planes, Raw, parts_rows};
 use sl_ast::ValueOperation;
 
-/// Rows for sums over lights: the units of a sum's normals and its exponents, and what is worked out of one light.
+/// Rows for sums over lights: the units of the normals of the last sum that had any, with those where they are known, its exponents, and the
+/// weights of one light with where its highlights are shown.
 #[derive(Drop)]
 pub struct Workroom<'a> {
+    pub known: bool,
+    pub sources: Triples<'a>,
     pub normals: Triples<'a>,
     pub exponents: Vec<Raw, &'a Bump>,
-    pub half_ways: Triples<'a>,
-    pub cosines: Vec<Raw, &'a Bump>,
     pub weights: Vec<Raw, &'a Bump>,
     pub shown: Vec<Raw, &'a Bump>,
 }
@@ -31,10 +32,10 @@ impl<'a> Workroom<'a> {
         ensures { IfOk result (λ w. HasRows count w) }
     {
         Ok(Workroom {
+            known: false,
+            sources: Triples::zeros(arena, count)?,
             normals: Triples::zeros(arena, count)?,
             exponents: zeros(arena, count)?,
-            half_ways: Triples::zeros(arena, count)?,
-            cosines: zeros(arena, count)?,
             weights: zeros(arena, count)?,
             shown: zeros(arena, count)?,
         })
@@ -54,6 +55,30 @@ impl Workroom<'_> {
         parts_rows(ValueOperation::Divide, &one, roughness, &mut self.exponents);
     }
 
+    // Whether it knows the units of these normals.
+    fn knows(&self, n: &Planes) -> bool
+        requires rows { HasRows (size self.now.normals) self.now }
+        requires planes { ArePlanes (size self.now.normals) n.now }
+        ensures { result ≡ true → AreNormals (size self.now.normals) (triple_at n.now) self.now }
+    {
+        self.known && self.sources.are(n)
+    }
+
+    // Works out the units of normals, where they aren't those of the sum before.
+    fn turn(&mut self, n: &Planes)
+        requires rows { HasRows (size self.old.normals) self.old }
+        requires planes { ArePlanes (size self.old.normals) n.now }
+        ensures rows { HasRows (size self.old.normals) self.new }
+        ensures same { size self.new.normals ≡ size self.old.normals }
+        ensures normals { AreNormals (size self.old.normals) (triple_at n.now) self.new }
+    {
+        if !self.knows(n) {
+            self.sources.take(n);
+            self.normals.take_units(n);
+            self.known = true;
+        }
+    }
+
     /// Works out what a sum needs of its arguments alone.
     pub fn begin(&mut self, sum: &Sum)
         requires rows { HasRows (size self.old.normals) self.old }
@@ -62,9 +87,9 @@ impl Workroom<'_> {
         ensures begun { HasBegun (size self.old.normals) sum.now self.new }
     {
         match sum {
-            Sum::Diffuse(n) => self.normals.take_units(n),
+            Sum::Diffuse(n) => self.turn(n),
             Sum::Specular(n, _, r) => {
-                self.normals.take_units(n);
+                self.turn(n);
                 self.sharpen(r);
             }
             Sum::Ambient | Sum::Nothing => (),
@@ -92,33 +117,6 @@ impl Workroom<'_> {
         add_shares(&answers.lit, &self.weights, &answers.colours.z, z);
     }
 
-    // The weights of highlights.
-    fn shine(&mut self, answers: &Answers, v: &Planes)
-        requires rows { HasRows (size answers.now.colours) self.old }
-        requires answers { HasPlaces (size answers.now.colours) answers.now }
-        requires v { ArePlanes (size answers.now.colours) v.now }
-        ensures rows { HasRows (size answers.now.colours) self.new }
-        ensures normals { self.new.normals ≡ self.old.normals }
-        ensures exponents { self.new.exponents ≡ self.old.exponents }
-        ensures shown { self.new.shown ≡ self.old.shown }
-        ensures each { (i : ℕ) → i < size answers.now.colours → get_or self.new.weights.items i (pos 0) ≡ highlight_at answers.now self.old v.now i }
-    {
-        let half = &mut self.half_ways;
-        triple_of_triples::<HalfWay>(
-            &answers.units.planes(),
-            v,
-            &mut half.x,
-            &mut half.y,
-            &mut half.z,
-        );
-        weigh(&self.normals, &self.half_ways, &mut self.cosines);
-        two_planes::<Power>(
-            &Plane::Row(&self.cosines),
-            &Plane::Row(&self.exponents),
-            &mut self.weights,
-        );
-    }
-
     // Adds highlights.
     fn add_specular(
         &mut self,
@@ -143,7 +141,14 @@ impl Workroom<'_> {
         ensures each { (i : ℕ) → i < size answers.now.colours → triple_in x.new y.new z.new i ≡ shining_at answers.now self.old v.now (triple_in x.old y.old z.old i) i }
     {
         mark(&answers.lit, &answers.units, &self.normals, &mut self.shown);
-        self.shine(answers, v);
+        shine(
+            &self.shown,
+            &self.normals,
+            &answers.units,
+            v,
+            &self.exponents,
+            &mut self.weights,
+        );
         add_shares(&self.shown, &self.weights, &answers.colours.x, x);
         add_shares(&self.shown, &self.weights, &answers.colours.y, y);
         add_shares(&self.shown, &self.weights, &answers.colours.z, z);

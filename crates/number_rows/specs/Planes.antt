@@ -1,9 +1,10 @@
 -- Numbers and triples at the places of a grid: in rows, or one at all places.
-use Rattle.std.specs.Prelude.{ℕ, ◌≤◌, ℤ, pos, List, length, get_or}
+use Rattle.std.specs.Prelude.{ℕ, ◌≤◌, ◌<◌, ◌≡◌, ℤ, pos, List, length, get_or}
 use Rattle.fixed_math.specs.declared.vec3.Vec3.{Vec3}
 use Rattle.number_rows.specs.declared.plane.Plane.{Plane}
 use Rattle.number_rows.specs.declared.plane.Plane.TheVariants.{Row, Value}
 use Rattle.number_rows.specs.declared.plane.Planes.{Planes}
+use Rattle.number_rows.specs.declared.plane.TripleRows.{TripleRows}
 
 abbrev pub plane_at : Plane → ℕ → ℤ
 plane_at (Row r) i = get_or r.now i (pos 0)
@@ -25,3 +26,22 @@ pub record ArePlanes (n : ℕ) (p : Planes) : Type 0 where
 -- the triple at a place of three rows
 abbrev pub triple_in : List ℤ → List ℤ → List ℤ → ℕ → Vec3
 triple_in xs ys zs i = record { x = get_or xs i (pos 0); y = get_or ys i (pos 0); z = get_or zs i (pos 0) }
+
+-- the plane is this row
+abbrev pub IsRow : List ℤ → Plane → Type 0
+IsRow xs (Row r) = xs ≡ r.now
+IsRow xs (Value x) = ⊥
+
+abbrev pub rows_at : TripleRows → ℕ → Vec3
+rows_at r i = triple_in r.x.now r.y.now r.z.now i
+
+-- each of three rows is longer than n
+pub record AreLonger (n : ℕ) (r : TripleRows) : Type 0 where
+  pub x : n < length r.x.now
+  pub y : n < length r.y.now
+  pub z : n < length r.z.now
+
+-- the planes are these rows
+pub record IsInRows (r : TripleRows) (p : Planes) : Type 0 where
+  pub same : (i : ℕ) → triple_at p i ≡ rows_at r i
+  pub long : (n i : ℕ) → ArePlanes n p → i < n → AreLonger i r

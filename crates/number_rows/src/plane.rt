@@ -1,6 +1,6 @@
 // Numbers at the places of a grid.
-ghost use Rattle.std.specs.Prelude.{◌≡◌, ◌+◌, ◌<◌, pos, length, get_or};
-ghost use Rattle.number_rows.specs.Planes.{plane_at, triple_at, IsPlane, ArePlanes};
+ghost use Rattle.std.specs.Prelude.{◌≡◌, ◌+◌, ◌<◌, pos, length, get_or, IfSome};
+ghost use Rattle.number_rows.specs.Planes.{plane_at, triple_at, rows_at, IsPlane, ArePlanes, IsRow, AreLonger, IsInRows};
 
 use crate::raw::Raw;
 use fixed_math::Vec3;
@@ -29,6 +29,17 @@ fn number_at(row: &[Raw], place: usize) -> Raw
 }
 
 impl Plane<'_> {
+    // The row, where it is one.
+    #[inline(always)]
+    fn row(&self) -> Option<&[Raw]>
+        ensures { IfSome result (λ row. IsRow row.now self.now) }
+    {
+        match self {
+            Plane::Row(row) => Some(row),
+            Plane::Value(_) => None,
+        }
+    }
+
     /// The number of a place.
     #[inline(always)]
     pub fn at(&self, place: usize) -> Raw
@@ -53,6 +64,43 @@ impl Planes<'_> {
             x: self.x.at(place).number(),
             y: self.y.at(place).number(),
             z: self.z.at(place).number(),
+        }
+    }
+}
+
+/// The parts of a triple for each place, where all are rows.
+#[derive(Clone, Copy)]
+pub(crate) struct TripleRows<'a> {
+    pub(crate) x: &'a [Raw],
+    pub(crate) y: &'a [Raw],
+    pub(crate) z: &'a [Raw],
+}
+
+impl TripleRows<'_> {
+    /// The triple of a place.
+    #[inline(always)]
+    pub(crate) fn at(&self, place: usize) -> Vec3
+        requires { AreLonger place self.now }
+        ensures { result ≡ rows_at self.now place }
+    {
+        Vec3 {
+            x: number_at(self.x, place).number(),
+            y: number_at(self.y, place).number(),
+            z: number_at(self.z, place).number(),
+        }
+    }
+}
+
+impl Planes<'_> {
+    /// The rows, where all parts are rows. A loop over them has nothing to decide at its places.
+    #[inline(always)]
+    #[tactic(auto, using(crate::proofs::Shorter::in_rows))]
+    pub(crate) fn rows(&self) -> Option<TripleRows<'_>>
+        ensures { IfSome result (λ rows. IsInRows rows self.now) }
+    {
+        match (self.x.row(), self.y.row(), self.z.row()) {
+            (Some(x), Some(y), Some(z)) => Some(TripleRows { x, y, z }),
+            _ => None,
         }
     }
 }

@@ -76,12 +76,15 @@ impl Raw {
         self.raw
     }
 
-    /// The number in its common form.
+    /// The number in its common form. The arm that is never taken tells the compiler the range, so that `sat` has nothing to cut.
     #[inline(always)]
     #[tactic(auto, using(fixed_math::proofs::Sat::sat_of_raw))]
     pub fn number(self) -> Num
         ensures { result ≡ self }
     {
+        if self.raw < -2147483647 {
+            unreachable!()
+        }
         Num::sat(self.raw as i128)
     }
 }

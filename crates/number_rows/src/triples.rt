@@ -3,11 +3,10 @@ ghost use Rattle.std.specs.Prelude.{◌≡◌, ℕ, ℤ, ◌<◌, pos, length, g
 ghost use Rattle.fixed_math.specs.declared.vec3.Vec3.{Vec3 as AnyVec3};
 ghost use Rattle.builtins.specs.Triples as t;
 ghost use Rattle.fixed_math.specs.Fixed.{add, mul};
-ghost use Rattle.number_rows.specs.Planes.{triple_at, triple_in, ArePlanes};
+ghost use Rattle.number_rows.specs.Planes.{triple_at, triple_in, rows_at, ArePlanes, AreLonger};
 
-use crate::plane::Planes;
+use crate::plane::{Planes, TripleRows};
 use crate::raw::Raw;
-use builtins::faceforward;
 use fixed_math::{Num, Vec3};
 use lanes::{direction, raw};
 
@@ -75,6 +74,17 @@ fn products(a: &Vec3, b: &Vec3) -> Num
     let y = product(Raw::of(a.y), Raw::of(b.y));
     let z = product(Raw::of(a.z), Raw::of(b.z));
     sum(sum(x, y), z).number()
+}
+
+#[inline(always)]
+fn negated(a: &Vec3) -> Vec3
+    ensures { result ≡ t.negated a.now }
+{
+    Vec3 {
+        x: a.x.neg(),
+        y: a.y.neg(),
+        z: a.z.neg(),
+    }
 }
 
 // The vector of length 1 of a direction; 0 for one of no length.
@@ -171,8 +181,13 @@ impl ToTripleOfThree for FaceForward {
     ghost formula = { t.faceforward };
 
     #[inline(always)]
+    #[tactic(auto, unfolding(builtins::specs::Triples::faceforward))]
     fn apply(a: Vec3, b: Vec3, c: Vec3) -> Vec3 {
-        faceforward(a, b, c)
+        if products(&b, &c).raw() > 0 {
+            negated(&a)
+        } else {
+            a
+        }
     }
 }
 
@@ -188,9 +203,21 @@ pub fn number_of_triple<K: OfTriple>(a: &Planes, out: &mut [Raw])
     }
 }
 
-/// A row takes the numbers of two triples.
+// A row takes the numbers of two triples in rows.
+fn number_of_rows<K: OfTriples>(a: TripleRows, b: TripleRows, out: &mut [Raw])
+    requires a { (i : ℕ) → i < length out.old → AreLonger i a }
+    requires b { (i : ℕ) → i < length out.old → AreLonger i b }
+    ensures long { length out.new ≡ length out.old }
+    ensures each { (i : ℕ) → i < length out.old → get_or out.new i (pos 0) ≡ K.formula (rows_at a.entry i) (rows_at b.entry i) }
+{
+    for i in 0..out.len() {
+        out[i] = Raw::of(K::apply(a.at(i), b.at(i)));
+    }
+}
+
+// The same of planes.
 #[tactic(auto, using(crate::proofs::Shorter::all_shorter))]
-pub fn number_of_triples<K: OfTriples>(a: &Planes, b: &Planes, out: &mut [Raw])
+fn number_of_planes<K: OfTriples>(a: &Planes, b: &Planes, out: &mut [Raw])
     requires a { ArePlanes (length out.old) a.now }
     requires b { ArePlanes (length out.old) b.now }
     ensures long { length out.new ≡ length out.old }
@@ -201,9 +228,37 @@ pub fn number_of_triples<K: OfTriples>(a: &Planes, b: &Planes, out: &mut [Raw])
     }
 }
 
-/// Three rows take the triples of triples.
+/// A row takes the numbers of two triples.
+pub fn number_of_triples<K: OfTriples>(a: &Planes, b: &Planes, out: &mut [Raw])
+    requires a { ArePlanes (length out.old) a.now }
+    requires b { ArePlanes (length out.old) b.now }
+    ensures long { length out.new ≡ length out.old }
+    ensures each { (i : ℕ) → i < length out.old → get_or out.new i (pos 0) ≡ K.formula (triple_at a.now i) (triple_at b.now i) }
+{
+    match (a.rows(), b.rows()) {
+        (Some(p), Some(q)) => number_of_rows::<K>(p, q, out),
+        _ => number_of_planes::<K>(a, b, out),
+    }
+}
+
+// Three rows take the triples of triples in rows.
+fn triple_of_rows<K: ToTriple>(a: TripleRows, x: &mut [Raw], y: &mut [Raw], z: &mut [Raw])
+    requires a { (i : ℕ) → i < length x.old → AreLonger i a }
+    requires same { (length y.old ≡ length x.old) × (length z.old ≡ length x.old) }
+    ensures long { (length x.new ≡ length x.old) × ((length y.new ≡ length y.old) × (length z.new ≡ length z.old)) }
+    ensures each { (i : ℕ) → i < length x.old → triple_in x.new y.new z.new i ≡ K.formula (rows_at a.entry i) }
+{
+    for i in 0..x.len() {
+        let t = K::apply(a.at(i));
+        x[i] = Raw::of(t.x);
+        y[i] = Raw::of(t.y);
+        z[i] = Raw::of(t.z);
+    }
+}
+
+// The same of planes.
 #[tactic(auto, using(crate::proofs::Shorter::all_shorter))]
-pub fn triple_of_triple<K: ToTriple>(a: &Planes, x: &mut [Raw], y: &mut [Raw], z: &mut [Raw])
+fn triple_of_planes<K: ToTriple>(a: &Planes, x: &mut [Raw], y: &mut [Raw], z: &mut [Raw])
     requires a { ArePlanes (length x.old) a.now }
     requires same { (length y.old ≡ length x.old) × (length z.old ≡ length x.old) }
     ensures long { (length x.new ≡ length x.old) × ((length y.new ≡ length y.old) × (length z.new ≡ length z.old)) }
@@ -214,6 +269,19 @@ pub fn triple_of_triple<K: ToTriple>(a: &Planes, x: &mut [Raw], y: &mut [Raw], z
         x[i] = Raw::of(t.x);
         y[i] = Raw::of(t.y);
         z[i] = Raw::of(t.z);
+    }
+}
+
+/// Three rows take the triples of triples.
+pub fn triple_of_triple<K: ToTriple>(a: &Planes, x: &mut [Raw], y: &mut [Raw], z: &mut [Raw])
+    requires a { ArePlanes (length x.old) a.now }
+    requires same { (length y.old ≡ length x.old) × (length z.old ≡ length x.old) }
+    ensures long { (length x.new ≡ length x.old) × ((length y.new ≡ length y.old) × (length z.new ≡ length z.old)) }
+    ensures each { (i : ℕ) → i < length x.old → triple_in x.new y.new z.new i ≡ K.formula (triple_at a.now i) }
+{
+    match a.rows() {
+        Some(rows) => triple_of_rows::<K>(rows, x, y, z),
+        None => triple_of_planes::<K>(a, x, y, z),
     }
 }
 
@@ -240,9 +308,33 @@ pub fn triple_of_triples<K: ToTriples>(
     }
 }
 
-/// Three rows take the triples of three triples.
+// Three rows take the triples of three triples in rows.
+fn triple_of_three_rows<K: ToTripleOfThree>(
+    a: TripleRows,
+    b: TripleRows,
+    c: TripleRows,
+    x: &mut [Raw],
+    y: &mut [Raw],
+    z: &mut [Raw],
+)
+    requires a { (i : ℕ) → i < length x.old → AreLonger i a }
+    requires b { (i : ℕ) → i < length x.old → AreLonger i b }
+    requires c { (i : ℕ) → i < length x.old → AreLonger i c }
+    requires same { (length y.old ≡ length x.old) × (length z.old ≡ length x.old) }
+    ensures long { (length x.new ≡ length x.old) × ((length y.new ≡ length y.old) × (length z.new ≡ length z.old)) }
+    ensures each { (i : ℕ) → i < length x.old → triple_in x.new y.new z.new i ≡ K.formula (rows_at a.entry i) (rows_at b.entry i) (rows_at c.entry i) }
+{
+    for i in 0..x.len() {
+        let t = K::apply(a.at(i), b.at(i), c.at(i));
+        x[i] = Raw::of(t.x);
+        y[i] = Raw::of(t.y);
+        z[i] = Raw::of(t.z);
+    }
+}
+
+// The same of planes.
 #[tactic(auto, using(crate::proofs::Shorter::all_shorter))]
-pub fn triple_of_three<K: ToTripleOfThree>(
+fn triple_of_three_planes<K: ToTripleOfThree>(
     a: &Planes,
     b: &Planes,
     c: &Planes,
@@ -262,5 +354,27 @@ pub fn triple_of_three<K: ToTripleOfThree>(
         x[i] = Raw::of(t.x);
         y[i] = Raw::of(t.y);
         z[i] = Raw::of(t.z);
+    }
+}
+
+/// Three rows take the triples of three triples.
+pub fn triple_of_three<K: ToTripleOfThree>(
+    a: &Planes,
+    b: &Planes,
+    c: &Planes,
+    x: &mut [Raw],
+    y: &mut [Raw],
+    z: &mut [Raw],
+)
+    requires a { ArePlanes (length x.old) a.now }
+    requires b { ArePlanes (length x.old) b.now }
+    requires c { ArePlanes (length x.old) c.now }
+    requires same { (length y.old ≡ length x.old) × (length z.old ≡ length x.old) }
+    ensures long { (length x.new ≡ length x.old) × ((length y.new ≡ length y.old) × (length z.new ≡ length z.old)) }
+    ensures each { (i : ℕ) → i < length x.old → triple_in x.new y.new z.new i ≡ K.formula (triple_at a.now i) (triple_at b.now i) (triple_at c.now i) }
+{
+    match (a.rows(), b.rows(), c.rows()) {
+        (Some(p), Some(q), Some(r)) => triple_of_three_rows::<K>(p, q, r, x, y, z),
+        _ => triple_of_three_planes::<K>(a, b, c, x, y, z),
     }
 }

@@ -4,6 +4,8 @@ ghost use Rattle.parts.specs.declared.fault.JoinFault.TheVariants.{NoMemory as O
 
 use fixed_math::NoMemory;
 use std::alloc::{AllocError, AllocFailed};
+use std::error::Error;
+use std::fmt;
 
 /// Why parts can't be joined.
 #[derive(Debug, Clone, Copy, PartialEq, Eq)]
@@ -19,6 +21,20 @@ pub enum JoinFault {
     /// Memory was wanting.
     NoMemory,
 }
+
+impl fmt::Display for JoinFault {
+    fn fmt<W: fmt::Write>(&self, f: &mut fmt::Formatter<W>) -> fmt::Result {
+        match self {
+            JoinFault::J1 { part } => write!(f, "J1 in part {part}"),
+            JoinFault::J2 { part } => write!(f, "J2 in part {part}"),
+            JoinFault::J3 { part, bucket } => write!(f, "J3 in part {part}, bucket {bucket}"),
+            JoinFault::J4 { bucket } => write!(f, "J4, bucket {bucket}"),
+            JoinFault::NoMemory => NoMemory.fmt(f),
+        }
+    }
+}
+
+impl Error for JoinFault {}
 
 impl From<NoMemory> for JoinFault {
     ghost from_gives = { λ _ e. e ≡ OutOfMemory };

@@ -6,12 +6,12 @@ ghost use Rattle.parts.specs.Formats.{word, IsHeader, IsHead, HasNoHead, bucket_
 /// What a part says of its picture: the width and height in pixels, the greatest number of a channel, the side of a bucket, and the tag
 /// of the frame.
 #[derive(Clone, Copy, PartialEq, Eq)]
-pub(crate) struct Header {
-    pub(crate) width: u32,
-    pub(crate) height: u32,
-    pub(crate) one: u32,
-    pub(crate) side: u32,
-    pub(crate) tag: u32,
+pub struct Header {
+    pub width: u32,
+    pub height: u32,
+    pub one: u32,
+    pub side: u32,
+    pub tag: u32,
 }
 
 /// The letters `REYP` and `ART1`, as numbers of four bytes.

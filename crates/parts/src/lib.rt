@@ -12,6 +12,9 @@ mod joined;
 mod part;
 mod placing;
 mod ppm;
+mod text;
 
 pub use fault::JoinFault;
+pub use header::Header;
 pub use joined::join;
+pub use text::{append_number, header_bytes};

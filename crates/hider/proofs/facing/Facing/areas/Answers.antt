@@ -9,51 +9,51 @@ use Rattle.hider.proofs.facing.Facing.areas.Goals as goal
 pub returns-then-not-is_on_side-clause-covers : goal.returns-then-not-is_on_side-clause-covers
 returns-then-not-is_on_side-clause-covers c =
     let t = c.args.self.now in let s = c.args.s in
-    let p = inside_by t.a.place t.b.place s c.edge_at-at_c.result t.first _ c.edge_at-at_c.type_inv c.if-not-is_on_side.ensures c.edge_at-at_c.ensures.value t.first_is in
-    first_out t.a.place t.b.place t.c.place s p
+    let p = inside_by t.a.now.place t.b.now.place s c.edge_at-at_c.result t.first _ c.edge_at-at_c.type_inv c.if-not-is_on_side.ensures c.edge_at-at_c.ensures.value t.first_is in
+    first_out t.a.now.place t.b.now.place t.c.now.place s p
 
 pub returns-then-not-is_on_side-2-clause-covers : goal.returns-then-not-is_on_side-2-clause-covers
 returns-then-not-is_on_side-2-clause-covers c =
     let t = c.args.self.now in let s = c.args.s in
-    let p = inside_by t.a.place t.b.place s c.edge_at-at_c.result t.first _ c.edge_at-at_c.type_inv c.if-not-is_on_side.ensures c.edge_at-at_c.ensures.value t.first_is in
-    let q = inside_by t.b.place t.c.place s c.edge_at-at_a.result t.second _ c.edge_at-at_a.type_inv c.if-not-is_on_side-2.ensures c.edge_at-at_a.ensures.value t.second_is in
-    second_out t.a.place t.b.place t.c.place s p q
+    let p = inside_by t.a.now.place t.b.now.place s c.edge_at-at_c.result t.first _ c.edge_at-at_c.type_inv c.if-not-is_on_side.ensures c.edge_at-at_c.ensures.value t.first_is in
+    let q = inside_by t.b.now.place t.c.now.place s c.edge_at-at_a.result t.second _ c.edge_at-at_a.type_inv c.if-not-is_on_side-2.ensures c.edge_at-at_a.ensures.value t.second_is in
+    second_out t.a.now.place t.b.now.place t.c.now.place s p q
 
 pub returns-then-not-is_on_side-3-clause-covers : goal.returns-then-not-is_on_side-3-clause-covers
 returns-then-not-is_on_side-3-clause-covers c =
     let t = c.args.self.now in let s = c.args.s in
-    let p = inside_by t.a.place t.b.place s c.edge_at-at_c.result t.first _ c.edge_at-at_c.type_inv c.if-not-is_on_side.ensures c.edge_at-at_c.ensures.value t.first_is in
-    let q = inside_by t.b.place t.c.place s c.edge_at-at_a.result t.second _ c.edge_at-at_a.type_inv c.if-not-is_on_side-2.ensures c.edge_at-at_a.ensures.value t.second_is in
-    let r = inside_by t.c.place t.a.place s c.edge_at-at_b.result t.third _ c.edge_at-at_b.type_inv c.if-not-is_on_side-3.ensures c.edge_at-at_b.ensures.value t.third_is in
-    third_out t.a.place t.b.place t.c.place s p q r
+    let p = inside_by t.a.now.place t.b.now.place s c.edge_at-at_c.result t.first _ c.edge_at-at_c.type_inv c.if-not-is_on_side.ensures c.edge_at-at_c.ensures.value t.first_is in
+    let q = inside_by t.b.now.place t.c.now.place s c.edge_at-at_a.result t.second _ c.edge_at-at_a.type_inv c.if-not-is_on_side-2.ensures c.edge_at-at_a.ensures.value t.second_is in
+    let r = inside_by t.c.now.place t.a.now.place s c.edge_at-at_b.result t.third _ c.edge_at-at_b.type_inv c.if-not-is_on_side-3.ensures c.edge_at-at_b.ensures.value t.third_is in
+    third_out t.a.now.place t.b.now.place t.c.now.place s p q r
 
 pub returns-clause-covers : goal.returns-clause-covers
 returns-clause-covers c =
     let t = c.args.self.now in let s = c.args.s in
-    let p = inside_by t.a.place t.b.place s c.edge_at-at_c.result t.first _ c.edge_at-at_c.type_inv c.if-not-is_on_side.ensures c.edge_at-at_c.ensures.value t.first_is in
-    let q = inside_by t.b.place t.c.place s c.edge_at-at_a.result t.second _ c.edge_at-at_a.type_inv c.if-not-is_on_side-2.ensures c.edge_at-at_a.ensures.value t.second_is in
-    let r = inside_by t.c.place t.a.place s c.edge_at-at_b.result t.third _ c.edge_at-at_b.type_inv c.if-not-is_on_side-3.ensures c.edge_at-at_b.ensures.value t.third_is in
-    all_in t.a.place t.b.place t.c.place s p q r
+    let p = inside_by t.a.now.place t.b.now.place s c.edge_at-at_c.result t.first _ c.edge_at-at_c.type_inv c.if-not-is_on_side.ensures c.edge_at-at_c.ensures.value t.first_is in
+    let q = inside_by t.b.now.place t.c.now.place s c.edge_at-at_a.result t.second _ c.edge_at-at_a.type_inv c.if-not-is_on_side-2.ensures c.edge_at-at_a.ensures.value t.second_is in
+    let r = inside_by t.c.now.place t.a.now.place s c.edge_at-at_b.result t.third _ c.edge_at-at_b.type_inv c.if-not-is_on_side-3.ensures c.edge_at-at_b.ensures.value t.third_is in
+    all_in t.a.now.place t.b.now.place t.c.now.place s p q r
 
 pub returns-clause-areas : goal.returns-clause-areas
 unfolding areas_at
 returns-clause-areas c =
     let t = c.args.self.now in let s = c.args.s in
-    let at_a : to_z w64 (of_z w64 c.edge_at-at_a.result) ≡ edge t.b.place t.c.place s = read_area c.edge_at-at_a.result c.edge_at-at_a.ensures.bound ∙ c.edge_at-at_a.ensures.value in
-    let at_b : to_z w64 (of_z w64 c.edge_at-at_b.result) ≡ edge t.c.place t.a.place s = read_area c.edge_at-at_b.result c.edge_at-at_b.ensures.bound ∙ c.edge_at-at_b.ensures.value in
-    let at_c : to_z w64 (of_z w64 c.edge_at-at_c.result) ≡ edge t.a.place t.b.place s = read_area c.edge_at-at_c.result c.edge_at-at_c.ensures.bound ∙ c.edge_at-at_c.ensures.value in
-    let whole : to_z w64 (of_z w64 t.whole) ≡ edge t.a.place t.b.place t.c.place = read_area t.whole t.small ∙ t.whole_is in
+    let at_a : to_z w64 (of_z w64 c.edge_at-at_a.result) ≡ edge t.b.now.place t.c.now.place s = read_area c.edge_at-at_a.result c.edge_at-at_a.ensures.bound ∙ c.edge_at-at_a.ensures.value in
+    let at_b : to_z w64 (of_z w64 c.edge_at-at_b.result) ≡ edge t.c.now.place t.a.now.place s = read_area c.edge_at-at_b.result c.edge_at-at_b.ensures.bound ∙ c.edge_at-at_b.ensures.value in
+    let at_c : to_z w64 (of_z w64 c.edge_at-at_c.result) ≡ edge t.a.now.place t.b.now.place s = read_area c.edge_at-at_c.result c.edge_at-at_c.ensures.bound ∙ c.edge_at-at_c.ensures.value in
+    let whole : to_z w64 (of_z w64 t.whole) ≡ edge t.a.now.place t.b.now.place t.c.now.place = read_area t.whole t.small ∙ t.whole_is in
     rw (at_a, at_b, at_c, whole) refl
 
 pub returns-clause-parts : goal.returns-clause-parts
 unfolding areas_at
 returns-clause-parts c =
     let t = c.args.self.now in let s = c.args.s in
-    let p = inside_by t.a.place t.b.place s c.edge_at-at_c.result t.first _ c.edge_at-at_c.type_inv c.if-not-is_on_side.ensures c.edge_at-at_c.ensures.value t.first_is in
-    let q = inside_by t.b.place t.c.place s c.edge_at-at_a.result t.second _ c.edge_at-at_a.type_inv c.if-not-is_on_side-2.ensures c.edge_at-at_a.ensures.value t.second_is in
-    let r = inside_by t.c.place t.a.place s c.edge_at-at_b.result t.third _ c.edge_at-at_b.type_inv c.if-not-is_on_side-3.ensures c.edge_at-at_b.ensures.value t.third_is in
-    let at_a : to_z w64 (of_z w64 c.edge_at-at_a.result) ≡ edge t.b.place t.c.place s = read_area c.edge_at-at_a.result c.edge_at-at_a.ensures.bound ∙ c.edge_at-at_a.ensures.value in
-    let at_b : to_z w64 (of_z w64 c.edge_at-at_b.result) ≡ edge t.c.place t.a.place s = read_area c.edge_at-at_b.result c.edge_at-at_b.ensures.bound ∙ c.edge_at-at_b.ensures.value in
-    let at_c : to_z w64 (of_z w64 c.edge_at-at_c.result) ≡ edge t.a.place t.b.place s = read_area c.edge_at-at_c.result c.edge_at-at_c.ensures.bound ∙ c.edge_at-at_c.ensures.value in
-    let whole : to_z w64 (of_z w64 t.whole) ≡ edge t.a.place t.b.place t.c.place = read_area t.whole t.small ∙ t.whole_is in
-    rw (at_a, at_b, at_c, whole) (areas_weigh t.a.place t.b.place t.c.place s (all_in t.a.place t.b.place t.c.place s p q r) (rw t.whole_is at t.some))
+    let p = inside_by t.a.now.place t.b.now.place s c.edge_at-at_c.result t.first _ c.edge_at-at_c.type_inv c.if-not-is_on_side.ensures c.edge_at-at_c.ensures.value t.first_is in
+    let q = inside_by t.b.now.place t.c.now.place s c.edge_at-at_a.result t.second _ c.edge_at-at_a.type_inv c.if-not-is_on_side-2.ensures c.edge_at-at_a.ensures.value t.second_is in
+    let r = inside_by t.c.now.place t.a.now.place s c.edge_at-at_b.result t.third _ c.edge_at-at_b.type_inv c.if-not-is_on_side-3.ensures c.edge_at-at_b.ensures.value t.third_is in
+    let at_a : to_z w64 (of_z w64 c.edge_at-at_a.result) ≡ edge t.b.now.place t.c.now.place s = read_area c.edge_at-at_a.result c.edge_at-at_a.ensures.bound ∙ c.edge_at-at_a.ensures.value in
+    let at_b : to_z w64 (of_z w64 c.edge_at-at_b.result) ≡ edge t.c.now.place t.a.now.place s = read_area c.edge_at-at_b.result c.edge_at-at_b.ensures.bound ∙ c.edge_at-at_b.ensures.value in
+    let at_c : to_z w64 (of_z w64 c.edge_at-at_c.result) ≡ edge t.a.now.place t.b.now.place s = read_area c.edge_at-at_c.result c.edge_at-at_c.ensures.bound ∙ c.edge_at-at_c.ensures.value in
+    let whole : to_z w64 (of_z w64 t.whole) ≡ edge t.a.now.place t.b.now.place t.c.now.place = read_area t.whole t.small ∙ t.whole_is in
+    rw (at_a, at_b, at_c, whole) (areas_weigh t.a.now.place t.b.now.place t.c.now.place s (all_in t.a.now.place t.b.now.place t.c.now.place s p q r) (rw t.whole_is at t.some))

@@ -1,6 +1,6 @@
 use Rattle.std.proofs.Common.{◌≡◌, ℕ, ◌<◌, length}
 use Rattle.number_rows.specs.Planes.{triple_at, triple_in}
-use Rattle.number_rows.proofs.triples.triple_of_triple.Given as goal
+use Rattle.number_rows.proofs.triples.triple_of_planes.Given as goal
 
 abbrev pub invariant-loop-i : goal.invariant-loop-i
 invariant-loop-i g l = record {

@@ -1,6 +1,6 @@
 use Rattle.std.proofs.Common.{◌≡◌, ℕ, pos, ◌<◌, length, get_or}
 use Rattle.number_rows.specs.Planes.{triple_at}
-use Rattle.number_rows.proofs.triples.number_of_triples.Given as goal
+use Rattle.number_rows.proofs.triples.number_of_planes.Given as goal
 
 abbrev pub invariant-loop-i : goal.invariant-loop-i
 invariant-loop-i g l = record {

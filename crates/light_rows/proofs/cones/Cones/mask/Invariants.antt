@@ -1,10 +1,10 @@
 use Rattle.std.proofs.Common.{◌≡◌, ℕ, ◌<◌, length, get_or, false}
 use Rattle.number_rows.specs.Planes.{triple_at}
-use Rattle.light_rows.specs.Seen.{cone_at}
-use Rattle.light_rows.proofs.viewing.Cone.mask.Given as goal
+use Rattle.light_rows.specs.Cones.{cones_at}
+use Rattle.light_rows.proofs.cones.Cones.mask.Given as goal
 
 abbrev pub invariant-loop-place : goal.invariant-loop-place
 invariant-loop-place l = record {
   long : length l.mask.places ≡ 289;
-  each : (i : ℕ) → i < l.place → get_or l.mask.places i false ≡ cone_at l.self i (triple_at l.directions i);
+  each : (i : ℕ) → i < l.place → get_or l.mask.places i false ≡ cones_at l.self i (triple_at l.directions i);
 }

@@ -1,0 +1,123 @@
+// Cones made ready for many directions. A grid has at most 17 columns of 17 places.
+ghost use Rattle.std.specs.Prelude.{◌≡◌, ℕ, ◌<◌, ◌≤◌, pos, false, length, get_or};
+ghost use Rattle.fixed_math.specs.Sine.{cos};
+ghost use Rattle.fixed_math.specs.declared.vec3.Vec3.{Vec3 as AnyVec3};
+ghost use Rattle.builtins.specs.Triples.{normalize};
+ghost use Rattle.number_rows.specs.Planes.{plane_at, triple_at, triple_in, IsPlane, ArePlanes};
+ghost use Rattle.light_rows.specs.Seen.{cone_at, IsCone};
+ghost use Rattle.light_rows.specs.Cones.{cones_at};
+
+use crate::points::{Numbers, Points};
+use crate::units::{cosine, one_unit};
+use crate::viewing::Cone;
+use fixed_math::Vec3;
+use number_rows::{Dot, Normalize, OfTriples, Plane, Planes, Raw, ToTriple};
+use place_rows::Mask;
+
+/// The cone of each place by the unit of its axis and the cosine of its angle; where none is given, all directions lie in it.
+#[derive(Drop)]
+pub(crate) struct Cones {
+    pub given: bool,
+    pub axes: Points,
+    pub cosines: Numbers,
+}
+
+impl Numbers {
+    // Takes the cosines of the first numbers of a row.
+    fn take_each_cosine(&mut self, row: &[Raw], count: usize)
+        requires count { count ≤ 289 }
+        requires long { count ≤ length row.now }
+        ensures each { (i : ℕ) → i < count → get_or self.new.row i (pos 0) ≡ cos (get_or row.now i (pos 0)) }
+    {
+        for place in 0..count {
+            self.row[place] = cosine(row[place]);
+        }
+    }
+
+    // Takes the cosines of the first numbers of a plane.
+    fn take_cosines(&mut self, plane: &Plane, count: usize)
+        requires count { count ≤ 289 }
+        requires plane { IsPlane count plane.now }
+        ensures each { (i : ℕ) → i < count → get_or self.new.row i (pos 0) ≡ cos (plane_at plane.now i) }
+    {
+        match plane {
+            Plane::Row(row) => self.take_each_cosine(row, count),
+            Plane::Value(x) => self.take(&Plane::Value(cosine(*x)), count),
+        }
+    }
+}
+
+impl Points {
+    // Takes the vectors of length 1 in the first directions of planes, one by one.
+    #[tactic(auto, using(number_rows::proofs::Shorter::all_shorter))]
+    fn take_each_unit(&mut self, planes: &Planes, count: usize)
+        requires count { count ≤ 289 }
+        requires planes { ArePlanes count planes.now }
+        ensures { (i : ℕ) → i < count → triple_in self.new.x.row self.new.y.row self.new.z.row i ≡ normalize (triple_at planes.now i) }
+    {
+        for place in 0..count {
+            let unit = Normalize::apply(planes.at(place));
+            self.x.row[place] = Raw::of(unit.x);
+            self.y.row[place] = Raw::of(unit.y);
+            self.z.row[place] = Raw::of(unit.z);
+        }
+    }
+
+    // Takes the vectors of length 1 in the first directions of planes.
+    fn take_units(&mut self, planes: &Planes, count: usize)
+        requires count { count ≤ 289 }
+        requires planes { ArePlanes count planes.now }
+        ensures { (i : ℕ) → i < count → triple_in self.new.x.row self.new.y.row self.new.z.row i ≡ normalize (triple_at planes.now i) }
+    {
+        match (&planes.x, &planes.y, &planes.z) {
+            (Plane::Value(x), Plane::Value(y), Plane::Value(z)) => {
+                self.take(&one_unit(*x, *y, *z), count)
+            }
+            _ => self.take_each_unit(planes, count),
+        }
+    }
+}
+
+impl Cones {
+    /// Those of the first places.
+    pub fn of(cone: &Cone, count: usize) -> Cones
+        requires count { count ≤ 289 }
+        requires cone { IsCone count cone.now }
+        ensures { (i : ℕ) (l : AnyVec3) → i < count → cones_at result i l ≡ cone_at cone.now i l }
+    {
+        let mut cones = Cones {
+            given: cone.given,
+            axes: Points::zero(),
+            cosines: Numbers::zero(),
+        };
+        cones.axes.take_units(&cone.axis, count);
+        cones.cosines.take_cosines(&cone.angle, count);
+        cones
+    }
+
+    // Whether a direction lies in the cone of a place, by its unit.
+    fn holds(&self, place: usize, unit: Vec3) -> bool
+        requires { place < 289 }
+        ensures { (l : AnyVec3) → unit ≡ normalize l → result ≡ cones_at self.now place l }
+    {
+        if self.given {
+            let cosine = Dot::apply(unit, self.axes.at(place));
+            self.cosines.row[place].raw() <= cosine.raw()
+        } else {
+            true
+        }
+    }
+
+    /// The places of directions that lie in them.
+    pub fn mask(&self, directions: &Planes, count: usize) -> Mask
+        requires count { count ≤ 289 }
+        requires directions { ArePlanes count directions.now }
+        ensures { (i : ℕ) → i < count → get_or result.places i false ≡ cones_at self.now i (triple_at directions.now i) }
+    {
+        let mut mask = Mask::none();
+        for place in 0..count {
+            mask.places[place] = self.holds(place, Normalize::apply(directions.at(place)));
+        }
+        mask
+    }
+}

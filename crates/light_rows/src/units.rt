@@ -1,0 +1,32 @@
+// Vectors of length 1 and cosines that are the same at all places.
+ghost use Rattle.std.specs.Prelude.{◌≡◌, ℕ};
+ghost use Rattle.fixed_math.specs.Sine.{cos};
+ghost use Rattle.builtins.specs.Triples.{normalize};
+ghost use Rattle.number_rows.specs.Planes.{triple_at, ArePlanes};
+
+use fixed_math::Vec3;
+use number_rows::{Normalize, Plane, Planes, Raw, ToTriple};
+
+/// The vector of length 1 in a direction, at all places.
+pub(crate) fn one_unit(x: Raw, y: Raw, z: Raw) -> Planes<'static>
+    ensures planes { (c : ℕ) → ArePlanes c result }
+    ensures each { (i : ℕ) → triple_at result i ≡ normalize (record { x = x; y = y; z = z }) }
+{
+    let unit = Normalize::apply(Vec3 {
+        x: x.number(),
+        y: y.number(),
+        z: z.number(),
+    });
+    Planes {
+        x: Plane::Value(Raw::of(unit.x)),
+        y: Plane::Value(Raw::of(unit.y)),
+        z: Plane::Value(Raw::of(unit.z)),
+    }
+}
+
+/// The cosine of a number.
+pub(crate) fn cosine(x: Raw) -> Raw
+    ensures { result ≡ cos x }
+{
+    Raw::of(x.number().cos())
+}

@@ -1,0 +1,14 @@
+pub mod Chains
+pub mod FilesRead
+pub mod Filled
+pub mod Gaps
+pub mod Halving
+pub mod Heads
+pub mod Listed
+pub mod LookSteps
+pub mod Numerals
+pub mod Scans
+pub mod Sides
+pub mod Spots
+pub mod Stored
+pub mod Tables

@@ -1,0 +1,85 @@
+-- The slots of a cache of tiles.
+use Rattle.std.specs.Prelude.{ℕ, ◌+◌, ◌*◌, ◌/◌, ◌%◌, ◌^◌, ◌<◌, ℤ, pos, ◌+ℤ◌, List, [], ◌∷◌, length, get_or, map, slice_set, Option, Some, None, ◌≡◌, refl}
+use Rattle.fixed_math.specs.declared.vec3.Vec3.{Vec3}
+use Rattle.fixed_math.specs.Axes.{origin}
+use Rattle.fixed_math.specs.Hash.{hash32}
+use Rattle.texture.specs.declared.cache.Tile.{Tile}
+use Rattle.texture.specs.Images.{Image}
+use Rattle.texture.specs.Pyramid.{side_at, texel, four}
+use Rattle.texture.specs.Looks.{place_of, put_into}
+
+-- a slot: none or a tile, and its texels by rows
+pub record Held : Type 0 where
+  pub tile : Option Tile
+  pub texels : List Vec3
+
+-- a cache: the images of its textures, and the tiles of its slots
+pub record Kept : Type 0 where
+  pub textures : List Image
+  pub slots : List (Option Tile)
+
+abbrev pub no_image : Image
+no_image = record { width = 1; height = 1; most = 1; samples = [] }
+
+-- the first n texels of a tile, by rows, as far as the level has them
+pub record IsFilledTo (n : ℕ) (p : Image) (k : Tile) (xs : List Vec3) : Type 0 where
+  pub size : length xs ≡ 1024
+  pub each : (i : ℕ) → i < n → k.column * 32 + i % 32 < side_at p.width (2 ^ k.level) → k.row * 32 + i / 32 < side_at p.height (2 ^ k.level) →
+      get_or xs i origin ≡ texel p k.level (k.column * 32 + i % 32) (k.row * 32 + i / 32)
+
+abbrev pub IsFilled : Image → Tile → List Vec3 → Type 0
+IsFilled p k xs = IsFilledTo 1024 p k xs
+
+-- a slot with a tile has the texels of that tile of that texture
+pub record IsKept (ps : List Image) (h : Held) : Type 0 where
+  pub filled : (k : Tile) → h.tile ≡ Some k → IsFilled (get_or ps k.which no_image) k h.texels
+
+abbrev pub empty : Held
+empty = record { tile = None; texels = [] }
+
+pub record AreKept (ps : List Image) (hs : List Held) : Type 0 where
+  pub size : length hs ≡ 256
+  pub each : (i : ℕ) → IsKept ps (get_or hs i empty)
+
+abbrev pub keys_of : List Held → List (Option Tile)
+keys_of hs = map (λ (h : Held). h.tile) hs
+
+abbrev pub slot_of : Tile → ℕ
+slot_of k = hash32 (k.which ∷ k.level ∷ k.column ∷ k.row ∷ []) % 256
+
+-- the slots after a tile is put into its own
+abbrev pub put : List (Option Tile) → Tile → List (Option Tile)
+put ss k = slice_set ss (slot_of k) (Some k)
+
+-- the tile of a texel
+abbrev pub tile_at : ℕ → ℕ → ℕ → ℕ → Tile
+tile_at which l x y = record { which = which; level = l; column = x / 32; row = y / 32 }
+
+-- the slots after a look-up: the tiles of its four texels, put into their slots
+unfoldable pub slots_after : List (Option Tile) → ℕ → Image → ℕ → ℤ → ℤ → List (Option Tile)
+slots_after ss which p l s t =
+    let w = side_at p.width (2 ^ l) in
+    let h = side_at p.height (2 ^ l) in
+    let x = put_into (place_of s w) w in
+    let xx = put_into (place_of s w +ℤ pos 1) w in
+    let y = put_into (place_of t h) h in
+    let yy = put_into (place_of t h +ℤ pos 1) h in
+    put (put (put (put ss (tile_at which l x y)) (tile_at which l xx y)) (tile_at which l x yy)) (tile_at which l xx yy)
+
+-- 256 slots, each of them empty
+pub record AreEmpty (ss : List (Option Tile)) : Type 0 where
+  pub size : length ss ≡ 256
+  pub each : (i : ℕ) → get_or ss i None ≡ None
+
+-- n slots, each of them empty
+pub record AreBare (n : ℕ) (hs : List Held) : Type 0 where
+  pub size : length hs ≡ n
+  pub each : (i : ℕ) → (get_or hs i empty).tile ≡ None
+
+-- worked values: each look-up of four samples takes their one tile, which stands in the slot of its hash
+tiles_of_four : slots_after (None ∷ []) 0 four 0 (pos 16384) (pos 16384) ≡ slots_after (None ∷ []) 0 four 0 (pos 65536) (pos 0)
+unfolding slots_after
+tiles_of_four = refl
+
+slot_of_first : slot_of (tile_at 0 0 31 0) ≡ slot_of (tile_at 0 0 0 31)
+slot_of_first = refl

@@ -1,0 +1,263 @@
+// A cache of tiles.
+ghost use Rattle.std.specs.Prelude.{◌≡◌, ◌≢◌, ◌≤◌, ◌<◌, ◌^◌, ℕ, Some, None, cond, length, get_or, is_some, IsTrue, IfOk};
+ghost use Rattle.std.specs.List.{count_by};
+ghost use Rattle.fixed_math.specs.Axes.{origin};
+ghost use Rattle.texture.specs.Pyramid.{side_at, texel};
+ghost use Rattle.texture.specs.Looks.{look_of};
+ghost use Rattle.texture.specs.Slots.{Held, Kept, AreEmpty, IsFilled, AreKept, slot_of, keys_of, put as put_key, slots_after, tile_at, no_image, empty};
+
+use crate::look::{mix_all, put, spot_of};
+use crate::texture::Texture;
+use fixed_math::{NoMemory, Num, Vec3, hash32};
+use std::alloc::Global;
+use std::marker::Model;
+
+/// Which 32 by 32 texels a slot keeps: of texture `which`, at `level`, the tile in `column` and `row`.
+#[derive(Clone, Copy)]
+pub(crate) struct Tile {
+    pub(crate) which: u32,
+    pub(crate) level: u32,
+    pub(crate) column: u32,
+    pub(crate) row: u32,
+}
+
+/// A slot of the cache: nothing, or a tile with its texels by rows.
+#[derive(Drop)]
+pub(crate) struct Slot {
+    tile: Option<Tile>,
+    texels: Vec<Vec3>,
+}
+
+impl Model for Slot {
+    ghost Value = { Held };
+
+    ghost view = { λ s. record { tile = s.tile; texels = s.texels.items } };
+
+    ghost invariant = { λ s. length s.texels.items ≡ 1024 };
+}
+
+impl Slot {
+    /// A slot that keeps nothing, with room for a tile, or want of memory.
+    fn empty(alloc: Global) -> Result<Slot, NoMemory>
+        ensures { IfOk result (λ s. s.tile ≡ None) }
+    {
+        let mut texels = Vec::new(alloc);
+        for _ in 0..1024u32 {
+            texels.push(Vec3::default())?;
+        }
+        Ok(Slot { tile: None, texels })
+    }
+
+    /// How many tiles the slot keeps: 0 or 1.
+    fn tile_count(&self) -> usize
+        ensures value { result ≡ cond (is_some self.now.tile) 1 0 }
+        ensures most { result ≤ 1 }
+    {
+        match self.tile {
+            None => 0,
+            Some(_) => 1,
+        }
+    }
+
+    /// Whether the slot keeps this tile.
+    fn keeps(&self, tile: Tile) -> bool
+        ensures { IsTrue result → self.now.tile ≡ Some tile }
+    {
+        match self.tile {
+            None => false,
+            Some(kept) => {
+                kept.which == tile.which
+                    && kept.level == tile.level
+                    && kept.column == tile.column
+                    && kept.row == tile.row
+            }
+        }
+    }
+
+    /// Fills the slot with the tile's texels.
+    #[tactic(auto, using(crate::proofs::Filled::filled_none, crate::proofs::Filled::filled_more))]
+    fn fill(&mut self, texture: &Texture, tile: Tile)
+        requires level { tile.level ≤ 11 }
+        requires column { tile.column ≤ 64 }
+        requires row { tile.row ≤ 64 }
+        ensures tile { self.new.tile ≡ Some tile }
+        ensures filled { IsFilled texture.now tile self.new.texels }
+    {
+        for i in 0..1024u32 {
+            let x = tile.column * 32 + i % 32;
+            let y = tile.row * 32 + i / 32;
+            self.texels[i as usize] = texture.texel_or_black(tile.level, x, y);
+        }
+        self.tile = Some(tile);
+    }
+}
+
+/// The slot of a tile.
+fn slot_at(tile: Tile) -> usize
+    ensures value { result ≡ slot_of tile }
+    ensures bound { result < 256 }
+{
+    let hash = hash32(&[tile.which, tile.level, tile.column, tile.row]);
+    hash as usize % 256
+}
+
+/// Sees to it that a tile is in its slot.
+fn bring(slots: &mut Vec<Slot>, place: usize, texture: &Texture, tile: Tile)
+    requires there { place < length slots.old.items }
+    requires own { place ≡ slot_of tile }
+    requires level { tile.level ≤ 11 }
+    requires column { tile.column ≤ 64 }
+    requires row { tile.row ≤ 64 }
+    requires kept { (get_or slots.old.items place empty).tile ≡ Some tile → IsFilled texture.now tile (get_or slots.old.items place empty).texels }
+    ensures size { length slots.new.items ≡ length slots.old.items }
+    ensures keys { keys_of slots.new.items ≡ put_key (keys_of slots.old.items) tile }
+    ensures tile { (get_or slots.new.items place empty).tile ≡ Some tile }
+    ensures filled { IsFilled texture.now tile (get_or slots.new.items place empty).texels }
+    ensures rest { (i : ℕ) → i ≢ place → get_or slots.new.items i empty ≡ get_or slots.old.items i empty }
+{
+    if slots[place].keeps(tile) {
+        return;
+    }
+    slots[place].fill(texture, tile);
+}
+
+/// A texel of a slot.
+fn texel_in(slots: &[Slot], place: usize, i: usize) -> Vec3
+    requires there { place < length slots.now }
+    requires inside { i < 1024 }
+    ensures { result ≡ get_or (get_or slots.now place empty).texels i origin }
+{
+    let slot = &slots[place];
+    slot.texels[i]
+}
+
+/// Look-ups of textures through a cache of at most 256 tiles. Contracts see it as its textures and the tiles of its slots.
+#[derive(Drop)]
+pub struct Cache<'t> {
+    textures: &'t [Texture],
+    slots: Vec<Slot>,
+}
+
+impl<'t> Model for Cache<'t> {
+    ghost Value = { Kept };
+
+    ghost view = { λ c. record { textures = c.textures.now; slots = keys_of c.slots.items } };
+
+    ghost invariant = { λ c. AreKept c.textures.now c.slots.items };
+}
+
+impl<'t> Cache<'t> {
+    /// A cache of these textures that keeps no tile, or want of memory. It takes 6 MB, and no later call takes any.
+    #[tactic(auto, using(crate::proofs::Filled::bare_none, crate::proofs::Filled::bare_more, crate::proofs::Filled::bare_kept, crate::proofs::Filled::bare_empty))]
+    pub fn new(alloc: Global, textures: &'t [Texture]) -> Result<Cache<'t>, NoMemory>
+        ensures textures { IfOk result (λ c. c.textures ≡ textures.now) }
+        ensures slots { IfOk result (λ c. AreEmpty c.slots) }
+    {
+        let mut slots = Vec::new(alloc);
+        for _ in 0..256u32 {
+            slots.push(Slot::empty(alloc)?)?;
+        }
+        Ok(Cache { textures, slots })
+    }
+
+    /// The texel of level `l` of texture `which` in column `x` and row `y`, through the cache.
+    fn texel(&mut self, which: u32, l: u32, x: u32, y: u32) -> Vec3
+        requires there { which < length self.old.textures }
+        requires level { l ≤ 11 }
+        requires column { x < side_at (get_or self.old.textures which no_image).width (2 ^ l) }
+        requires row { y < side_at (get_or self.old.textures which no_image).height (2 ^ l) }
+        requires left { x ≤ 2048 }
+        requires up { y ≤ 2048 }
+        ensures value { result ≡ texel (get_or self.old.textures which no_image) l x y }
+        ensures slots { self.new.slots ≡ put_key self.old.slots (tile_at which l x y) }
+        ensures textures { self.new.textures ≡ self.old.textures }
+    {
+        let tile = Tile {
+            which,
+            level: l,
+            column: x / 32,
+            row: y / 32,
+        };
+        let place = slot_at(tile);
+        let textures = self.textures;
+        let texture = &textures[which as usize];
+        bring(&mut self.slots, place, texture, tile);
+        texel_in(&self.slots, place, (y % 32 * 32 + x % 32) as usize)
+    }
+
+    /// The colour at `s` and `t` of level `l` of texture `which`: the four texels around the place, mixed. 0 and 1 are the edges of the
+    /// texture, from the left and from the top, and past them its last texels go on. The tiles of the four texels are put into their
+    /// slots, each in place of the tile there.
+    pub fn look(&mut self, which: u32, l: u8, s: Num, t: Num) -> Vec3
+        requires there { which < length self.old.textures }
+        requires level { l ≤ 11 }
+        ensures value { result ≡ look_of (get_or self.old.textures which no_image) l s t }
+        ensures slots { self.new.slots ≡ slots_after self.old.slots which (get_or self.old.textures which no_image) l s t }
+        ensures textures { self.new.textures ≡ self.old.textures }
+    {
+        let l = l as u32;
+        let width = self.columns(which, l);
+        let height = self.rows(which, l);
+        let across = spot_of(s, width);
+        let up = spot_of(t, height);
+        let x = put(across.place, width);
+        let xx = put(across.place + 1, width);
+        let y = put(up.place, height);
+        let yy = put(up.place + 1, height);
+        let a = self.texel(which, l, x, y);
+        let b = self.texel(which, l, xx, y);
+        let c = self.texel(which, l, x, yy);
+        let d = self.texel(which, l, xx, yy);
+        mix_all(
+            mix_all(a, b, across.rest),
+            mix_all(c, d, across.rest),
+            up.rest,
+        )
+    }
+
+    /// The number of columns of level `l` of texture `which`.
+    fn columns(&self, which: u32, l: u32) -> u32
+        requires there { which < length self.now.textures }
+        requires level { l ≤ 11 }
+        ensures value { result ≡ side_at (get_or self.now.textures which no_image).width (2 ^ l) }
+        ensures some { 0 < result }
+        ensures most { result ≤ 2048 }
+    {
+        let textures = self.textures;
+        let texture = &textures[which as usize];
+        texture.columns(l)
+    }
+
+    /// The number of rows of level `l` of texture `which`.
+    fn rows(&self, which: u32, l: u32) -> u32
+        requires there { which < length self.now.textures }
+        requires level { l ≤ 11 }
+        ensures value { result ≡ side_at (get_or self.now.textures which no_image).height (2 ^ l) }
+        ensures some { 0 < result }
+        ensures most { result ≤ 2048 }
+    {
+        let textures = self.textures;
+        let texture = &textures[which as usize];
+        texture.rows(l)
+    }
+
+    /// The textures, as `new` was given them.
+    pub fn textures(&self) -> &'t [Texture]
+        ensures { result.now ≡ self.now.textures }
+    {
+        self.textures
+    }
+
+    /// How many of its 256 slots keep a tile.
+    pub fn tiles(&self) -> usize
+        ensures value { result ≡ count_by is_some self.now.slots }
+        ensures most { result ≤ 256 }
+    {
+        let mut count = 0;
+        for i in 0..self.slots.len() {
+            let slot = &self.slots[i];
+            count += slot.tile_count();
+        }
+        count
+    }
+}

@@ -1,0 +1,203 @@
+// Textures, and their texels.
+ghost use Rattle.std.specs.Prelude.{◌≡◌, ◌≤◌, ◌<◌, ◌*◌, ◌/◌, ◌^◌, IfOk, pos};
+ghost use Rattle.texture.specs.Images.{Image, image_bytes, most_side};
+ghost use Rattle.texture.specs.Tables.{AreFirst};
+ghost use Rattle.texture.specs.Pyramid.{square_sum, inside as inside_of, side_at, texel_part, texel};
+
+use crate::places::inside;
+use crate::samples::{Samples, direct_sum};
+use crate::sums::{Sums, doubled, first, squares};
+use fixed_math::{NoMemory, Num, Vec3};
+use std::alloc::Global;
+use std::marker::Model;
+
+/// A texture: its samples, and sums of them for the coarser levels. Contracts see it as its image.
+#[derive(Drop)]
+pub struct Texture {
+    image: Samples,
+    tables: Vec<Sums>,
+}
+
+impl Model for Texture {
+    ghost Value = { Image };
+
+    ghost view = { λ t. t.image };
+
+    ghost invariant = { λ t. AreFirst 9 t.image t.tables.items };
+}
+
+impl Texture {
+    /// The texture of these samples, with the sums of its levels from 3 to 11, or want of memory.
+    pub(crate) fn new(alloc: Global, image: Samples) -> Result<Texture, NoMemory>
+        ensures { IfOk result (λ t. t ≡ image) }
+    {
+        let tables = tables_of(alloc, &image)?;
+        Ok(Texture { image, tables })
+    }
+
+    /// The number of columns of samples, from 1 to 2,048.
+    pub fn width(&self) -> u32
+        ensures value { result ≡ self.now.width }
+        ensures some { 1 ≤ result }
+        ensures most { result ≤ 2048 }
+    {
+        self.image.width()
+    }
+
+    /// The number of rows of samples, from 1 to 2,048.
+    pub fn height(&self) -> u32
+        ensures value { result ≡ self.now.height }
+        ensures some { 1 ≤ result }
+        ensures most { result ≤ 2048 }
+    {
+        self.image.height()
+    }
+
+    /// How many bytes the samples have in the file.
+    pub fn sample_bytes(&self) -> u64
+        ensures { result ≡ image_bytes self.now }
+    {
+        self.image.byte_count()
+    }
+
+    /// The sum of channel `c` over the square of level `l` in column `x` and row `y`.
+    fn sum(&self, l: u32, c: usize, x: u32, y: u32) -> u64
+        requires level { l ≤ 11 }
+        requires channel { c < 3 }
+        requires column { x ≤ 2048 }
+        requires row { y ≤ 2048 }
+        ensures value { result ≡ square_sum self.now c (2 ^ l) x y }
+        ensures bound { result ≤ 65535 * 4194304 }
+    {
+        self.image.recall();
+        let m = side_of(l);
+        if l < 3 {
+            return direct_sum(&self.image, c, m, x, y);
+        }
+        self.tables[l as usize - 3].at(&self.image, m, c, x, y)
+    }
+
+    /// The number of the image's samples of a channel in a square, times the greatest value.
+    fn whole(&self, m: u32, x: u32, y: u32) -> u64
+        requires some { 0 < m }
+        requires side { m ≤ 2048 }
+        requires column { x < side_at self.now.width m }
+        requires row { y < side_at self.now.height m }
+        requires left { x ≤ 2048 }
+        requires up { y ≤ 2048 }
+        ensures value { result ≡ self.now.most * (inside_of self.now.width m x * inside_of self.now.height m y) }
+        ensures some { 0 < result }
+    {
+        let across = inside(self.image.width(), m, x);
+        let up = inside(self.image.height(), m, y);
+        self.image.most() as u64 * (across as u64 * up as u64)
+    }
+
+    /// A channel of the texel of level `l` in column `x` and row `y`.
+    fn part(&self, l: u32, x: u32, y: u32, c: usize) -> Num
+        requires level { l ≤ 11 }
+        requires channel { c < 3 }
+        requires column { x < side_at self.now.width (2 ^ l) }
+        requires row { y < side_at self.now.height (2 ^ l) }
+        requires left { x ≤ 2048 }
+        requires up { y ≤ 2048 }
+        ensures { result ≡ pos (texel_part self.now (2 ^ l) x y c) }
+    {
+        self.image.recall();
+        let whole = self.whole(side_of(l), x, y);
+        mean(self.sum(l, c, x, y), whole)
+    }
+
+    /// The texel of level `l` in column `x` and row `y`.
+    fn texel(&self, l: u32, x: u32, y: u32) -> Vec3
+        requires level { l ≤ 11 }
+        requires column { x < side_at self.now.width (2 ^ l) }
+        requires row { y < side_at self.now.height (2 ^ l) }
+        requires left { x ≤ 2048 }
+        requires up { y ≤ 2048 }
+        ensures { result ≡ texel self.now l x y }
+    {
+        Vec3 {
+            x: self.part(l, x, y, 0),
+            y: self.part(l, x, y, 1),
+            z: self.part(l, x, y, 2),
+        }
+    }
+
+    /// The greater side.
+    pub(crate) fn most_side(&self) -> u32
+        ensures value { result ≡ most_side self.now }
+        ensures bound { result ≤ 2048 }
+    {
+        self.image.width().max(self.image.height())
+    }
+
+    /// The number of columns of level `l`.
+    pub(crate) fn columns(&self, l: u32) -> u32
+        requires { l ≤ 11 }
+        ensures value { result ≡ side_at self.now.width (2 ^ l) }
+        ensures some { 0 < result }
+        ensures most { result ≤ 2048 }
+    {
+        squares(self.image.width(), side_of(l))
+    }
+
+    /// The number of rows of level `l`.
+    pub(crate) fn rows(&self, l: u32) -> u32
+        requires { l ≤ 11 }
+        ensures value { result ≡ side_at self.now.height (2 ^ l) }
+        ensures some { 0 < result }
+        ensures most { result ≤ 2048 }
+    {
+        squares(self.image.height(), side_of(l))
+    }
+
+    /// The texel where the level has one, else black.
+    pub(crate) fn texel_or_black(&self, l: u32, x: u32, y: u32) -> Vec3
+        requires { l ≤ 11 }
+        ensures { x < side_at self.now.width (2 ^ l) → y < side_at self.now.height (2 ^ l) → result ≡ texel self.now l x y }
+    {
+        if x >= self.columns(l) {
+            return Vec3::default();
+        }
+        if y >= self.rows(l) {
+            return Vec3::default();
+        }
+        self.texel(l, x, y)
+    }
+}
+
+/// The sums of the levels from 3 to 11, or want of memory.
+fn tables_of(alloc: Global, image: &Samples) -> Result<Vec<Sums>, NoMemory>
+    ensures { IfOk result (λ ts. AreFirst 9 image.now ts.items) }
+{
+    let mut tables = Vec::new(alloc);
+    tables.push(first(alloc, image)?)?;
+    for i in 0..8u32 {
+        let next = doubled(alloc, &tables[i as usize], image, side_of(3 + i))?;
+        tables.push(next)?;
+    }
+    Ok(tables)
+}
+
+/// The side of the squares of level `l`.
+#[tactic(auto, using(crate::proofs::Sides::side_is, crate::proofs::Sides::side_most))]
+pub(crate) fn side_of(l: u32) -> u32
+    requires { l ≤ 11 }
+    ensures value { result ≡ 2 ^ l }
+    ensures some { 0 < result }
+    ensures most { result ≤ 2048 }
+{
+    1 << l
+}
+
+/// `sum` as a part of `whole`, over 65536 and rounded down.
+#[tactic(auto, using(crate::proofs::Sides::mean_most))]
+fn mean(sum: u64, whole: u64) -> Num
+    requires some { 0 < whole }
+    requires part { sum ≤ whole }
+    requires small { sum ≤ 2 ^ 40 }
+    ensures { result ≡ pos (65536 * sum / whole) }
+{
+    Num::sat((65536 * sum / whole) as i128)
+}
