@@ -1,5 +1,7 @@
 -- The tile of a bucket, and its pixels in their row.
-use Rattle.std.proofs.Common.{◌≡◌, ℕ, ◌<◌, arith, refl, ◌∙◌, ap, subst, List, length}
+use Rattle.std.proofs.Common.{◌≡◌, ℕ, ◌<◌, ◌≤◌, arith, refl, sym, ◌∙◌, ap, subst, List, ◌++◌, length}
+use Rattle.std.specs.Prelude.{All}
+use Rattle.parts.specs.Formats.{word}
 use Rattle.fixed_math.specs.Spots.{PixelRect}
 use Rattle.hider.specs.declared.fragment.Fragment.{Fragment}
 use Rattle.hider.specs.declared.sample.Sample.{Sample}
@@ -7,13 +9,16 @@ use Rattle.hider.specs.declared.sample_grid.SampleGrid.{SampleGrid}
 use Rattle.hider.specs.Composite.{composite}
 use Rattle.hider.specs.Tiles.{TileValue, Shows, IsSampleGrid, grid_of, rect_of}
 use Rattle.filter_ppm.specs.Sampled.{FilmFormat, film_with}
+use Rattle.filter_ppm.specs.Film.{pixels}
+use Rattle.filter_ppm.specs.Levels.{band}
+use Rattle.filter_ppm.proofs.Within.{pixels_within}
 use Rattle.filter_ppm.specs.Bands.{rect_with, seen_from, grid_over, PutsPixels}
 use Rattle.filter_ppm.proofs.Bands.{columns_more}
 use Rattle.filter_ppm.proofs.Puts.{in_frame}
 use Rattle.buckets.specs.Pictures.{micropolygons, frame_leaves}
 use Rattle.buckets.specs.TileWalk.{Drawing, format_in, bucket_of, tile_rect, tile_grid, tile_count, fragments_of}
 use Rattle.buckets.specs.Standing.{IsDrawable}
-use Rattle.buckets.specs.Rows.{film, IsRowTo}
+use Rattle.buckets.specs.Rows.{film, bucket_bytes, IsRowTo}
 use Rattle.buckets.proofs.BucketRows.{part_of}
 
 pub grid_is : (d : Drawing) (n : ℕ) → tile_grid d n ≡ grid_over (seen_from (format_in d.frame) (bucket_of d n)) d.frame.options
@@ -71,3 +76,20 @@ bucket_put d n filter r t old new h low same is shows row long puts =
     (subst (λ (g : FilmFormat). PutsPixels (film_with g (λ s. composite (fragments_of d (frame_leaves d.frame) s))) (bucket_of d n) old new) same
     (subst (λ q. PutsPixels (film_with filter (λ s. composite (fragments_of d (frame_leaves d.frame) s))) q old new) is (puts (fragments_of d (frame_leaves d.frame)) shows))) in
     record { size = long ∙ row.size; pixels = columns_more (film d) (bucket_of d n) old new row.pixels whole p.right }
+
+-- the pixels of a bucket by themselves, and their bytes behind its number
+pub pixels_alone : (d : Drawing) (n : ℕ) (filter : FilmFormat) (r : PixelRect) (t : TileValue) (new : List (List ℕ)) → filter ≡ format_in d.frame → r ≡ bucket_of d n → Shows t (fragments_of d (frame_leaves d.frame))
+    → ((f : Sample → List Fragment) → Shows t f → new ≡ pixels (film_with filter (λ s. composite (f s))) r) → new ≡ pixels (film d) (bucket_of d n)
+pixels_alone d n filter r t new same is shows tells =
+    subst (λ f. new ≡ pixels f (bucket_of d n)) (film_is d)
+    (subst (λ (g : FilmFormat). new ≡ pixels (film_with g (λ s. composite (fragments_of d (frame_leaves d.frame) s))) (bucket_of d n)) same
+    (subst (λ q. new ≡ pixels (film_with filter (λ s. composite (fragments_of d (frame_leaves d.frame) s))) q) is (tells (fragments_of d (frame_leaves d.frame)) shows)))
+
+pub bytes_alone : (d : Drawing) (n one : ℕ) (new : List (List ℕ)) → one ≡ d.frame.options.one → new ≡ pixels (film d) (bucket_of d n) → word n ++ band one new ≡ bucket_bytes d n
+unfolding bucket_bytes
+bytes_alone d n one new same is = ap (λ k. word n ++ band k new) same ∙ ap (λ ps. word n ++ band d.frame.options.one ps) is
+
+pub within_alone : (d : Drawing) (n one : ℕ) (new : List (List ℕ)) → IsDrawable d → one ≡ d.frame.options.one → new ≡ pixels (film d) (bucket_of d n) → All (λ p. All (λ v. v ≤ one) p) new
+within_alone d n one new h same is =
+    subst (λ k. All (λ p. All (λ v. v ≤ k) p) new) (sym same)
+    (subst (λ (ps : List (List ℕ)). All (λ p. All (λ v. v ≤ d.frame.options.one) p) ps) (sym is) (pixels_within (film d) h.options.order h.options.within (bucket_of d n)))

@@ -1,10 +1,10 @@
 -- The counts of the tile walk: they never fall, and how far they rise.
-use Rattle.std.proofs.Common.{◌≡◌, ℕ, zero, suc, ◌+◌, ◌*◌, ◌≤◌, arith, refl, sym, ◌∙◌, subst, Bool, true, false, List, [], ◌∷◌, ◌++◌, length}
+use Rattle.std.proofs.Common.{◌≡◌, ℕ, zero, suc, ◌+◌, ◌*◌, ◌≤◌, arith, refl, sym, ◌∙◌, subst, Bool, true, false, cond, List, [], ◌∷◌, ◌++◌, length}
 use Rattle.std.proofs.lemmas.Bool.{le-leb}
 use Rattle.patches.specs.Parts.{Part}
 use Rattle.grid_epoch.specs.Kept.{has}
 use Rattle.buckets.specs.Pictures.{FrameLeaf, frame_leaves}
-use Rattle.buckets.specs.TileWalk.{Drawing, Counts, in_new_epoch, with_shaded, has_room, with_needed, is_shown, leaf_points, Walked, walked, past_leaf, past_leaves, past_tile, past_tiles, nothing, tile_count, tile_walk}
+use Rattle.buckets.specs.TileWalk.{Drawing, Counts, in_new_epoch, with_shaded, has_room, with_needed, is_shown, leaf_points, Walked, walked, past_leaf, past_leaves, past_tile, past_tiles, nothing, draws, tile_count, tile_walk}
 
 pub by_bool : {P : Type 0} (b : Bool) → (b ≡ true → P) → (b ≡ false → P) → P
 by_bool true f g = f refl
@@ -76,12 +76,21 @@ tile_rises : (d : Drawing) (n : ℕ) (c : Counts) → Rise (length (frame_leaves
 unfolding past_tile
 tile_rises d n c = leaves_rise d n (walked [] c) (frame_leaves d.frame)
 
+-- where it is drawn
+drawn_rises : (d : Drawing) (n : ℕ) (c : Counts) → Rise (length (frame_leaves d.frame)) c (cond (draws d n) (past_tile d n c) c)
+drawn_rises d n c =
+    let drawn : Bool → Counts = λ b. cond b (past_tile d n c) c in
+    by_bool (draws d n)
+    (λ h. subst (λ b. Rise (length (frame_leaves d.frame)) c (drawn b)) (sym h) (tile_rises d n c))
+    (λ h. subst (λ b. Rise (length (frame_leaves d.frame)) c (drawn b)) (sym h) (stays c (length (frame_leaves d.frame))))
+
 pub tiles_rise : (d : Drawing) (k n : ℕ) (c : Counts) → Rise (k * length (frame_leaves d.frame)) c (past_tiles d k n c)
 tiles_rise d zero n c = stays c (0 * length (frame_leaves d.frame))
 tiles_rise d (suc k) n c =
     let m = length (frame_leaves d.frame) in
     let e : m + k * m ≡ suc k * m = grind arith in
-    subst (λ j. Rise j c (past_tiles d k (n + 1) (past_tile d n c))) e (rises_then m (k * m) c (past_tile d n c) (past_tiles d k (n + 1) (past_tile d n c)) (tile_rises d n c) (tiles_rise d k (n + 1) (past_tile d n c)))
+    let past = cond (draws d n) (past_tile d n c) c in
+    subst (λ j. Rise j c (past_tiles d k (n + 1) past)) e (rises_then m (k * m) c past (past_tiles d k (n + 1) past) (drawn_rises d n c) (tiles_rise d k (n + 1) past))
 
 -- the whole walk shades each leaf at most once in each tile, and begins an epoch only to shade
 pub walk_rises : (d : Drawing) → Rise (tile_count d * length (frame_leaves d.frame)) (in_new_epoch nothing) (tile_walk d)

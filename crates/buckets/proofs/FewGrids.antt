@@ -1,5 +1,5 @@
 -- How many grids a drawing shades: at most one for each leaf in each tile that it meets, and where there is room for all, each once.
-use Rattle.std.proofs.Common.{◌≡◌, ◌⊎◌, inl, inr, ℕ, zero, suc, ◌+◌, ◌<◌, ◌≤◌, arith, refl, sym, ◌∙◌, ap, subst, Bool, true, false, not, ◌&&◌, ◌||◌, List, [], ◌∷◌, ◌++◌, length, length-append}
+use Rattle.std.proofs.Common.{◌≡◌, ◌⊎◌, inl, inr, ℕ, zero, suc, ◌+◌, ◌<◌, ◌≤◌, arith, refl, sym, ◌∙◌, ap, subst, Bool, true, false, cond, not, ◌&&◌, ◌||◌, List, [], ◌∷◌, ◌++◌, length, length-append}
 use Rattle.std.specs.Prelude.{filter}
 use Rattle.std.specs.List.{list_any, range_with_len}
 use Rattle.std.proofs.lemmas.Bool.{le-leb}
@@ -8,8 +8,8 @@ use Rattle.patches.specs.Parts.{Part}
 use Rattle.grid_epoch.specs.Kept.{has, same_part}
 use Rattle.grid_epoch.proofs.Keeping.{AreDistinct-push}
 use Rattle.buckets.specs.Pictures.{FrameLeaf, frame_leaves}
-use Rattle.buckets.specs.TileWalk.{Drawing, Counts, nothing, in_new_epoch, with_shaded, with_needed, has_room, Walked, walked, tile_count, meets_tile, is_behind, is_shown, leaf_points, past_leaf, past_leaves, past_tile, past_tiles, tile_walk}
-use Rattle.buckets.specs.Meeting.{meetings, meets_some, meeting_some, points_of, InOneEpoch}
+use Rattle.buckets.specs.TileWalk.{Drawing, Counts, nothing, in_new_epoch, with_shaded, with_needed, has_room, Walked, walked, draws, tile_count, meets_tile, is_behind, is_shown, leaf_points, past_leaf, past_leaves, past_tile, past_tiles, tile_walk}
+use Rattle.buckets.specs.Meeting.{meeting, meetings, meets_some, meeting_some, points_of, InOneEpoch}
 use Rattle.buckets.proofs.Counting.{by_bool, leaf_rises, needed_kept, needed_new, past_shown, past_unshown}
 
 -- ---- leaves that meet
@@ -37,12 +37,20 @@ leaves_met d n w (x ∷ xs) =
     let more : length (filter (meets_tile d n) (x ∷ xs)) ≡ length (filter (meets_tile d n) xs) = ap length (misses (meets_tile d n) x xs h) in
     omega (arith, same, rest, more))
 
-tiles_met : (d : Drawing) (k n : ℕ) (c : Counts) → (past_tiles d k n c).shadings ≤ c.shadings + meetings d k n
+drawn_met : (d : Drawing) (n : ℕ) (c : Counts) → (cond (draws d n) (past_tile d n c) c).shadings ≤ c.shadings + cond (draws d n) (length (meeting d n)) 0
 unfolding past_tile
+drawn_met d n c =
+    let past : Bool → Counts = λ b. cond b (past_tile d n c) c in
+    let met : Bool → ℕ = λ b. cond b (length (meeting d n)) 0 in
+    by_bool (draws d n)
+    (λ h. subst (λ b. (past b).shadings ≤ c.shadings + met b) (sym h) (leaves_met d n (walked [] c) (frame_leaves d.frame)))
+    (λ h. subst (λ b. (past b).shadings ≤ c.shadings + met b) (sym h) (omega arith))
+
+tiles_met : (d : Drawing) (k n : ℕ) (c : Counts) → (past_tiles d k n c).shadings ≤ c.shadings + meetings d k n
 tiles_met d zero n c = omega arith
 tiles_met d (suc k) n c =
-    let one = leaves_met d n (walked [] c) (frame_leaves d.frame) in
-    let rest = tiles_met d k (n + 1) (past_tile d n c) in
+    let one = drawn_met d n c in
+    let rest = tiles_met d k (n + 1) (cond (draws d n) (past_tile d n c) c) in
     omega (arith, one, rest)
 
 walk_is : (d : Drawing) → tile_walk d ≡ past_tiles d (tile_count d) 0 (in_new_epoch nothing)
@@ -168,10 +176,17 @@ leaves_once : (d : Drawing) (n : ℕ) (w : Walked) (xs : List FrameLeaf) → poi
 leaves_once d n w [] few low is r = r
 leaves_once d n w (x ∷ xs) few low is r = leaves_once d n (past_leaf d n w x) xs few low (λ y h. is y (inr h)) (leaf_once d n w x few low (is x (inl refl)) r)
 
-tiles_once : (d : Drawing) (k n : ℕ) (c : Counts) → points_of d (meeting_some d) ≤ d.limit → n + k ≤ tile_count d → HasRoom d c → HasRoom d (past_tiles d k n c)
+drawn_once : (d : Drawing) (n : ℕ) (c : Counts) → points_of d (meeting_some d) ≤ d.limit → n < tile_count d → HasRoom d c → HasRoom d (cond (draws d n) (past_tile d n c) c)
 unfolding past_tile
+drawn_once d n c few low r =
+    let past : Bool → Counts = λ b. cond b (past_tile d n c) c in
+    by_bool (draws d n)
+    (λ h. subst (λ b. HasRoom d (past b)) (sym h) (leaves_once d n (walked [] c) (frame_leaves d.frame) few low (λ x i. i) r))
+    (λ h. subst (λ b. HasRoom d (past b)) (sym h) r)
+
+tiles_once : (d : Drawing) (k n : ℕ) (c : Counts) → points_of d (meeting_some d) ≤ d.limit → n + k ≤ tile_count d → HasRoom d c → HasRoom d (past_tiles d k n c)
 tiles_once d zero n c few low r = r
-tiles_once d (suc k) n c few low r = tiles_once d k (n + 1) (past_tile d n c) few (omega (arith, low)) (leaves_once d n (walked [] c) (frame_leaves d.frame) few (omega (arith, low)) (λ x h. h) r)
+tiles_once d (suc k) n c few low r = tiles_once d k (n + 1) (cond (draws d n) (past_tile d n c) c) few (omega (arith, low)) (drawn_once d n c few (omega (arith, low)) r)
 
 none_kept : (d : Drawing) (xs : List FrameLeaf) → points_of d (filter (unkept []) xs) ≡ points_of d xs
 none_kept d [] = refl

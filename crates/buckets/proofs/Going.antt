@@ -1,5 +1,5 @@
 -- How the drawing of a tile goes on, leaf by leaf.
-use Rattle.std.proofs.Common.{◌≡◌, ℕ, suc, ◌+◌, ◌-◌, ◌<◌, ◌≤◌, max, arith, refl, sym, ◌∙◌, ap, subst, Bool, true, false, ◌↔◌, List, [], ◌∷◌, ◌++◌, filter, append_assoc, Option, Some, None}
+use Rattle.std.proofs.Common.{◌≡◌, ℕ, suc, ◌+◌, ◌-◌, ◌<◌, ◌≤◌, max, arith, refl, sym, ◌∙◌, ap, subst, Bool, true, false, cond, ◌↔◌, List, [], ◌∷◌, ◌++◌, filter, append_assoc, Option, Some, None}
 use Rattle.std.specs.Prelude.{nat_le, ◌&&◌, not, IsTrue}
 use Rattle.std.proofs.lemmas.Bool.{and_parts}
 use Rattle.std.proofs.lemmas.List.{append-nil}
@@ -18,7 +18,7 @@ use Rattle.shader_binding.specs.Sets.{AcceptedValue}
 use Rattle.buckets.specs.Culled.{leaf_nearest}
 use Rattle.buckets.specs.Pictures.{FrameLeaf, leaf_micropolygons, frame_leaves, micropolygons_of}
 use Rattle.buckets.specs.Sampled.{ShowsMore}
-use Rattle.buckets.specs.TileWalk.{Drawing, Counts, in_new_epoch, has_room, with_needed, is_shown, is_behind, behind_in, meets_in, meets_tile, nearest, leaf_points, fragments_of, Walked, walked, past_leaf, past_leaves, past_tile, past_tiles, tile_count, tile_grid, tile_walk}
+use Rattle.buckets.specs.TileWalk.{Drawing, Counts, in_new_epoch, has_room, with_needed, is_shown, is_behind, behind_in, meets_in, meets_tile, nearest, leaf_points, fragments_of, Walked, walked, past_leaf, past_leaves, past_tile, past_tiles, draws, tile_count, tile_grid, tile_walk}
 use Rattle.buckets.specs.Standing.{InEpoch, next_epoch, Keeps, AreGrids, Goes, Going, Before, Skips, GivesNext, CountsGo, ShadesInPart, shows_in}
 use Rattle.buckets.proofs.Behind.{behind_as, blocked_as}
 use Rattle.buckets.proofs.Counting.{by_bool, needed_next, past_shown, past_unshown, leaves_rise, tiles_rise}
@@ -289,10 +289,10 @@ goes_done e n tile kept count g = record { counts = g.counts; grids = g.grids; k
 pub goes_whole : (e : InEpoch) (n : ℕ) (tile : TileValue) (kept : List (Part × SeenGrid)) (count : ℕ) → Goes e n tile [] kept count → Shows tile (fragments_of e.begun.drawing (frame_leaves e.begun.drawing.frame))
 goes_whole e n tile kept count g = subst (λ xs. Shows tile (fragments_of e.begun.drawing xs)) (sym (append-nil g.past) ∙ g.split) g.shows_past
 
-pub goes_begun : (e : InEpoch) (n : ℕ) (tile : TileValue) (kept : List (Part × SeenGrid)) (count : ℕ) → Before e n kept count → n < tile_count e.begun.drawing → tile.grid ≡ tile_grid e.begun.drawing n → Shows tile (λ s. [])
-    → Goes e n tile (frame_leaves e.begun.drawing.frame) kept count
+pub goes_begun : (e : InEpoch) (n : ℕ) (tile : TileValue) (kept : List (Part × SeenGrid)) (count : ℕ) → Before e n kept count → n < tile_count e.begun.drawing → draws e.begun.drawing n ≡ true → tile.grid ≡ tile_grid e.begun.drawing n
+    → Shows tile (λ s. []) → Goes e n tile (frame_leaves e.begun.drawing.frame) kept count
 unfolding past_tile
-goes_begun e n tile kept count b low grid empty =
+goes_begun e n tile kept count b low drawn grid empty =
     let d = e.begun.drawing in
     let more : tile_count d - n ≡ suc (tile_count d - (n + 1)) = omega (arith, low) in
     record {
@@ -306,5 +306,5 @@ goes_begun e n tile kept count b low grid empty =
       grids = b.grids;
       keeps = b.keeps;
       counted = b.counted;
-      walk = ap (λ k. past_tiles d k n b.counts) (sym more) ∙ b.walk;
+      walk = ap (λ (h : Bool). past_tiles d (tile_count d - (n + 1)) (n + 1) (cond h (past_tile d n b.counts) b.counts)) (sym drawn) ∙ ap (λ k. past_tiles d k n b.counts) (sym more) ∙ b.walk;
     }

@@ -8,6 +8,7 @@ pub mod HiddenGrids
 pub mod Cover
 pub mod BucketRows
 pub mod Counting
+pub mod Skipping
 pub mod Coming
 pub mod Narrowed
 pub mod Gaps
@@ -19,7 +20,11 @@ pub mod Bounds
 pub mod BucketPixels
 pub mod Passing
 pub mod RowBytes
+pub mod SharePuts
+pub mod Tables
+pub mod Drawable
 pub mod StepsOn
 pub mod WholeEntry
+pub mod PartEntry
 pub mod NothingLost
 pub mod FewGrids

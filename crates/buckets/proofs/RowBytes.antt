@@ -10,7 +10,7 @@ use Rattle.filter_ppm.proofs.Bands.{band_done, bands_more, bands_none}
 use Rattle.buckets.specs.Pictures.{picture_bytes, header_of}
 use Rattle.buckets.specs.TileWalk.{Drawing, format_in, picture_rect, bucket_of, tile_count}
 use Rattle.buckets.specs.Standing.{Begun, IsDrawable}
-use Rattle.buckets.specs.Rows.{film, bytes_above, row_top, IsRowTo, PutsTo, PutsInPart}
+use Rattle.buckets.specs.Rows.{film, bytes_above, row_top, IsRowTo, PutsRowsTo, PutsRowsInPart}
 use Rattle.buckets.proofs.BucketRows.{some_wide, part_of, top_is, first_top, all_rows, GoesOnRow, EndsRow}
 
 -- ---- fronts of bytes
@@ -50,7 +50,7 @@ row_is d n row h low is ends =
 
 -- a row that is put
 pub row_put : (b : Begun) (n : ℕ) (row : List (List ℕ)) (w w' : Option (List Written)) → IsDrawable b.drawing → n < tile_count b.drawing → IsRowTo b.drawing n (bucket_of b.drawing n).right row → EndsRow b.drawing n
-    → PutsTo b n w → PutsAll (band b.drawing.frame.options.one row) w w' → PutsTo b (n + 1) w'
+    → PutsRowsTo b n w → PutsAll (band b.drawing.frame.options.one row) w w' → PutsRowsTo b (n + 1) w'
 row_put b n row w w' h low is ends before put =
     let d = b.drawing in
     let one = d.frame.options.one in
@@ -63,11 +63,11 @@ row_put b n row w w' h low is ends before put =
     ∙ ap (λ r. bytes_above d (row_top d n) ++ band one r) (sym (row_is d n row h low is ends)) in
     subst (λ a. PutsAll a b.written w') (sym more) (puts-more (bytes_above d (row_top d n)) (band one row) b.written w w' before put)
 
-pub row_kept : (b : Begun) (n : ℕ) (w : Option (List Written)) → GoesOnRow b.drawing n → PutsTo b n w → PutsTo b (n + 1) w
+pub row_kept : (b : Begun) (n : ℕ) (w : Option (List Written)) → GoesOnRow b.drawing n → PutsRowsTo b n w → PutsRowsTo b (n + 1) w
 row_kept b n w on before = subst (λ t. PutsAll (bytes_above b.drawing t) b.written w) (sym on.row) before
 
 -- where a row is not put, or not whole
-pub rows_in_part : (b : Begun) (n : ℕ) (w : Option (List Written)) → IsDrawable b.drawing → PutsTo b n w → PutsInPart b w
+pub rows_in_part : (b : Begun) (n : ℕ) (w : Option (List Written)) → IsDrawable b.drawing → PutsRowsTo b n w → PutsRowsInPart b w
 unfolding row_top
 rows_in_part b n w h before =
     let d = b.drawing in
@@ -79,7 +79,7 @@ rows_in_part b n w h before =
     front_then (bytes_above d (row_top d n)) [] rest (bytes_above d height) b.written w w (above_more d (row_top d n) height h behind below) before (front_none [] w)
 
 pub row_in_part : (b : Begun) (n : ℕ) (row : List (List ℕ)) (w w' : Option (List Written)) → IsDrawable b.drawing → n < tile_count b.drawing → IsRowTo b.drawing n (bucket_of b.drawing n).right row → EndsRow b.drawing n
-    → PutsTo b n w → PutsFront (band b.drawing.frame.options.one row) w w' → PutsInPart b w'
+    → PutsRowsTo b n w → PutsFront (band b.drawing.frame.options.one row) w w' → PutsRowsInPart b w'
 row_in_part b n row w w' h low is ends before put =
     let d = b.drawing in
     let one = d.frame.options.one in
@@ -97,7 +97,7 @@ row_in_part b n row w w' h low is ends before put =
     front_then (bytes_above d (row_top d n)) (band one row) rest (bytes_above d height) b.written w w' all before put
 
 -- before the first row
-pub puts_first : (b : Begun) (w : Option (List Written)) → IsDrawable b.drawing → w ≡ b.written → PutsTo b 0 w
+pub puts_first : (b : Begun) (w : Option (List Written)) → IsDrawable b.drawing → w ≡ b.written → PutsRowsTo b 0 w
 unfolding bytes_above
 puts_first b w h is =
     let d = b.drawing in
@@ -105,7 +105,7 @@ puts_first b w h is =
     subst (λ l. PutsAll l b.written w) (sym none) (subst (λ v. PutsAll [] v w) is (puts-none w))
 
 -- behind the last row
-pub puts_last : (b : Begun) (n : ℕ) (w : Option (List Written)) → IsDrawable b.drawing → n ≡ tile_count b.drawing → PutsTo b n w → PutsAll (bytes_above b.drawing (picture_rect b.drawing.frame).bottom) b.written w
+pub puts_last : (b : Begun) (n : ℕ) (w : Option (List Written)) → IsDrawable b.drawing → n ≡ tile_count b.drawing → PutsRowsTo b n w → PutsAll (bytes_above b.drawing (picture_rect b.drawing.frame).bottom) b.written w
 puts_last b n w h is before = subst (λ t. PutsAll (bytes_above b.drawing t) b.written w) (ap (row_top b.drawing) is ∙ all_rows b.drawing h) before
 
 -- the whole picture

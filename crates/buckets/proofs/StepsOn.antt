@@ -1,5 +1,5 @@
 -- How a drawing goes from tile to tile.
-use Rattle.std.proofs.Common.{◌≡◌, Bool, ℕ, zero, suc, ◌+◌, ◌-◌, ◌*◌, ◌<◌, ◌≤◌, max, arith, refl, sym, ◌∙◌, ap, subst, List, [], ◌∷◌, length, take, ◌++◌, Option, Some, None, true, false}
+use Rattle.std.proofs.Common.{◌≡◌, Bool, ℕ, suc, ◌+◌, ◌-◌, ◌*◌, ◌<◌, ◌≤◌, max, arith, refl, sym, ◌∙◌, ap, subst, List, [], Option, Some, None, true, false, cond}
 use Rattle.std.specs.Prelude.{is_some}
 use Rattle.patches.specs.Parts.{Part}
 use Rattle.hider.specs.declared.seen_grid.SeenGrid.{SeenGrid}
@@ -12,9 +12,9 @@ use Rattle.buckets.specs.declared.frame.Progress.{Progress}
 use Rattle.std.specs.Prelude.{ℤ}
 use Rattle.buckets.specs.Sampled.{TellsBehind}
 use Rattle.buckets.specs.Pictures.{frame_leaves}
-use Rattle.buckets.specs.TileWalk.{Drawing, nothing, in_new_epoch, format_in, bucket_of, tile_count, tile_rect, tile_grid, samples_at, past_tiles, tile_walk}
+use Rattle.buckets.specs.TileWalk.{Drawing, nothing, in_new_epoch, format_in, bucket_of, draws, tile_count, tile_rect, tile_grid, samples_at, past_tiles, tile_walk}
 use Rattle.buckets.specs.Standing.{Begun, InEpoch, IsDrawable, Before, GivesNext, to_come, shows_in}
-use Rattle.buckets.specs.Rows.{film, IsRowTo, TellsSamples}
+use Rattle.buckets.specs.Rows.{film, IsRowTo, HasRow, TellsSamples}
 use Rattle.buckets.specs.Progress.{Stands, next_of, report_before}
 use Rattle.filter_ppm.specs.Bands.{ArePixels}
 use Rattle.buckets.proofs.BucketRows.{wide, GoesOnRow}
@@ -23,11 +23,11 @@ use Rattle.buckets.proofs.Laws.{lawful}
 use Rattle.buckets.proofs.Passing.{gives_as}
 
 -- in a tile that has just begun
-pub stands_in : (e : InEpoch) (p : Progress) (kept : List (Part × SeenGrid)) (count : ℕ) → IsDrawable e.begun.drawing → Before e p.drawing.at kept count → p.drawing.at < tile_count e.begun.drawing
+pub stands_in : (e : InEpoch) (p : Progress) (kept : List (Part × SeenGrid)) (count : ℕ) → IsDrawable e.begun.drawing → Before e p.drawing.at kept count → p.drawing.at < tile_count e.begun.drawing → draws e.begun.drawing p.drawing.at ≡ true
     → p.filter ≡ format_in e.begun.drawing.frame → p.drawing.leaves.sights ≡ e.begun.drawing.frame → rect_with p.drawing.rect ≡ tile_rect e.begun.drawing p.drawing.at → p.drawing.tile.grid ≡ tile_grid e.begun.drawing p.drawing.at → Shows p.drawing.tile (λ s. [])
     → ((back : ℤ → Bool) → TellsBehind p.drawing.tile back → GivesNext e.begun.drawing.frame (shows_in e.begun.drawing.frame (tile_rect e.begun.drawing p.drawing.at) back) p.drawing.next (frame_leaves e.begun.drawing.frame) (to_come e.begun.drawing.frame p.drawing.leaves.number p.drawing.leaves.pieces))
-    → IsRowTo e.begun.drawing p.drawing.at (bucket_of e.begun.drawing p.drawing.at).left p.row.items → Stands e p kept count
-stands_in e p kept count h before low format sights rect grid empty gives row =
+    → HasRow e.begun.drawing p.drawing.at (bucket_of e.begun.drawing p.drawing.at).left p.row.items → Stands e p kept count
+stands_in e p kept count h before low drawn format sights rect grid empty gives row =
     let d = e.begun.drawing in
     record {
       within = omega (arith, low);
@@ -35,9 +35,10 @@ stands_in e p kept count h before low format sights rect grid empty gives row =
       sights = sights;
       going = λ l. record {
         rect = rect;
+        drawn = drawn;
         row = row;
         going =
-            let g = goes_begun e p.drawing.at p.drawing.tile kept count before low grid empty in
+            let g = goes_begun e p.drawing.at p.drawing.tile kept count before low drawn grid empty in
             goes_next p.drawing.next e p.drawing.at p.drawing.tile (frame_leaves d.frame) (to_come d.frame p.drawing.leaves.number p.drawing.leaves.pieces) kept count (lawful d p.drawing.at h) g
             (gives_as p.drawing.next e p.drawing.at d.frame (tile_rect d p.drawing.at) p.drawing.tile g.shown (λ v. frame_leaves v) (λ v. to_come v p.drawing.leaves.number p.drawing.leaves.pieces) refl refl g.grid g.shows gives);
       };
@@ -62,10 +63,10 @@ before_first b =
     }
 
 -- ---- reports
-pub tells_more : (b : Begun) (n n' most s m : ℕ) (g : SampleGrid) → TellsSamples b n most → s ≡ sample_count g → g ≡ tile_grid b.drawing n → n' ≡ n + 1 → m ≡ max most s → TellsSamples b n' m
+pub tells_more : (b : Begun) (n n' most s m : ℕ) (g : SampleGrid) → TellsSamples b n most → draws b.drawing n ≡ true → s ≡ sample_count g → g ≡ tile_grid b.drawing n → n' ≡ n + 1 → m ≡ max most s → TellsSamples b n' m
 unfolding most_below
-tells_more b n n' most s m g tells is grid next more =
-    let here : s ≡ samples_at b.drawing n = is ∙ ap (λ (q : SampleGrid). sample_count q) grid in
+tells_more b n n' most s m g tells drawn is grid next more =
+    let here : s ≡ samples_at b.drawing n = is ∙ ap (λ (q : SampleGrid). sample_count q) grid ∙ ap (λ (h : Bool). cond h (sample_count (tile_grid b.drawing n)) 0) (sym drawn) in
     let one : n' ≡ suc n = omega (arith, next) in
     let step : most_below n' (samples_at b.drawing) ≡ max (most_below n (samples_at b.drawing)) (samples_at b.drawing n) = ap (λ k. most_below k (samples_at b.drawing)) one in
     omega (arith, tells, here, step, more)
@@ -75,13 +76,6 @@ unfolding most_below
 tells_none b n most none is =
     let zero' : most_below n (samples_at b.drawing) ≡ 0 = ap (λ k. most_below k (samples_at b.drawing)) none in
     omega (arith, is, zero')
-
--- what a slice is put back as
-pub take_front : {A : Type 0} (n : ℕ) (xs ys : List A) → length xs ≡ n → take n (xs ++ ys) ≡ xs
-take_front zero [] ys h = refl
-take_front zero (x ∷ xs) ys h = absurd (omega (arith, h))
-take_front (suc n) [] ys h = absurd (omega (arith, h))
-take_front (suc n) (x ∷ xs) ys h = ap (λ l. x ∷ l) (take_front n xs ys (omega (arith, h)))
 
 -- ---- rows
 pub row_goes_on : (d : Drawing) (n : ℕ) (row : List (List ℕ)) → GoesOnRow d n → IsRowTo d n (bucket_of d n).right row → IsRowTo d (n + 1) (bucket_of d (n + 1)).left row

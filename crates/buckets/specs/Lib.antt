@@ -3,10 +3,12 @@ pub mod Sampled
 pub mod Sights
 pub mod Culled
 pub mod Narrowing
+pub mod Shares
 pub mod TileWalk
 pub mod Standing
 pub mod Rows
 pub mod Progress
+pub mod FrameParts
 pub mod Shopped
 pub mod Meeting
 pub mod TileLaws

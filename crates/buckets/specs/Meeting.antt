@@ -1,17 +1,17 @@
 -- The leaves that meet a tile, and those that meet some tile of their frame: how much a drawing has to shade.
-use Rattle.std.specs.Prelude.{◌≡◌, ℕ, zero, suc, ◌+◌, Bool, filter, length, List, [], ◌∷◌}
+use Rattle.std.specs.Prelude.{◌≡◌, ℕ, zero, suc, ◌+◌, Bool, cond, filter, length, List, [], ◌∷◌}
 use Rattle.std.specs.List.{list_any, range_with_len}
 use Rattle.grid_epoch.specs.Kept.{AreDistinct}
 use Rattle.buckets.specs.Pictures.{FrameLeaf, frame_leaves}
-use Rattle.buckets.specs.TileWalk.{Drawing, Counts, meets_tile, tile_count, leaf_points}
+use Rattle.buckets.specs.TileWalk.{Drawing, Counts, draws, meets_tile, tile_count, leaf_points}
 
 abbrev pub meeting : Drawing → ℕ → List FrameLeaf
 meeting d n = filter (meets_tile d n) (frame_leaves d.frame)
 
--- how many leaves meet tile n, how many the next tile, and so on through k tiles
+-- how many leaves meet tile n, how many the next tile, and so on through those that are drawn of k tiles
 abbrev pub meetings : Drawing → ℕ → ℕ → ℕ
 meetings d zero n = 0
-meetings d (suc k) n = length (meeting d n) + meetings d k (n + 1)
+meetings d (suc k) n = cond (draws d n) (length (meeting d n)) 0 + meetings d k (n + 1)
 
 abbrev pub meets_some : Drawing → FrameLeaf → Bool
 meets_some d x = list_any (λ n. meets_tile d n x) (range_with_len 0 (tile_count d))

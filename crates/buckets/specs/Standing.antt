@@ -1,5 +1,5 @@
 -- Where the drawing of a frame stands: what its tile shows, and what is left of the walk through its tiles.
-use Rattle.std.specs.Prelude.{◌≡◌, ◌≢◌, ℤ, ℕ, ◌+◌, ◌-◌, ◌^◌, ◌≤◌, max, Bool, true, false, nat_le, filter, List, [], ◌∷◌, ◌++◌, length, map, drop, All, Option, Some, None, slice_get}
+use Rattle.std.specs.Prelude.{◌≡◌, ◌≢◌, ℤ, ℕ, ◌+◌, ◌-◌, ◌^◌, ◌≤◌, ◌<◌, max, Bool, true, false, nat_le, filter, List, [], ◌∷◌, ◌++◌, length, map, drop, All, Option, Some, None, slice_get}
 use Rattle.patches.specs.Parts.{Part}
 use Rattle.bound_split.specs.declared.walk.Leaf.{Leaf}
 use Rattle.bound_split.specs.declared.splits.Decision.TheVariants.{Dice}
@@ -20,10 +20,11 @@ use Rattle.grid_epoch.specs.Kept.{has, pieces_in, points_in}
 use Rattle.outside.specs.Sink.{Written}
 use Rattle.buckets.specs.declared.shown.Shown.{Shown}
 use Rattle.fixed_math.specs.Spots.{PixelRect}
+use Rattle.buckets.specs.Shares.{IsShare}
 use Rattle.buckets.specs.Culled.{IsShadedPrim, part_shows}
 use Rattle.buckets.specs.Pictures.{decide, FrameLeaf, leaf_in, leaves_from, frame_leaves, leaf_micropolygons}
 use Rattle.buckets.specs.Sampled.{ShowsMore, TellsBehind}
-use Rattle.buckets.specs.TileWalk.{Drawing, Counts, walked, format_in, tile_count, tile_rect, tile_grid, meets_tile, fragments_of, leaf_points, with_needed, past_leaves, past_tiles, tile_walk}
+use Rattle.buckets.specs.TileWalk.{Drawing, Counts, walked, format_in, draws, tile_count, tile_rect, tile_grid, meets_tile, fragments_of, leaf_points, with_needed, past_leaves, past_tiles, tile_walk}
 
 -- a drawing, and what stood before it: the shop's count, the report's numbers, and what the sink told behind the header
 pub record Begun : Type 0 where
@@ -45,6 +46,7 @@ pub record IsDrawable (d : Drawing) : Type 0 where
   pub side_low : 4 ≤ d.side
   pub side_high : d.side ≤ 64
   pub limit_low : 289 ≤ d.limit
+  pub share : IsShare d.share
 
 -- the code draws this frame within these limits, and the counts before it leave room
 pub record IsDrawn (b : Begun) (s : Shown) : Type 0 where
@@ -53,9 +55,18 @@ pub record IsDrawn (b : Begun) (s : Shown) : Type 0 where
   pub frame : s.frame.now ≡ b.drawing.frame
   pub side : s.limits.bucket ≡ b.drawing.side
   pub limit : s.limits.grid_points ≡ b.drawing.limit
+  pub share : s.share ≡ b.drawing.share
   pub tiles : s.tiles ≡ tile_count b.drawing
   pub count : b.count ≤ 2 ^ 62
   pub epochs : b.epochs ≤ 2 ^ 62
+
+-- ---- tiles to come
+-- the first tile from number n on that is drawn; behind the last tile where none is
+pub record IsFirstDrawn (d : Drawing) (n first : ℕ) : Type 0 where
+  pub from : n ≤ first
+  pub within : first ≤ tile_count d
+  pub none : (k : ℕ) → n ≤ k → k < first → draws d k ≡ false
+  pub drawn : first < tile_count d → draws d first ≡ true
 
 -- ---- leaves to come
 -- those below the pieces of a stack of primitive n, and those of the primitives behind it

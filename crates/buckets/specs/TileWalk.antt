@@ -20,15 +20,18 @@ use Rattle.hider.specs.Tiles.{sample_count, sample_of, rect_of as rect_of_grid}
 use Rattle.filter_ppm.specs.Bands.{seen_from, grid_over}
 use Rattle.filter_ppm.specs.Sampled.{FilmFormat}
 use Rattle.grid_epoch.specs.Kept.{has}
+use Rattle.buckets.specs.declared.share.Share.{Share}
 use Rattle.buckets.specs.Culled.{leaf_meets, leaf_nearest}
+use Rattle.buckets.specs.Shares.{is_in}
 use Rattle.buckets.specs.Pictures.{decide, FrameLeaf, frame_leaves, micropolygons_of}
 
--- a frame of an accepted scene, to be drawn in buckets of a side while grids of at most so many points are kept
+-- a frame of an accepted scene, to be drawn in buckets of a side, all or a share of them, while grids of at most so many points are kept
 pub record Drawing : Type 0 where
   pub accepted : AcceptedValue
   pub frame : FrameValue
   pub side : ℕ
   pub limit : ℕ
+  pub share : Share
 
 -- ---- tiles: a bucket's samples, and those about it that may count for its pixels, in the picture or not
 abbrev pub format_in : FrameValue → FilmFormat
@@ -44,6 +47,10 @@ bucket_of d n = bucket d.side (picture_rect d.frame) n
 -- tiles go by rows, as buckets do
 abbrev pub tile_count : Drawing → ℕ
 tile_count d = bucket_count d.side (picture_rect d.frame)
+
+-- those that are drawn
+abbrev pub draws : Drawing → ℕ → Bool
+draws d n = is_in d.share n
 
 abbrev pub tile_rect : Drawing → ℕ → PixelRect
 tile_rect d n = seen_from (format_in d.frame) (bucket_of d n)
@@ -135,15 +142,15 @@ abbrev pub past_leaves : Drawing → ℕ → Walked → List FrameLeaf → Walke
 past_leaves d n w [] = w
 past_leaves d n w (x ∷ xs) = past_leaves d n (past_leaf d n w x) xs
 
--- through tile n, and through k tiles from number n on
+-- through tile n; and through those that are drawn of k tiles, from number n on
 unfoldable pub past_tile : Drawing → ℕ → Counts → Counts
 past_tile d n c = (past_leaves d n (walked [] c) (frame_leaves d.frame)).counts
 
 abbrev pub past_tiles : Drawing → ℕ → ℕ → Counts → Counts
 past_tiles d zero n c = c
-past_tiles d (suc k) n c = past_tiles d k (n + 1) (past_tile d n c)
+past_tiles d (suc k) n c = past_tiles d k (n + 1) (cond (draws d n) (past_tile d n c) c)
 
--- through all tiles of the picture, by rows
+-- through all tiles of the picture that are drawn, by rows
 unfoldable pub tile_walk : Drawing → Counts
 tile_walk d = past_tiles d (tile_count d) 0 (in_new_epoch nothing)
 
@@ -152,7 +159,7 @@ abbrev pub most_points : Drawing → ℕ
 most_points d = max (tile_walk d).most (tile_walk d).points
 
 abbrev pub samples_at : Drawing → ℕ → ℕ
-samples_at d n = sample_count (tile_grid d n)
+samples_at d n = cond (draws d n) (sample_count (tile_grid d n)) 0
 
 abbrev pub most_samples : Drawing → ℕ
 most_samples d = most_below (tile_count d) (samples_at d)

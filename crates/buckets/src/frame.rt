@@ -17,17 +17,17 @@ ghost use Rattle.filter_ppm.specs.Bands.{rect_with};
 ghost use Rattle.grid_epoch.specs.Kept.{points_in};
 ghost use Rattle.buckets.specs.Pictures.{picture_bytes, header_of, frame_leaves};
 ghost use Rattle.buckets.specs.Shopped.{shaded_by};
-ghost use Rattle.buckets.specs.TileWalk.{bucket_of, picture_rect, tile_grid, tile_count, format_in, fragments_of};
-ghost use Rattle.buckets.specs.Standing.{Begun, InEpoch, IsDrawn, IsDrawable, Before, Goes, ShadesInPart, next_epoch};
-ghost use Rattle.buckets.specs.Rows.{IsRowTo, PutsTo, PutsInPart, TellsSamples, bytes_above};
+ghost use Rattle.buckets.specs.TileWalk.{bucket_of, draws, picture_rect, tile_grid, tile_count, format_in, fragments_of};
+ghost use Rattle.buckets.specs.Standing.{Begun, InEpoch, IsFirstDrawn, IsDrawn, IsDrawable, Before, Goes, ShadesInPart, next_epoch};
+ghost use Rattle.buckets.specs.Rows.{HasRow, PutsTo, PutsInPart, TellsSamples, all_by};
 ghost use Rattle.buckets.specs.Progress.{Stands, Done, DoneInPart, next_of, drawing_of, report_before};
 ghost use Rattle.buckets.specs.declared.limits.DrawFault.TheVariants.{WriteFault};
 
 use crate::leaf_walk::{LeafWalk, prims_of};
 use crate::limits::{DrawFault, Limits, Report};
-use crate::row_band::{
-    columns_of, crop_of, new_row, put_bucket, put_row, rows_of, tile_at, turn_row,
-};
+use crate::put_pixels::{first_row, next_row, put_pixels};
+use crate::row_band::{columns_of, crop_of, rows_of, tile_at};
+use crate::share::{Share, tile_behind};
 use crate::shown::Shown;
 use crate::tile_drawing::TileDrawing;
 use bumpalo::Bump;
@@ -48,29 +48,31 @@ pub(crate) struct Progress<'a> {
     pub(crate) row: Vec<[u32; 3]>,
 }
 
-// Goes to the next tile, where there is one.
+// Goes to the next tile that is drawn, where there is one.
 fn next_tile(alloc: Global, shown: &Shown<'_>, progress: &mut Progress<'_>) -> Result<(), NoMemory>
     ghost at_epoch: { InEpoch }
     requires drawn { IsDrawn at_epoch.begun shown.now }
     requires at { progress.old.drawing.at < tile_count at_epoch.begun.drawing }
+    requires here { draws at_epoch.begun.drawing progress.old.drawing.at ≡ true }
     requires format { progress.old.filter ≡ format_in at_epoch.begun.drawing.frame }
     requires grid { progress.old.drawing.tile.grid ≡ tile_grid at_epoch.begun.drawing progress.old.drawing.at }
-    requires row { IsRowTo at_epoch.begun.drawing progress.old.drawing.at (bucket_of at_epoch.begun.drawing progress.old.drawing.at).right progress.old.row.items }
+    requires row { HasRow at_epoch.begun.drawing progress.old.drawing.at (bucket_of at_epoch.begun.drawing progress.old.drawing.at).right progress.old.row.items }
     requires sights { progress.old.drawing.leaves.sights ≡ at_epoch.begun.drawing.frame }
-    ensures at { OnOk result (progress.new.drawing.at ≡ progress.old.drawing.at + 1) }
+    ensures at { OnOk result (IsFirstDrawn at_epoch.begun.drawing (progress.old.drawing.at + 1) progress.new.drawing.at) }
     ensures stands { OnOk result ((kept : List (Part × SeenGrid)) (count : ℕ) → Before at_epoch (progress.old.drawing.at + 1) kept count → Stands at_epoch progress.new kept count) }
 {
     let at = progress.drawing.at;
-    progress.drawing.at = at + 1;
-    if at + 1 == shown.tiles {
+    let next = tile_behind(shown, at);
+    progress.drawing.at = next;
+    if next == shown.tiles {
         return Ok(());
     }
-    turn_row(alloc, shown, at, &mut progress.row)?;
+    next_row(alloc, shown, at, &mut progress.row)?;
     progress.drawing.begin(shown)?;
     Ok(())
 }
 
-// Finishes a tile, which shows all of the frame: its bucket's pixels go into their row, and a row that is done to the sink.
+// Finishes a tile, which shows all of the frame: its bucket's pixels go on their way to the sink, and the next tile begins.
 fn finish_tile<O: FrameSink>(
     alloc: Global,
     shown: &Shown<'_>,
@@ -81,15 +83,16 @@ fn finish_tile<O: FrameSink>(
     ghost at_epoch: { InEpoch }
     requires drawn { IsDrawn at_epoch.begun shown.now }
     requires at { progress.old.drawing.at < tile_count at_epoch.begun.drawing }
+    requires here { draws at_epoch.begun.drawing progress.old.drawing.at ≡ true }
     requires format { progress.old.filter ≡ format_in at_epoch.begun.drawing.frame }
     requires grid { progress.old.drawing.tile.grid ≡ tile_grid at_epoch.begun.drawing progress.old.drawing.at }
     requires shows { Shows progress.old.drawing.tile (fragments_of at_epoch.begun.drawing (frame_leaves at_epoch.begun.drawing.frame)) }
-    requires row { IsRowTo at_epoch.begun.drawing progress.old.drawing.at (bucket_of at_epoch.begun.drawing progress.old.drawing.at).left progress.old.row.items }
+    requires row { HasRow at_epoch.begun.drawing progress.old.drawing.at (bucket_of at_epoch.begun.drawing progress.old.drawing.at).left progress.old.row.items }
     requires open { O.is_open sink.old ≡ true }
     requires put { PutsTo at_epoch.begun progress.old.drawing.at (O.written sink.old) }
     requires samples { TellsSamples at_epoch.begun progress.old.drawing.at report.old.most_samples }
     requires sights { progress.old.drawing.leaves.sights ≡ at_epoch.begun.drawing.frame }
-    ensures at { OnOk result (progress.new.drawing.at ≡ progress.old.drawing.at + 1) }
+    ensures at { OnOk result (progress.old.drawing.at < progress.new.drawing.at) }
     ensures stands { OnOk result ((kept : List (Part × SeenGrid)) (count : ℕ) → Before at_epoch (progress.old.drawing.at + 1) kept count → Stands at_epoch progress.new kept count) }
     ensures epochs { report.new.epochs ≡ report.old.epochs }
     ensures points { report.new.most_points ≡ report.old.most_points }
@@ -104,14 +107,15 @@ fn finish_tile<O: FrameSink>(
     report.most_samples = report
         .most_samples
         .max(progress.drawing.tile.samples() as u64);
-    put_bucket(
+    put_pixels(
+        alloc,
         shown,
         at,
         &progress.drawing.tile,
         &mut progress.filter,
         &mut progress.row,
+        sink,
     )?;
-    put_row(alloc, shown, at, &progress.row, sink)?;
     next_tile(alloc, shown, progress)?;
     Ok(())
 }
@@ -199,12 +203,14 @@ fn run_epoch<O: FrameSink>(
     Ok(())
 }
 
-// A drawing that is to begin with the first tile.
-fn started<'a>(alloc: Global, shown: &Shown<'a>) -> Result<Progress<'a>, NoMemory>
+// A drawing that is to begin with the first tile that is drawn.
+fn started<'a>(alloc: Global, shown: &Shown<'a>, first: usize) -> Result<Progress<'a>, NoMemory>
     ghost begun: { Begun }
     requires drawn { IsDrawn begun shown.now }
     requires epochs { begun.epochs < 2 ^ 63 }
-    ensures at { IfOk result (λ p. p.drawing.at ≡ 0) }
+    requires first { IsFirstDrawn begun.drawing 0 first }
+    requires some { first < tile_count begun.drawing }
+    ensures at { IfOk result (λ p. p.drawing.at ≡ first) }
     ensures stands { IfOk result (λ p. (e : InEpoch) → e ≡ next_of begun (report_before begun) → Stands e p [] begun.count) }
 {
     let frame = shown.frame;
@@ -217,33 +223,37 @@ fn started<'a>(alloc: Global, shown: &Shown<'a>) -> Result<Progress<'a>, NoMemor
         height: view.height,
         options,
     };
-    let rect = tile_at(shown, 0);
+    let rect = tile_at(shown, first);
     let tile = Tile::new(alloc, rect, options.xs as u32, options.ys as u32)?;
     let mut leaves = LeafWalk::new(alloc, shown.frame, rect)?;
     let next = leaves.next(rect, &tile);
     Ok(Progress {
         drawing: TileDrawing {
-            at: 0,
+            at: first,
             rect,
             tile,
             leaves,
             next,
         },
         filter: PixelFilter::new(alloc, &film)?,
-        row: new_row(alloc, shown, 0)?,
+        row: first_row(alloc, shown, first)?,
     })
 }
 
-// The bytes of a frame's pixels, row of buckets after row.
-fn draw_tiles<O: FrameSink>(
+/// The bytes of the pixels that are drawn: of a whole picture row of buckets after row, of a part bucket after bucket, from the first
+/// one on.
+pub(crate) fn draw_tiles<O: FrameSink>(
     alloc: Global,
     shown: &Shown<'_>,
+    first: usize,
     shop: &mut Shop,
     report: &mut Report,
     sink: &mut O,
 ) -> Result<(), DrawFault>
     ghost begun: { Begun }
     requires drawn { IsDrawn begun shown.now }
+    requires first { IsFirstDrawn begun.drawing 0 first }
+    requires some { first < tile_count begun.drawing }
     requires set { set_value shop.old.set ≡ begun.drawing.accepted.set }
     requires count { shop.old.count ≡ begun.count }
     requires report { report.old ≡ report_before begun }
@@ -255,12 +265,12 @@ fn draw_tiles<O: FrameSink>(
     ensures few_epochs { OnOk result (report.new.epochs ≤ report.old.epochs + 2 ^ 52 + 1) }
     ensures set { shop.new.set ≡ shop.old.set }
     ensures open { O.is_open sink.new ≡ true }
-    ensures put { OnOk result (PutsAll (bytes_above begun.drawing (picture_rect begun.drawing.frame).bottom) begun.written (O.written sink.new)) }
+    ensures put { OnOk result (PutsAll (all_by begun.drawing.share begun.drawing) begun.written (O.written sink.new)) }
     ensures part { OnErr result (PutsInPart begun (O.written sink.new)) }
     ensures later { O.faults sink.old ≤ O.faults sink.new }
     ensures failed { IsErrOf result WriteFault → Rose (O.faults sink.old) (O.faults sink.new) }
 {
-    let mut progress = started(alloc, shown)?;
+    let mut progress = started(alloc, shown, first)?;
     while progress.drawing.at < shown.tiles {
         run_epoch(alloc, shown, &mut progress, shop, report, sink)?;
     }
@@ -314,15 +324,22 @@ fn recall(frame: &Frame)
     bounds_known(prims_of(frame));
 }
 
-// The frame of a scene at a place, to be drawn within limits.
-fn shown_in<'a>(scene: &'a Scene, index: usize, limits: Limits) -> Shown<'a>
+/// The frame of a scene at a place, of which a share is to be drawn within limits.
+pub(crate) fn shown_in<'a>(
+    scene: &'a Scene,
+    index: usize,
+    limits: Limits,
+    share: Share,
+) -> Shown<'a>
     requires frame { index < length scene.now.frames }
     requires low { 4 ≤ limits.bucket }
     requires high { limits.bucket ≤ 64 }
     ensures scene { result.scene.now ≡ scene.now }
     ensures index { result.index ≡ index }
     ensures limits { result.limits ≡ limits }
+    ensures share { result.share ≡ share }
     ensures tiles { result.tiles ≡ bucket_count limits.bucket (picture_rect result.frame.now) }
+    ensures some { 1 ≤ result.tiles }
     ensures view { IsView result.frame.now.camera }
     ensures format { IsFormat (format_in result.frame.now) }
     ensures options { AreOptions result.frame.now.options }
@@ -339,6 +356,7 @@ fn shown_in<'a>(scene: &'a Scene, index: usize, limits: Limits) -> Shown<'a>
         frame,
         limits,
         tiles,
+        share,
     }
 }
 
@@ -387,10 +405,10 @@ pub fn render_frame<O: FrameSink>(
     ensures later { O.faults sink.old ≤ O.faults sink.new }
     ensures failed { IsErrOf result WriteFault → Rose (O.faults sink.old) (O.faults sink.new) }
 {
-    let shown = shown_in(scene, frame, limits);
+    let shown = shown_in(scene, frame, limits, Share::Whole);
     sink.begin(name_of(shown.frame))?;
     put_header(alloc, shown.frame, sink)?;
-    draw_tiles(alloc, &shown, shop, report, sink)?;
+    draw_tiles(alloc, &shown, 0, shop, report, sink)?;
     sink.end()?;
     Ok(())
 }

@@ -8,7 +8,7 @@ ghost use Rattle.scene.specs.Scene.{FrameValue};
 ghost use Rattle.buckets.specs.Pictures.{frame_leaves};
 ghost use Rattle.buckets.specs.TileWalk.{bucket_of, tile_grid, tile_rect, tile_count, format_in, picture_rect, fragments_of};
 ghost use Rattle.buckets.specs.Standing.{Begun, IsDrawn};
-ghost use Rattle.buckets.specs.Rows.{IsRowTo, PutsTo, PutsInPart};
+ghost use Rattle.buckets.specs.Rows.{IsRowTo, PutsRowsTo, PutsRowsInPart};
 ghost use Rattle.buckets.specs.declared.limits.DrawFault.TheVariants.{WriteFault};
 
 use crate::limits::DrawFault;
@@ -174,10 +174,10 @@ pub(crate) fn put_row<O: FrameSink>(
     requires at { at < tile_count begun.drawing }
     requires row { IsRowTo begun.drawing at (bucket_of begun.drawing at).right row.now }
     requires open { O.is_open sink.old ≡ true }
-    requires put { PutsTo begun at (O.written sink.old) }
+    requires put { PutsRowsTo begun at (O.written sink.old) }
     ensures open { O.is_open sink.new ≡ true }
-    ensures put { OnOk result (PutsTo begun (at + 1) (O.written sink.new)) }
-    ensures part { OnErr result (PutsInPart begun (O.written sink.new)) }
+    ensures put { OnOk result (PutsRowsTo begun (at + 1) (O.written sink.new)) }
+    ensures part { OnErr result (PutsRowsInPart begun (O.written sink.new)) }
     ensures later { O.faults sink.old ≤ O.faults sink.new }
     ensures failed { IsErrOf result WriteFault → Rose (O.faults sink.old) (O.faults sink.new) }
 {

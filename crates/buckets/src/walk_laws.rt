@@ -1,4 +1,5 @@
-// Laws of the walk through a frame's tiles, as contracts.
+// Laws of the walk through a frame's tiles, and of a frame's parts, as contracts.
+ghost use Rattle.buckets.specs.FrameParts.{TablesMakePictures};
 ghost use Rattle.buckets.specs.TileLaws.{ShadesWhereMet, ShadesOnce, LosesNothing, PassesOverWhole};
 
 /// The law of shadings: no leaf is shaded for a tile that it doesn't meet, and for each that it meets at most once.
@@ -21,4 +22,9 @@ pub fn nothing_lost_law()
 /// would be shown.
 pub fn passed_over_law()
     ensures { PassesOverWhole }
+{}
+
+/// The law of parts: the picture that a frame's table makes is the frame's, so that all of a frame's parts, joined, make its picture.
+pub fn frame_table_law()
+    ensures { TablesMakePictures }
 {}

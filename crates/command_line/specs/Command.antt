@@ -1,5 +1,5 @@
 -- The words of the command, as clap reads them.
-use Rattle.std.specs.Prelude.{ℕ, Bool, List, [], ◌∷◌, codes, Option, Some, None, true, false, ◌&&◌, nat_le, option_and_then, if◌then◌else◌}
+use Rattle.std.specs.Prelude.{ℕ, Bool, List, [], ◌∷◌, codes, Option, Some, None, true, false, ◌&&◌, nat_le, nat_lt, option_and_then, if◌then◌else◌}
 use Rattle.std.specs.List.{list_all}
 use Rattle.std.specs.Str.Parse.{digits_value, without_leading_plus}
 use Rattle.std.specs.Str.{bytes_eq}
@@ -13,7 +13,10 @@ use Rattle.command_line.specs.declared.command.RunOptions.{RunOptions}
 use Rattle.command_line.specs.declared.command.Source as code
 use Rattle.command_line.specs.declared.command.Source.TheVariants as sources
 use Rattle.command_line.specs.declared.command.SceneCommand.{SceneCommand}
-use Rattle.command_line.specs.declared.command.Action.TheVariants.{Render, Check}
+use Rattle.command_line.specs.declared.command.Command as code_command
+use Rattle.command_line.specs.declared.command.Command.TheVariants as commands
+use Rattle.command_line.specs.declared.command.PartOptions.{PartOptions}
+use Rattle.command_line.specs.declared.command.Action.TheVariants.{Render, Check, Part}
 use Rattle.clap.specs.declared.builder.value_parser.ValueParser.TheVariants.{Unsigned}
 
 abbrev pub action_rule : Rule
@@ -31,9 +34,15 @@ grid_points_rule = record (new_rule (codes "grid-points")) { long = Some (codes 
 abbrev pub stats_rule : Rule
 stats_rule = record (new_rule (codes "stats")) { long = Some (codes "stats"); action = Some SetTrue }
 
--- the command: reyes ACTION NAME [--bucket B] [--grid-points G] [--stats]
+abbrev pub part_rule : Rule
+part_rule = record (new_rule (codes "part")) { long = Some (codes "part"); parser = Some (Unsigned 0 255) }
+
+abbrev pub of_rule : Rule
+of_rule = record (new_rule (codes "of")) { long = Some (codes "of"); parser = Some (Unsigned 1 256) }
+
+-- the command: reyes ACTION NAME [--bucket B] [--grid-points G] [--stats] [--part K] [--of N]
 abbrev pub reyes : App
-reyes = with_rule (with_rule (with_rule (with_rule (with_rule (new_app (codes "reyes")) action_rule) name_rule) bucket_rule) grid_points_rule) stats_rule
+reyes = with_rule (with_rule (with_rule (with_rule (with_rule (with_rule (with_rule (new_app (codes "reyes")) action_rule) name_rule) bucket_rule) grid_points_rule) stats_rule) part_rule) of_rule
 
 -- the number that a text writes, where it is one in this range
 abbrev pub number_in : ℕ → ℕ → Text → Option ℕ
@@ -53,19 +62,28 @@ abbrev pub options_for : Option Text → Option Text → Option Text → Option 
 options_for bucket grid_points stats =
     options_with (option_and_then (number_in 4 64) bucket) (option_and_then (number_in 289 1000000) grid_points) (is_set stats)
 
+-- the options that tell of parts, where they are given
+abbrev pub parts_for : Option Text → Option Text → PartOptions
+parts_for part of = record { part = option_and_then (number_in 0 255) part; of = option_and_then (number_in 1 256) of }
+
 -- where a scene comes from: the file of a name, or the demonstration scene with so many patches
 pub data Source : Type 0 where
   File : (name : List ℕ) → Source
   Demo : (count : ℕ) → Source
 
--- what a command asks for: what is to be done, with which scene, and how
-pub record Command : Type 0 where
+-- what is done with a scene, with which one, and how
+pub record SceneTask : Type 0 where
   pub action : Action
   pub source : Source
   pub options : RunOptions
 
+-- what a command asks for: something is done with a scene, or the parts of a picture, so many, are joined
+pub data Command : Type 0 where
+  OnScene : (task : SceneTask) → Command
+  Join : (name : List ℕ) → (count : ℕ) → Command
+
 abbrev pub file_command : Action → Text → RunOptions → Command
-file_command action name options = record { action = action; source = File name; options = options }
+file_command action name options = OnScene (record { action = action; source = File name; options = options })
 
 -- a number of patches is a row of digits
 abbrev pub is_digit : ℕ → Bool
@@ -77,26 +95,58 @@ patches_named text = if list_all is_digit text then number_in 1 1000 text else N
 -- the demonstration scene is drawn, and a note tells what was done
 abbrev pub demo_command : Option ℕ → RunOptions → Option Command
 demo_command None options = None
-demo_command (Some count) options = Some (record { action = Render; source = Demo count; options = record options { stats = true } })
+demo_command (Some count) options = Some (OnScene (record { action = Render; source = Demo count; options = record options { stats = true } }))
 
--- the command of an action
-abbrev pub command_named : Text → Text → RunOptions → Option Command
-command_named action name options =
+-- a part is drawn: it needs its number and how many there are, and the number is below that
+abbrev pub part_of : Text → RunOptions → Option ℕ → Option ℕ → Option Command
+part_of name options (Some part) (Some count) = if nat_lt part count then Some (file_command (Part part count) name options) else None
+part_of name options (Some part) None = None
+part_of name options None count = None
+
+abbrev pub part_command : Text → RunOptions → PartOptions → Option Command
+part_command name options parts = part_of name options parts.part parts.of
+
+-- parts are joined: it needs how many there are, and takes no number of a part
+abbrev pub join_of : Text → Option ℕ → Option ℕ → Option Command
+join_of name None (Some count) = Some (Join name count)
+join_of name None None = None
+join_of name (Some part) count = None
+
+abbrev pub join_command : Text → PartOptions → Option Command
+join_command name parts = join_of name parts.part parts.of
+
+-- the other actions
+abbrev pub scene_command : Text → Text → RunOptions → Option Command
+scene_command action name options =
     if bytes_eq action (codes "render") then Some (file_command Render name options)
     else if bytes_eq action (codes "check") then Some (file_command Check name options)
     else if bytes_eq action (codes "demo") then demo_command (patches_named name) options
     else None
 
-abbrev pub command_for : Option Text → Option Text → Option RunOptions → Option Command
-command_for None name options = None
-command_for (Some action) None options = None
-command_for (Some action) (Some name) None = None
-command_for (Some action) (Some name) (Some options) = command_named action name options
+-- they take no option of parts
+abbrev pub without_parts : Option ℕ → Option ℕ → Option Command → Option Command
+without_parts None None command = command
+without_parts None (Some count) command = None
+without_parts (Some part) count command = None
+
+-- the command of an action
+abbrev pub command_named : Text → Text → RunOptions → PartOptions → Option Command
+command_named action name options parts =
+    if bytes_eq action (codes "part") then part_command name options parts
+    else if bytes_eq action (codes "join") then join_command name parts
+    else without_parts parts.part parts.of (scene_command action name options)
+
+abbrev pub command_for : Option Text → Option Text → Option RunOptions → PartOptions → Option Command
+command_for None name options parts = None
+command_for (Some action) None options parts = None
+command_for (Some action) (Some name) None parts = None
+command_for (Some action) (Some name) (Some options) parts = command_named action name options parts
 
 abbrev pub command_in : List Row → Option Command
 command_in rows =
     command_for (first_of (codes "action") rows) (first_of (codes "name") rows)
     (options_for (first_of (codes "bucket") rows) (first_of (codes "grid-points") rows) (first_of (codes "stats") rows))
+    (parts_for (first_of (codes "part") rows) (first_of (codes "of") rows))
 
 -- the command in some words, where clap finds no fault in them; a call for help is a fault too
 abbrev pub command_of : List Text → Option Command
@@ -107,5 +157,9 @@ abbrev pub source_view : code.Source → Source
 source_view (sources.File name) = File name.now
 source_view (sources.Demo patches) = Demo patches.count
 
-abbrev pub command_view : SceneCommand → Command
-command_view c = record { action = c.action; source = source_view c.source; options = c.options }
+abbrev pub scene_view : SceneCommand → SceneTask
+scene_view c = record { action = c.action; source = source_view c.source; options = c.options }
+
+abbrev pub command_view : code_command.Command → Command
+command_view (commands.Scene c) = OnScene (scene_view c)
+command_view (commands.Join j) = Join j.name.now j.count

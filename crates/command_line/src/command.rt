@@ -1,17 +1,18 @@
 // The words of the command.
-ghost use Rattle.std.specs.Prelude.{◌≡◌, ◌≤◌, false, IfOk, IfSome, option_map, codes};
+ghost use Rattle.std.specs.Prelude.{◌≡◌, ◌≤◌, false, IfOk, IfSome, option_map, option_and_then, codes};
 ghost use Rattle.std.specs.List.{list_all};
 ghost use Rattle.clap.specs.Matches.{found_of, first_value};
 ghost use Rattle.clap.specs.Simple.{app_of};
 ghost use Rattle.clap.specs.Walk.{rule_of};
-ghost use Rattle.command_line.specs.Command.{reyes, action_rule, name_rule, bucket_rule, grid_points_rule, stats_rule, number_in, is_set, is_digit, patches_named, demo_command, file_command, options_for, command_named, command_for, command_of, command_view};
-ghost use Rattle.command_line.specs.Ranges.{LieInRanges};
+ghost use Rattle.command_line.specs.Command.{reyes, action_rule, name_rule, bucket_rule, grid_points_rule, stats_rule, part_rule, of_rule, number_in, is_set, is_digit, patches_named};
+ghost use Rattle.command_line.specs.Command.{demo_command, file_command, part_command, join_command, scene_command, options_for, parts_for, command_named, command_for, command_of, command_view, scene_view};
+ghost use Rattle.command_line.specs.Ranges.{LieInRanges, IsInRange, IsInParts};
 ghost use Rattle.command_line.specs.Texts.{texts};
 
 use crate::patch_count::PatchCount;
 use clap::builder::ValueParser;
 use clap::error::ErrorKind;
-use clap::{Arg, ArgAction, ArgMatches, Command};
+use clap::{Arg, ArgAction, ArgMatches};
 use fixed_math::NoMemory;
 use std::alloc::{AllocError, Global};
 
@@ -22,6 +23,8 @@ pub enum Action {
     Render,
     /// It is read to its end, and nothing is written.
     Check,
+    /// A part of each of its frames is drawn: of so many parts the one of that number, from 0. It is below the count, which is at most 256.
+    Part { part: u32, count: u32 },
 }
 
 /// The options of a command.
@@ -44,12 +47,39 @@ pub enum Source<'a> {
     Demo(PatchCount),
 }
 
-/// What a command asks for.
+/// What is done with a scene.
 #[derive(Drop)]
 pub struct SceneCommand<'a> {
     pub action: Action,
     pub source: Source<'a>,
     pub options: RunOptions,
+}
+
+/// Parts that are joined.
+#[derive(Clone, Copy)]
+pub struct JoinCommand<'a> {
+    /// The name of the picture.
+    pub name: &'a str,
+    /// How many parts there are, 1 to 256.
+    pub count: u32,
+}
+
+/// What a command asks for.
+#[derive(Drop)]
+pub enum Command<'a> {
+    /// Something is done with a scene.
+    Scene(SceneCommand<'a>),
+    /// Parts are joined.
+    Join(JoinCommand<'a>),
+}
+
+/// The options that tell of parts, where they are given.
+#[derive(Clone, Copy)]
+struct PartOptions {
+    /// The number of a part, 0 to 255.
+    part: Option<u32>,
+    /// How many parts there are, 1 to 256.
+    of: Option<u32>,
 }
 
 fn action_arg<'a>(alloc: Global) -> Arg<'a>
@@ -97,16 +127,38 @@ fn stats_arg<'a>(alloc: Global) -> Arg<'a>
         .action(ArgAction::SetTrue)
 }
 
-// The command `reyes ACTION NAME [--bucket B] [--grid-points G] [--stats]`.
-fn command<'a>(alloc: Global) -> Result<Command<'a>, AllocError>
+// The number of a part.
+fn part_arg<'a>(alloc: Global) -> Arg<'a>
+    ensures rule { rule_of result ≡ part_rule }
+    ensures local { result.global ≡ false }
+{
+    Arg::new(alloc, "part")
+        .long("part")
+        .value_parser(ValueParser::Unsigned(0, 255))
+}
+
+// How many parts there are.
+fn of_arg<'a>(alloc: Global) -> Arg<'a>
+    ensures rule { rule_of result ≡ of_rule }
+    ensures local { result.global ≡ false }
+{
+    Arg::new(alloc, "of")
+        .long("of")
+        .value_parser(ValueParser::Unsigned(1, 256))
+}
+
+// The command `reyes ACTION NAME [--bucket B] [--grid-points G] [--stats] [--part K] [--of N]`.
+fn parser<'a>(alloc: Global) -> Result<clap::Command<'a>, AllocError>
     ensures { IfOk result (λ c. app_of c ≡ reyes) }
 {
-    Command::new(alloc, "reyes")
+    clap::Command::new(alloc, "reyes")
         .arg(action_arg(alloc))?
         .arg(name_arg(alloc))?
         .arg(bucket_arg(alloc))?
         .arg(grid_points_arg(alloc))?
-        .arg(stats_arg(alloc))
+        .arg(stats_arg(alloc))?
+        .arg(part_arg(alloc))?
+        .arg(of_arg(alloc))
 }
 
 // The number that a text writes, where it is one in this range.
@@ -118,6 +170,14 @@ fn number_in(low: u32, high: u32, text: &str) -> Option<u32>
         Ok(number) if low <= number && number <= high => Some(number),
         _ => None,
     }
+}
+
+// The number that a text writes, where there is one.
+fn number_given(low: u32, high: u32, text: Option<&str>) -> Option<u32>
+    ensures number { result ≡ option_and_then (number_in low high) (option_map (λ t. t.now) text.entry) }
+    ensures within { IfSome result (λ n. (low ≤ n) × (n ≤ high)) }
+{
+    number_in(low, high, text?)
 }
 
 fn is_set(text: Option<&str>) -> bool
@@ -139,6 +199,17 @@ fn options_found(matches: &ArgMatches<'_>) -> Option<RunOptions>
         grid_points: number_in(289, 1000000, matches.get_str("grid-points")?)?,
         stats: is_set(matches.get_str("stats")),
     })
+}
+
+// The options of parts among the words that clap found.
+fn parts_found(matches: &ArgMatches<'_>) -> PartOptions
+    ensures options { result ≡ parts_for (first_value (found_of matches.now) (codes "part")) (first_value (found_of matches.now) (codes "of")) }
+    ensures ranges { IsInParts result }
+{
+    PartOptions {
+        part: number_given(0, 255, matches.get_str("part")),
+        of: number_given(1, 256, matches.get_str("of")),
+    }
 }
 
 fn is_digit(byte: u8) -> bool
@@ -165,40 +236,65 @@ fn patches_named(name: &str) -> Option<PatchCount>
 }
 
 // The command for the demonstration scene, of which a note tells what was done.
-fn demo_command<'a>(name: &str, options: RunOptions) -> Option<SceneCommand<'a>>
+fn demo_command<'a>(name: &str, options: RunOptions) -> Option<Command<'a>>
     requires { LieInRanges options }
     ensures command { option_map command_view result ≡ demo_command (patches_named name.now) options }
-    ensures ranges { IfSome result (λ c. LieInRanges c.options) }
+    ensures ranges { IfSome result (λ c. IsInRange (command_view c)) }
 {
     let patches = patches_named(name)?;
-    Some(SceneCommand {
+    Some(Command::Scene(SceneCommand {
         action: Action::Render,
         source: Source::Demo(patches),
         options: RunOptions {
             stats: true,
             ..options
         },
-    })
+    }))
 }
 
 // The command for a scene in a file.
-fn file_command(action: Action, name: &str, options: RunOptions) -> SceneCommand<'_>
-    requires { LieInRanges options }
-    ensures command { command_view result ≡ file_command action name.now options }
-    ensures ranges { LieInRanges result.options }
+fn file_command(action: Action, name: &str, options: RunOptions) -> Command<'_>
+    ensures { command_view result ≡ file_command action name.now options }
 {
-    SceneCommand {
+    Command::Scene(SceneCommand {
         action,
         source: Source::File(name),
         options,
+    })
+}
+
+// The command that draws a part of each frame.
+fn part_command<'a>(name: &'a str, options: RunOptions, parts: PartOptions) -> Option<Command<'a>>
+    requires ranges { LieInRanges options }
+    requires parts { IsInParts parts }
+    ensures command { option_map command_view result ≡ part_command name.now options parts }
+    ensures ranges { IfSome result (λ c. IsInRange (command_view c)) }
+{
+    let (part, count) = (parts.part?, parts.of?);
+    if part < count {
+        Some(file_command(Action::Part { part, count }, name, options))
+    } else {
+        None
     }
 }
 
-// The command of that action, where there is such an action.
-fn command_named<'a>(action: &str, name: &'a str, options: RunOptions) -> Option<SceneCommand<'a>>
+// The command that joins parts.
+fn join_command<'a>(name: &'a str, parts: PartOptions) -> Option<Command<'a>>
+    requires { IsInParts parts }
+    ensures command { option_map command_view result ≡ join_command name.now parts }
+    ensures ranges { IfSome result (λ c. IsInRange (command_view c)) }
+{
+    match (parts.part, parts.of) {
+        (None, Some(count)) => Some(Command::Join(JoinCommand { name, count })),
+        _ => None,
+    }
+}
+
+// The command of an action that knows nothing of parts, where there is such an action.
+fn scene_command<'a>(action: &str, name: &'a str, options: RunOptions) -> Option<Command<'a>>
     requires { LieInRanges options }
-    ensures command { option_map command_view result ≡ command_named action.now name.now options }
-    ensures ranges { IfSome result (λ c. LieInRanges c.options) }
+    ensures command { option_map command_view result ≡ scene_command action.now name.now options }
+    ensures ranges { IfSome result (λ c. IsInRange (command_view c)) }
 {
     if action == "render" {
         Some(file_command(Action::Render, name, options))
@@ -211,30 +307,52 @@ fn command_named<'a>(action: &str, name: &'a str, options: RunOptions) -> Option
     }
 }
 
+// The command of that action, where there is such an action.
+fn command_named<'a>(
+    action: &str,
+    name: &'a str,
+    options: RunOptions,
+    parts: PartOptions,
+) -> Option<Command<'a>>
+    requires ranges { LieInRanges options }
+    requires parts { IsInParts parts }
+    ensures command { option_map command_view result ≡ command_named action.now name.now options parts }
+    ensures ranges { IfSome result (λ c. IsInRange (command_view c)) }
+{
+    if action == "part" {
+        part_command(name, options, parts)
+    } else if action == "join" {
+        join_command(name, parts)
+    } else {
+        match (parts.part, parts.of) {
+            (None, None) => scene_command(action, name, options),
+            _ => None,
+        }
+    }
+}
+
 // The command among the words that clap found.
-fn command_found<'a>(matches: &ArgMatches<'a>) -> Option<SceneCommand<'a>>
+fn command_found<'a>(matches: &ArgMatches<'a>) -> Option<Command<'a>>
     ensures command { option_map command_view result ≡ command_for (first_value (found_of matches.now) (codes "action")) (first_value (found_of matches.now) (codes "name"))
-        (options_for (first_value (found_of matches.now) (codes "bucket")) (first_value (found_of matches.now) (codes "grid-points")) (first_value (found_of matches.now) (codes "stats"))) }
-    ensures ranges { IfSome result (λ c. LieInRanges c.options) }
+        (options_for (first_value (found_of matches.now) (codes "bucket")) (first_value (found_of matches.now) (codes "grid-points")) (first_value (found_of matches.now) (codes "stats")))
+        (parts_for (first_value (found_of matches.now) (codes "part")) (first_value (found_of matches.now) (codes "of"))) }
+    ensures ranges { IfSome result (λ c. IsInRange (command_view c)) }
 {
     let action = matches.get_str("action")?;
     let name = matches.get_str("name")?;
     let options = options_found(matches)?;
-    command_named(action, name, options)
+    command_named(action, name, options, parts_found(matches))
 }
 
-/// What a command asks for, where its words are in order; its options lie in their ranges.
-pub fn scene_command<'a>(
-    alloc: Global,
-    words: &'a [&'a str],
-) -> Result<Option<SceneCommand<'a>>, NoMemory>
+/// What the words ask for, where they are in order; what they choose lies in its ranges.
+pub fn command_in<'a>(alloc: Global, words: &'a [&'a str]) -> Result<Option<Command<'a>>, NoMemory>
     ensures command { IfOk result (λ c. option_map command_view c ≡ command_of (texts words.now)) }
-    ensures ranges { IfOk result (λ c. IfSome c (λ c. LieInRanges c.options)) }
+    ensures ranges { IfOk result (λ c. IfSome c (λ c. IsInRange (command_view c))) }
 {
-    let Ok(command) = command(alloc) else {
+    let Ok(parser) = parser(alloc) else {
         return Err(NoMemory);
     };
-    match command.try_get_matches_from(words) {
+    match parser.try_get_matches_from(words) {
         Ok(matches) => Ok(command_found(&matches)),
         Err(error) if error.kind() == ErrorKind::OutOfMemory => Err(NoMemory),
         Err(_) => Ok(None),

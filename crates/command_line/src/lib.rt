@@ -4,5 +4,5 @@
 mod command;
 mod patch_count;
 
-pub use command::{Action, RunOptions, SceneCommand, Source, scene_command};
+pub use command::{Action, Command, JoinCommand, RunOptions, SceneCommand, Source, command_in};
 pub use patch_count::PatchCount;

@@ -4,7 +4,7 @@ use Rattle.outside.specs.Library.{Files}
 use Rattle.outside.specs.Sink.{Written}
 use Rattle.outside.specs.Frames.{IsFront}
 use Rattle.render.specs.Run.{HasStatus, AddsFrames, AddsFirstFrames}
-use Rattle.render.specs.Verdict.{verdict, pictures_of}
+use Rattle.render.specs.Verdict.{pictures_of}
 use Rattle.conformance.specs.Answer.{answer_text, Answers}
 
 -- what is added to an empty sink is all that it holds
@@ -24,7 +24,7 @@ answer_is name words files status notes text old new none written judged done fr
   frames = new;
   written = written;
   judged = judged;
-  done = λ z. all_added old new _ none (done z);
-  front = subst (λ ws. IsFront (pictures_of (verdict words files)) ws) (sym (all_added old new front.added none front.adds)) front.front;
+  done = λ z. (let d = done z in (d.0, d.1, all_added old new _ none d.2));
+  front = λ v is. (let f = front v is in subst (λ ws. IsFront (pictures_of v) ws) (sym (all_added old new f.added none f.adds)) f.front);
   before = λ low high. same_entries old new none (before low high);
 }

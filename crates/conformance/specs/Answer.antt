@@ -7,7 +7,7 @@ use Rattle.outside.specs.Library.{Files}
 use Rattle.outside.specs.Sink.{Written}
 use Rattle.outside.specs.Frames.{whole, IsFront}
 use Rattle.render.specs.Run.{HasStatus}
-use Rattle.render.specs.Verdict.{verdict, pictures_of}
+use Rattle.render.specs.Verdict.{Verdict, IsVerdictOf, HasVerdict, pictures_of}
 
 -- whether a frame has ended, as a word
 abbrev pub state_of : Bool → List ℕ
@@ -27,13 +27,13 @@ abbrev pub answer_text : List ℕ → ℕ → List ℕ → List Written → List
 answer_text name status notes frames = head_text name status notes ++ (flat_map entry_line frames ++ codes "end\n")
 
 -- the answer to a case of this name with these words and files: its status, the bytes of its notes, and the frames of its sink, which are those
--- of the verdict's scene, all of them or some first ones
+-- of the verdict, all of them or some first ones
 pub record Answers (name : List ℕ) (words : List (List ℕ)) (files : Files) (text : List ℕ) : Type 0 where
   pub status : ℕ
   pub notes : List ℕ
   pub frames : List Written
   pub written : text ≡ answer_text name status notes frames
   pub judged : status ≤ 6 → HasStatus words files status
-  pub done : status ≡ 0 → frames ≡ map whole (pictures_of (verdict words files))
-  pub front : IsFront (pictures_of (verdict words files)) frames
+  pub done : status ≡ 0 → HasVerdict words files (λ v. frames ≡ map whole (pictures_of v))
+  pub front : (v : Verdict) → IsVerdictOf words files v → IsFront (pictures_of v) frames
   pub before : 2 ≤ status → status ≤ 7 → frames ≡ []

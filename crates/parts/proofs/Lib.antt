@@ -1,7 +1,7 @@
 mod Words
 mod Headers
 mod Squares
-mod Bucketry
+pub mod Bucketry
 mod Runs
 mod Places
 mod Standing

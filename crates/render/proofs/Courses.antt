@@ -1,5 +1,5 @@
 -- How a run goes, frame by frame and line by line.
-use Rattle.std.proofs.Common.{◌≡◌, refl, sym, ap, ◌∙◌, subst, ℕ, zero, suc, ◌+◌, ◌<◌, ◌≤◌, ◌⊎◌, inl, inr, List, [], ◌∷◌, ◌++◌, length, map, take, drop, get_or, Option, Some, None, Result, Ok, Err, arith}
+use Rattle.std.proofs.Common.{◌≡◌, refl, sym, ap, ◌∙◌, subst, ℕ, zero, suc, ◌+◌, ◌<◌, ◌≤◌, inl, inr, List, [], ◌∷◌, ◌++◌, length, map, take, drop, get_or, Option, Some, None, Result, Ok, Err, arith}
 use Rattle.std.specs.Prelude.{filter_map, IfErr, IsErrAnd}
 use Rattle.std.proofs.lemmas.List.Elements.{filter_map-append}
 use Rattle.buckets.specs.declared.limits.DrawFault.{DrawFault}
@@ -30,11 +30,23 @@ ends-all ps x y h = record {
   begun = begun-none (drop (length ps) ps);
 }
 
+-- all that were ended, and no more
+pub whole-ends : (n : ℕ) (ps : List Picture) (x y : Option (List Written)) → n ≡ length ps → Ends n ps x y → Adds (map whole ps) x y
+whole-ends n ps x y is e =
+    let none : e.rest ≡ [] = begun-last n ps e.rest is e.begun in
+    subst (λ ws. Adds ws x y) (ap (λ rest. map whole (take n ps) ++ rest) none ∙ append-nil (map whole (take n ps)) ∙ ap (λ qs. map whole qs) (take_all n ps (omega (arith, is)))) e.adds
+  where
+    begun-last : (n : ℕ) (ps : List Picture) (rest : List Written) → n ≡ length ps → IsBegun (drop n ps) rest → rest ≡ []
+    begun-last zero [] rest is begun = begun
+    begun-last zero (p ∷ ps) rest is begun = absurd (omega (arith, is))
+    begun-last (suc n) [] rest is begun = absurd (omega (arith, is))
+    begun-last (suc n) (p ∷ ps) rest is begun = begun-last n ps rest (omega (arith, is)) begun
+
 -- a part of one frame, or all of it
-ends-part : (p : Picture) (x y : Option (List Written)) → AddsPart p x y → Ends 0 (p ∷ []) x y
+pub ends-part : (p : Picture) (x y : Option (List Written)) → AddsPart p x y → Ends 0 (p ∷ []) x y
 ends-part p x y h = record { few = omega arith; rest = h.added; adds = h.adds; begun = h.part }
 
-ends-one : (p : Picture) (x y : Option (List Written)) → Adds (whole p ∷ []) x y → Ends 1 (p ∷ []) x y
+pub ends-one : (p : Picture) (x y : Option (List Written)) → Adds (whole p ∷ []) x y → Ends 1 (p ∷ []) x y
 ends-one p x y h = record { few = omega arith; rest = []; adds = h; begun = refl }
 
 begun-at : {A : Type 0} (picture_of : A → Picture) (fs : List A) (i : ℕ) (f : A) (rest : List Written) → i < length fs → f ≡ get_or fs i f → IsPart rest (picture_of f)

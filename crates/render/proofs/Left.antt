@@ -1,30 +1,33 @@
 -- What every answer leaves in the sink.
-use Rattle.std.proofs.Common.{◌≡◌, sym, subst, ℕ, List, Option, Some, None}
+use Rattle.std.proofs.Common.{◌≡◌, ap, subst, ℕ, zero, suc, ⊎_elim, arith, List, [], Option, Some, None}
 use Rattle.outside.specs.Causes.{Told}
 use Rattle.outside.specs.Library.{Files}
 use Rattle.outside.specs.Sink.{Written}
-use Rattle.outside.specs.Frames.{Picture, AddsFront}
-use Rattle.outside.proofs.Entries.{adds_front-none, adds_front-whole}
-use Rattle.render.specs.Verdict.{Verdict, pictures_of}
-use Rattle.render.specs.Answers.{Agrees, ComesBefore}
+use Rattle.outside.specs.Frames.{Picture, Adds, AddsFront}
+use Rattle.outside.proofs.Entries.{front-none}
+use Rattle.command_line.specs.Command.{Command, OnScene, Join}
+use Rattle.render.specs.Verdict.{Verdict, IsVerdict, IsNone, pictures_of}
+use Rattle.render.specs.Course.{Ends}
+use Rattle.render.specs.Answers.{Fails, Obeys}
 use Rattle.render.specs.declared.program.Answer.{Answer}
-use Rattle.render.specs.declared.program.Answer.TheVariants.{Done, Usage, NoScene, Refused, WriteFault, NoMemory}
+use Rattle.render.proofs.Courses.{front-ends}
+use Rattle.render.proofs.Verdicts.{same_pictures}
 
-nothing_new : (ps : List Picture) (old new : Option (List Written)) → new ≡ old → AddsFront ps old new
-nothing_new ps old new same = subst (λ n. AddsFront ps old n) (sym same) (adds_front-none ps old)
+-- where nothing is to be written, nothing was added
+nothing : (n : ℕ) (qs : List Picture) (x y : Option (List Written)) → Ends n [] x y → AddsFront qs x y
+nothing zero qs x y e = record { added = []; adds = subst (λ ws. Adds ws x y) e.begun e.adds; front = front-none qs }
+nothing (suc n) qs x y e = absurd (let few = e.few in omega (arith, few))
 
-leaves : (name : List ℕ) (a : Answer) (v : Verdict) (old new : Option (List Written)) → Agrees name a v old new → (ComesBefore a → new ≡ old) → AddsFront (pictures_of v) old new
-leaves name Done v old new agrees before = adds_front-whole (pictures_of v) old new agrees.1
-leaves name WriteFault v old new agrees before = agrees.1
-leaves name NoMemory v old new agrees before = agrees
-leaves name Usage v old new agrees before = nothing_new (pictures_of v) old new (before tt)
-leaves name NoScene v old new agrees before = nothing_new (pictures_of v) old new (before tt)
-leaves name (Refused r) v old new agrees before = nothing_new (pictures_of v) old new (before tt)
+none_entries : (command : Option Command) (v : Verdict) → IsNone command v → pictures_of v ≡ []
+none_entries None v none = absurd none
+none_entries (Some (OnScene t)) v none = absurd none
+none_entries (Some (Join name count)) v none = ap pictures_of none
 
-pub leaves-told : (held : Option Files) (v : Files → Verdict) (name : List ℕ) (a : Answer) (old new : Option (List Written)) → Told held (λ files. Agrees name a (v files) old new) → (ComesBefore a → new ≡ old) → Told held (λ files. AddsFront (pictures_of (v files)) old new)
-leaves-told None v name a old new agrees before = tt
-leaves-told (Some files) v name a old new agrees before = leaves name a (v files) old new agrees before
-
-pub nothing_left : (held : Option Files) (v : Files → Verdict) (old : Option (List Written)) → Told held (λ files. AddsFront (pictures_of (v files)) old old)
-nothing_left None v old = tt
-nothing_left (Some files) v old = adds_front-none (pictures_of (v files)) old
+pub leaves-told : (command : Option Command) (held : Option Files) (a : Answer) (x y : Option (List Written)) (lines lines_then : Option (List (List ℕ))) (m n : ℕ)
+    → Obeys command held a x y lines lines_then m n → Told held (λ files. (v : Verdict) → IsVerdict command files v → AddsFront (pictures_of v) x y)
+leaves-told command None a x y lines lines_then m n o = tt
+leaves-told command (Some files) a x y lines lines_then m n o = λ v is.
+    ⊎_elim
+    (λ (known : IsVerdict command files o.verdict). subst (λ ps. AddsFront ps x y) (same_pictures command files o.verdict v known is) (front-ends o.ended (pictures_of o.verdict) x y o.ends))
+    (λ (none : IsNone command o.verdict × Fails a). nothing o.ended (pictures_of v) x y (subst (λ ps. Ends o.ended ps x y) (none_entries command o.verdict none.0) o.ends))
+    o.known

@@ -1,8 +1,10 @@
 pub mod Writing
-pub mod Left
+pub mod Verdicts
 pub mod Completing
 pub mod StockFlat
 pub mod Fetched
 pub mod Loading
 pub mod Courses
+pub mod Left
 pub mod Obeying
+pub mod Parting

@@ -6,7 +6,7 @@ use Rattle.outside.specs.Sink.{Written}
 use Rattle.outside.specs.Frames.{Picture, whole, Adds, IsPart}
 use Rattle.outside.specs.NoteLines.{Says}
 use Rattle.command_line.specs.Command.{command_of}
-use Rattle.render.specs.Verdict.{Verdict, verdict, status_of, pictures_of}
+use Rattle.render.specs.Verdict.{Verdict, IsVerdict, IsNone, status_of, pictures_of}
 use Rattle.render.specs.Run.{is_accepted}
 use Rattle.render.specs.Lines.{summaries_of, scene_of, status_lines}
 
@@ -22,11 +22,12 @@ pub record Ends (ended : ℕ) (pictures : List Picture) (old new : Option (List 
   pub adds : Adds (map whole (take ended pictures) ++ rest) old new
   pub begun : IsBegun (drop ended pictures) rest
 
--- The course of a run that answers `status`: its verdict is that of the files held, wherever the library tells them. The lines said
+-- The course of a run that answers `status`: its verdict is that of the files held, wherever the library tells them; on parts there may be none where
+-- the library failed or memory ran out, and then nothing is written. The lines said
 -- are the summaries of the frames ended and the line of the status; of the last frame ended none where memory ran out behind it.
 pub record Course (words : List (List ℕ)) (held : Option Files) (status : ℕ) (old new : Option (List Written)) (lines lines_then : Option (List (List ℕ))) (faults faults_then : ℕ) : Type 0 where
   pub verdict_of_run : Verdict
-  pub known : Told held (λ files. verdict_of_run ≡ verdict words files)
+  pub known : Told held (λ files. IsVerdict (command_of words) files verdict_of_run ⊎ (IsNone (command_of words) verdict_of_run × ((status ≡ 7) ⊎ (status ≡ 9))))
   pub answers : status ≤ 6 → status_of verdict_of_run ≡ status
   pub accepted : status ≡ 8 → is_accepted verdict_of_run ≡ true
   pub ended : ℕ

@@ -1,5 +1,6 @@
-pub mod Notes
 pub mod Pictures
+pub mod Parts
+pub mod Notes
 pub mod Summary
 pub mod Verdict
 pub mod Stocked

@@ -3,30 +3,33 @@ use Rattle.std.specs.Prelude.{ℕ, nat_lt, List, [], ◌∷◌, take, filter_map
 use Rattle.shader_binding.specs.Sets.{AcceptedValue}
 use Rattle.command_line.specs.declared.command.RunOptions.{RunOptions}
 use Rattle.command_line.specs.declared.command.Action.TheVariants.{Render}
-use Rattle.command_line.specs.Command.{Command}
-use Rattle.render.specs.Notes.{scene_name, note_of}
+use Rattle.command_line.specs.Command.{Command, OnScene, Join}
+use Rattle.render.specs.Notes.{scene_name, note_of, join_note}
 use Rattle.render.specs.Summary.{summary_of}
-use Rattle.render.specs.Verdict.{Verdict, Usage, Refused, Accepted}
+use Rattle.render.specs.Verdict.{Verdict, Usage, Refused, Unjoined, Accepted, Entries}
 
 -- the summaries of the first frames of an accepted scene, where they are wanted
 abbrev pub first_summaries : RunOptions → AcceptedValue → ℕ → List (List ℕ)
 first_summaries o a told = filter_map (summary_of o a) (take told a.scene.frames)
 
--- those of a command whose verdict this is; frames that aren't drawn have none
+-- those of a command whose verdict this is; frames that aren't drawn whole have none
 abbrev pub summaries_of : Option Command → Verdict → ℕ → List (List ℕ)
-summaries_of (Some c) (Accepted Render a) told = first_summaries c.options a told
+summaries_of (Some (OnScene t)) (Accepted Render a) told = first_summaries t.options a told
 summaries_of _ _ told = []
 
--- the name of a command's scene
+-- the name of a command's scene, or of the picture whose parts it joins
 abbrev pub scene_of : Option Command → List ℕ
 scene_of None = []
-scene_of (Some c) = scene_name c.source
+scene_of (Some (OnScene t)) = scene_name t.source
+scene_of (Some (Join name count)) = name
 
 -- the line that tells why a command is refused
 abbrev pub refusal_lines : List ℕ → Verdict → List (List ℕ)
 refusal_lines scene Usage = codes "usage\n" ∷ []
 refusal_lines scene (Refused cause) = note_of scene cause ∷ []
+refusal_lines scene (Unjoined cause) = join_note scene cause ∷ []
 refusal_lines scene (Accepted action accepted) = []
+refusal_lines scene (Entries entries) = []
 
 -- the line that tells what failed
 abbrev pub failure_lines : ℕ → List (List ℕ)

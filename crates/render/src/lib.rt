@@ -4,8 +4,10 @@
 mod accepted;
 mod laws;
 mod load;
+mod part_task;
 mod program;
 mod write;
+mod write_parts;
 
 pub use acceptance::{FaultCode, FileId, Refusal};
 pub use accepted::{Accepted, accept};

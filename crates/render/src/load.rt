@@ -3,11 +3,11 @@ ghost use Rattle.std.specs.Prelude.{◌≡◌, ◌≤◌, ◌∷◌, [], IsErrOf
 ghost use Rattle.outside.specs.Causes.{Rose, Told};
 ghost use Rattle.outside.specs.Library.{Files, held_as};
 ghost use Rattle.outside.specs.Asked.{AsksAll, AsksFront};
-ghost use Rattle.render.specs.Verdict.{text_of_held, text_of_source, names_of_source, verdict_of_command, asked_for_command};
+ghost use Rattle.render.specs.Verdict.{text_of_held, text_of_source, names_of_source, verdict_of_scene, asked_for_command};
 ghost use Rattle.shader_binding.specs.Sets.{Fits};
 ghost use Rattle.acceptance.specs.PrimFit.{FitPrims};
 ghost use Rattle.displace_shade.specs.Shop.{set_value};
-ghost use Rattle.command_line.specs.Command.{source_view, command_view};
+ghost use Rattle.command_line.specs.Command.{source_view, scene_view, OnScene};
 ghost use Rattle.render.specs.Notes.{scene_name};
 ghost use Rattle.render.specs.Answers.{GivesText, LoadsNamed};
 ghost use Rattle.acceptance.specs.declared.refusal.Refusal.TheVariants.{ReadFault};
@@ -66,23 +66,33 @@ fn scene_text<L: Library>(
     }
 }
 
+/// A scene's text, and the scene with its shaders.
+#[derive(Drop)]
+pub(crate) struct Loaded {
+    pub(crate) text: Vec<u8>,
+    pub(crate) accepted: Accepted,
+}
+
 /// The scene of a command with its shaders, where all is right; none where the library lacks it.
 pub(crate) fn load<L: Library>(
     alloc: Global,
     library: &mut L,
     command: &SceneCommand<'_>,
-) -> Result<Option<Accepted>, Refusal>
+) -> Result<Option<Loaded>, Refusal>
     ensures held { L.held library.new ≡ L.held library.old }
-    ensures asked { Told (L.held library.old) (λ files. AsksFront (asked_for_command (Some (command_view command.now)) files) (L.asked library.old) (L.asked library.new)) }
-    ensures loads { Told (L.held library.old) (λ files. LoadsNamed (scene_name (source_view command.now.source)) command.now.action result (verdict_of_command (Some (command_view command.now)) files)) }
-    ensures fits { IfOk result (λ o. IfSome o (λ a. Fits (set_value a.set) a.scene.uses)) }
-    ensures variables { IfOk result (λ o. IfSome o (λ a. FitPrims (set_value a.set) a.scene.uses a.scene.frames)) }
-    ensures few { IfOk result (λ o. IfSome o (λ a. length a.scene.frames ≤ 1000)) }
+    ensures asked { Told (L.held library.old) (λ files. AsksFront (asked_for_command (Some (OnScene (scene_view command.now))) files) (L.asked library.old) (L.asked library.new)) }
+    ensures loads { Told (L.held library.old) (λ files. LoadsNamed (scene_name (source_view command.now.source)) (scene_view command.now) result (verdict_of_scene (scene_view command.now) files)) }
+    ensures fits { IfOk result (λ o. IfSome o (λ l. Fits (set_value l.accepted.set) l.accepted.scene.uses)) }
+    ensures variables { IfOk result (λ o. IfSome o (λ l. FitPrims (set_value l.accepted.set) l.accepted.scene.uses l.accepted.scene.frames)) }
+    ensures few { IfOk result (λ o. IfSome o (λ l. length l.accepted.scene.frames ≤ 1000)) }
     ensures later { L.faults library.old ≤ L.faults library.new }
     ensures read { IsErrOf result ReadFault → Rose (L.faults library.old) (L.faults library.new) }
 {
     match scene_text(alloc, library, &command.source)? {
         None => Ok(None),
-        Some(text) => Ok(Some(accept(alloc, &text, library)?)),
+        Some(text) => {
+            let accepted = accept(alloc, &text, library)?;
+            Ok(Some(Loaded { text, accepted }))
+        }
     }
 }

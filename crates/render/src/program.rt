@@ -1,27 +1,29 @@
 // The whole program, as one call.
-ghost use Rattle.std.specs.Prelude.{◌≡◌, ◌≢◌, ◌≤◌, ◌⊎◌, true, false, Some, IfOk, OnOk, OnErr, option_map, string_bytes};
+ghost use Rattle.std.specs.Prelude.{◌≡◌, ◌≢◌, ◌≤◌, ◌⊎◌, ◌++◌, codes, ℕ, List, Option, true, false, Some, IfOk, OnOk, OnErr, option_map, string_bytes};
 ghost use Rattle.outside.specs.Causes.{Rose, Told};
 ghost use Rattle.outside.specs.Asked.{AsksFront};
-ghost use Rattle.command_line.specs.Ranges.{LieInRanges};
+ghost use Rattle.command_line.specs.Ranges.{IsInRange};
 ghost use Rattle.command_line.specs.Texts.{texts};
-ghost use Rattle.render.specs.Run.{IsUsage, draws, draws_action, IsAccepted, HasStatus, AnswersVerdict, IsRefused, AddsFrames, AddsFirstFrames, AsksFirstNames};
-ghost use Rattle.command_line.specs.Command.{source_view, command_of, command_view};
-ghost use Rattle.render.specs.Verdict.{verdict, verdict_of_command, asked_for_command};
+ghost use Rattle.render.specs.Run.{IsUsage, draws, draws_action, draws_command, IsAccepted, HasStatus, AnswersVerdict, IsRefused, AddsFrames, AddsFirstFrames, AsksFirstNames};
+ghost use Rattle.command_line.specs.Command.{OnScene, Join, command_of, command_view, scene_view};
+ghost use Rattle.render.specs.Verdict.{asked_for_command};
 ghost use Rattle.outside.specs.NoteLines.{Says};
-ghost use Rattle.render.specs.Notes.{scene_name, name_in_notes, fault_line};
-ghost use Rattle.render.specs.Answers.{Agrees, ComesBefore, Obeys, IsFaultAt, number_of, answer_lines, lines_in, note_lines};
+ghost use Rattle.render.specs.Notes.{name_in_notes, fault_line, join_note};
+ghost use Rattle.render.specs.Answers.{ComesBefore, Obeys, IsFaultAt, number_of, answer_lines, lines_in, note_lines};
 ghost use Rattle.render.specs.Lines.{scene_of};
 ghost use Rattle.render.specs.Course.{Course};
 ghost use Rattle.render.specs.declared.program.Answer.TheVariants.{Usage, Refused, WriteFault, NoMemory as OutOfMemory};
 ghost use Rattle.acceptance.specs.declared.refusal.Refusal.TheVariants.{ReadFault};
 
-use crate::load::load;
+use crate::load::{Loaded, load};
 use crate::write::write_pictures;
+use crate::write_parts::write_parts;
 use acceptance::{FileId, Refusal};
 use buckets::DrawFault;
-use command_line::{Action, SceneCommand, Source, scene_command};
+use command_line::{Action, Command, JoinCommand, SceneCommand, Source, command_in};
 use fixed_math::NoMemory;
 use outside::{FrameSink, Library, Notes, say_line};
+use part_files::{JoinCause, JoinStop, joined_parts, part_name, put_picture};
 use std::alloc::Global;
 
 // What a command comes to.
@@ -32,12 +34,14 @@ enum Answer {
     /// The library lacks the scene.
     NoScene,
     Refused(Refusal),
+    /// Parts aren't joined.
+    Unjoined(JoinCause),
     WriteFault,
     /// Memory ran out, maybe behind some first frames.
     NoMemory,
 }
 
-// Carries out a command.
+// Carries out a command on a scene.
 fn obeyed<L: Library, O: FrameSink, N: Notes>(
     alloc: Global,
     command: &SceneCommand<'_>,
@@ -46,14 +50,107 @@ fn obeyed<L: Library, O: FrameSink, N: Notes>(
     notes: &mut N,
 ) -> Answer
     requires closed { O.is_open frames.old ≡ false }
-    requires ranges { LieInRanges command.now.options }
+    requires ranges { IsInRange (OnScene (scene_view command.now)) }
     ensures command { result ≢ Usage }
-    ensures verdict { Told (L.held library.old) (λ files. Agrees (scene_name (source_view command.now.source)) result (verdict_of_command (Some (command_view command.now)) files) (O.written frames.old) (O.written frames.new)) }
     ensures before { ComesBefore result → O.written frames.new ≡ O.written frames.old }
     ensures closed { result ≢ WriteFault → result ≢ OutOfMemory → O.is_open frames.new ≡ false }
     ensures unwritten { draws_action command.now.action ≡ false → O.written frames.new ≡ O.written frames.old }
     ensures unopened { draws_action command.now.action ≡ false → O.is_open frames.new ≡ false }
     ensures drawn { result ≡ WriteFault → draws_action command.now.action ≡ true }
+    ensures held { L.held library.new ≡ L.held library.old }
+    ensures asked { Told (L.held library.old) (λ files. AsksFront (asked_for_command (Some (OnScene (scene_view command.now))) files) (L.asked library.old) (L.asked library.new)) }
+    ensures library_later { L.faults library.old ≤ L.faults library.new }
+    ensures sink_later { O.faults frames.old ≤ O.faults frames.new }
+    ensures read { result ≡ Refused ReadFault → Rose (L.faults library.old) (L.faults library.new) }
+    ensures write { result ≡ WriteFault → Rose (O.faults frames.old) (O.faults frames.new) }
+    ensures course { Obeys (Some (OnScene (scene_view command.now))) (L.held library.old) result (O.written frames.old) (O.written frames.new) (N.lines notes.old) (N.lines notes.new) (N.faults notes.old) (N.faults notes.new) }
+{
+    let loaded = match load(alloc, library, command) {
+        Ok(Some(loaded)) => loaded,
+        Ok(None) => return Answer::NoScene,
+        Err(refusal) => return Answer::Refused(refusal),
+    };
+    let Loaded { text, accepted } = loaded;
+    match command.action {
+        Action::Check => Answer::Done,
+        Action::Render => {
+            drop(text);
+            match write_pictures(alloc, frames, notes, accepted, command.options) {
+                Ok(()) => Answer::Done,
+                Err(DrawFault::WriteFault) => Answer::WriteFault,
+                Err(DrawFault::NoMemory) => Answer::NoMemory,
+            }
+        }
+        Action::Part { part, count } => {
+            match write_parts(alloc, frames, accepted, &text, command.options, part, count) {
+                Ok(()) => Answer::Done,
+                Err(DrawFault::WriteFault) => Answer::WriteFault,
+                Err(DrawFault::NoMemory) => Answer::NoMemory,
+            }
+        }
+    }
+}
+
+// Joins parts.
+fn joined<L: Library, O: FrameSink>(
+    alloc: Global,
+    command: JoinCommand<'_>,
+    library: &mut L,
+    frames: &mut O,
+) -> Answer
+    requires closed { O.is_open frames.old ≡ false }
+    requires ranges { IsInRange (Join command.name.now command.count) }
+    ensures command { result ≢ Usage }
+    ensures before { ComesBefore result → O.written frames.new ≡ O.written frames.old }
+    ensures closed { result ≢ WriteFault → result ≢ OutOfMemory → O.is_open frames.new ≡ false }
+    ensures held { L.held library.new ≡ L.held library.old }
+    ensures asked { Told (L.held library.old) (λ files. AsksFront (asked_for_command (Some (Join command.entry.name.now command.entry.count)) files) (L.asked library.old) (L.asked library.new)) }
+    ensures library_later { L.faults library.old ≤ L.faults library.new }
+    ensures sink_later { O.faults frames.old ≤ O.faults frames.new }
+    ensures read { result ≡ Refused ReadFault → Rose (L.faults library.old) (L.faults library.new) }
+    ensures write { result ≡ WriteFault → Rose (O.faults frames.old) (O.faults frames.new) }
+    ensures course { (lines : Option (List (List ℕ))) (n : ℕ) → Obeys (Some (Join command.entry.name.now command.entry.count)) (L.held library.old) result (O.written frames.old) (O.written frames.new) lines lines n n }
+{
+    match joined_parts(alloc, library, command.name, command.count) {
+        Ok(picture) => match put_picture(frames, command.name, &picture) {
+            Ok(()) => Answer::Done,
+            Err(_) => Answer::WriteFault,
+        },
+        Err(JoinStop::Cause(cause)) => Answer::Unjoined(cause),
+        Err(JoinStop::ReadFault) => Answer::Refused(Refusal::ReadFault),
+        Err(JoinStop::NoMemory) => Answer::NoMemory,
+    }
+}
+
+// The name in notes of a command's scene, or of the picture whose parts it joins.
+fn scene_name<'a>(command: &Command<'a>) -> &'a str
+    ensures { result.now ≡ scene_of (Some (command_view command.now)) }
+{
+    match command {
+        Command::Scene(scene) => match &scene.source {
+            Source::File(name) => name,
+            Source::Demo(_) => "demo",
+        },
+        Command::Join(join) => join.name,
+    }
+}
+
+// Carries out a command.
+fn carried_out<L: Library, O: FrameSink, N: Notes>(
+    alloc: Global,
+    command: &Command<'_>,
+    library: &mut L,
+    frames: &mut O,
+    notes: &mut N,
+) -> Answer
+    requires closed { O.is_open frames.old ≡ false }
+    requires ranges { IsInRange (command_view command.now) }
+    ensures command { result ≢ Usage }
+    ensures before { ComesBefore result → O.written frames.new ≡ O.written frames.old }
+    ensures closed { result ≢ WriteFault → result ≢ OutOfMemory → O.is_open frames.new ≡ false }
+    ensures unwritten { draws_command (Some (command_view command.now)) ≡ false → O.written frames.new ≡ O.written frames.old }
+    ensures unopened { draws_command (Some (command_view command.now)) ≡ false → O.is_open frames.new ≡ false }
+    ensures drawn { result ≡ WriteFault → draws_command (Some (command_view command.now)) ≡ true }
     ensures held { L.held library.new ≡ L.held library.old }
     ensures asked { Told (L.held library.old) (λ files. AsksFront (asked_for_command (Some (command_view command.now)) files) (L.asked library.old) (L.asked library.new)) }
     ensures library_later { L.faults library.old ≤ L.faults library.new }
@@ -62,28 +159,9 @@ fn obeyed<L: Library, O: FrameSink, N: Notes>(
     ensures write { result ≡ WriteFault → Rose (O.faults frames.old) (O.faults frames.new) }
     ensures course { Obeys (Some (command_view command.now)) (L.held library.old) result (O.written frames.old) (O.written frames.new) (N.lines notes.old) (N.lines notes.new) (N.faults notes.old) (N.faults notes.new) }
 {
-    let accepted = match load(alloc, library, command) {
-        Ok(Some(accepted)) => accepted,
-        Ok(None) => return Answer::NoScene,
-        Err(refusal) => return Answer::Refused(refusal),
-    };
-    match command.action {
-        Action::Check => Answer::Done,
-        Action::Render => match write_pictures(alloc, frames, notes, accepted, command.options) {
-            Ok(()) => Answer::Done,
-            Err(DrawFault::WriteFault) => Answer::WriteFault,
-            Err(DrawFault::NoMemory) => Answer::NoMemory,
-        },
-    }
-}
-
-// The name of a command's scene in notes.
-fn scene_name<'a>(source: &Source<'a>) -> &'a str
-    ensures { result.now ≡ scene_name (source_view source.now) }
-{
-    match source {
-        Source::File(name) => name,
-        Source::Demo(_) => "demo",
+    match command {
+        Command::Scene(scene) => obeyed(alloc, scene, library, frames, notes),
+        Command::Join(join) => joined(alloc, *join, library, frames),
     }
 }
 
@@ -98,7 +176,6 @@ fn answered<'a, L: Library, O: FrameSink, N: Notes>(
     requires { O.is_open frames.old ≡ false }
     ensures usage { result.0 ≡ Usage → IsUsage (texts words.now) }
     ensures usage_known { IsUsage (texts words.now) → (result.0 ≡ Usage) ⊎ (result.0 ≡ OutOfMemory) }
-    ensures verdict { Told (L.held library.old) (λ files. Agrees result.1.now result.0 (verdict (texts words.now) files) (O.written frames.old) (O.written frames.new)) }
     ensures before { ComesBefore result.0 → O.written frames.new ≡ O.written frames.old }
     ensures closed { result.0 ≢ WriteFault → result.0 ≢ OutOfMemory → O.is_open frames.new ≡ false }
     ensures unwritten { draws (texts words.now) ≡ false → O.written frames.new ≡ O.written frames.old }
@@ -113,10 +190,10 @@ fn answered<'a, L: Library, O: FrameSink, N: Notes>(
     ensures named { result.0 ≢ OutOfMemory → result.1.now ≡ scene_of (command_of (texts words.now)) }
     ensures course { Obeys (command_of (texts words.now)) (L.held library.old) result.0 (O.written frames.old) (O.written frames.new) (N.lines notes.old) (N.lines notes.new) (N.faults notes.old) (N.faults notes.new) }
 {
-    match scene_command(alloc, words) {
+    match command_in(alloc, words) {
         Ok(Some(command)) => (
-            obeyed(alloc, &command, library, frames, notes),
-            scene_name(&command.source),
+            carried_out(alloc, &command, library, frames, notes),
+            scene_name(&command),
         ),
         Ok(None) => (Answer::Usage, ""),
         Err(_) => (Answer::NoMemory, ""),
@@ -142,6 +219,41 @@ fn fault_note(
     })
 }
 
+// The note of a fault in the first line of a file.
+fn first_line_note(alloc: Global, file: &str, code: &str) -> Result<String, NoMemory>
+    ensures { IfOk result (λ n. string_bytes n ≡ fault_line file.now 1 code.now) }
+{
+    let line = 1u32;
+    Ok(format!(in alloc; "{file}:{line}: {code}\n")?)
+}
+
+// The note of a file that is missing.
+fn missing_note(alloc: Global, file: &str) -> Result<String, NoMemory>
+    ensures { IfOk result (λ n. string_bytes n ≡ file.now ++ codes ": missing\n") }
+{
+    Ok(format!(in alloc; "{file}: missing\n")?)
+}
+
+// The note of parts that aren't joined, where the picture has this name.
+fn join_note(alloc: Global, name: &str, cause: JoinCause) -> Result<String, NoMemory>
+    ensures { IfOk result (λ n. string_bytes n ≡ join_note name.now cause) }
+{
+    match cause {
+        JoinCause::Missing { part } => {
+            let file = part_name(alloc, name, part)?;
+            missing_note(alloc, &file)
+        }
+        JoinCause::At {
+            part: Some(part),
+            code,
+        } => {
+            let file = part_name(alloc, name, part)?;
+            first_line_note(alloc, &file, code.as_str())
+        }
+        JoinCause::At { part: None, code } => first_line_note(alloc, name, code.as_str()),
+    }
+}
+
 // The note of an answer, where the scene has this name. There is none of want of memory, whose note takes no memory.
 fn note(alloc: Global, scene: &str, answer: &Answer) -> Result<Option<String>, NoMemory>
     ensures { IfOk result (λ n. lines_in (option_map string_bytes n) ≡ answer_lines scene.now answer.now) }
@@ -153,6 +265,7 @@ fn note(alloc: Global, scene: &str, answer: &Answer) -> Result<Option<String>, N
         Answer::Refused(Refusal::At { file, line, code }) => {
             fault_note(alloc, scene, file, *line, code.as_str())?
         }
+        Answer::Unjoined(cause) => join_note(alloc, scene, *cause)?,
         Answer::Refused(Refusal::Missing(file)) => {
             let file = file.as_str();
             format!(in alloc; "{file}: missing\n")?
@@ -190,6 +303,7 @@ fn status(answer: &Answer, note: &Result<Option<String>, NoMemory>) -> u8
         Answer::NoScene => 6,
         Answer::Refused(Refusal::At { code, .. }) => code.status(),
         Answer::Refused(refusal) => refusal.status(),
+        Answer::Unjoined(cause) => cause.status(),
         Answer::WriteFault => 8,
         Answer::NoMemory => 9,
     }

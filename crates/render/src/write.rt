@@ -28,15 +28,15 @@ use std::alloc::Global;
 
 /// A frame of a scene, at that place.
 #[derive(Drop)]
-struct FrameAt<'a> {
-    scene: &'a Scene,
-    index: usize,
-    frame: &'a Frame,
+pub(crate) struct FrameAt<'a> {
+    pub(crate) scene: &'a Scene,
+    pub(crate) index: usize,
+    pub(crate) frame: &'a Frame,
     ghost there: { slice_get scene.now.frames index ≡ Some frame.now },
 }
 
-// What the options of a command set for the drawing of frames.
-fn limits_of(options: RunOptions) -> Limits
+/// What the options of a command set for the drawing of frames.
+pub(crate) fn limits_of(options: RunOptions) -> Limits
     ensures { result ≡ limits_of options }
 {
     Limits {
@@ -45,8 +45,8 @@ fn limits_of(options: RunOptions) -> Limits
     }
 }
 
-// The name of a frame's picture.
-fn name_of(frame: &Frame) -> &str
+/// The name of a frame's picture.
+pub(crate) fn name_of(frame: &Frame) -> &str
     ensures { result.now ≡ frame.now.name }
 {
     frame.name.get().as_str()
@@ -146,8 +146,8 @@ fn tell<N: Notes>(notes: &mut N, line: &Option<String>)
     }
 }
 
-// The frames of a scene.
-fn frames_in(scene: &Scene) -> &[Frame]
+/// The frames of a scene.
+pub(crate) fn frames_in(scene: &Scene) -> &[Frame]
     ensures { result.now ≡ scene.now.frames }
 {
     scene.frames.as_slice()

@@ -1,20 +1,20 @@
-use Rattle.std.proofs.Common.{◌≡◌, ◌∙◌, ◌<◌, sym, ap, subst, arith, ℕ, [], List, None}
+use Rattle.std.proofs.Common.{◌≡◌, ◌∙◌, ◌<◌, sym, ap, subst, arith, true, ℕ, [], List, None}
 use Rattle.outside.proofs.Puts.{on_err}
 use Rattle.scene.specs.Scene.{FrameValue}
 use Rattle.filter_ppm.specs.Bands.{rect_with}
 use Rattle.grid_epoch.specs.Kept.{points_in}
-use Rattle.buckets.specs.TileWalk.{bucket_of, tile_count, tile_rect}
+use Rattle.buckets.specs.TileWalk.{bucket_of, draws, tile_count, tile_rect}
 use Rattle.buckets.specs.Standing.{Going, next_epoch, to_come}
-use Rattle.buckets.specs.Rows.{IsRowTo, PutsTo, TellsSamples}
+use Rattle.buckets.specs.Rows.{HasRow, PutsTo, TellsSamples}
 use Rattle.buckets.specs.Progress.{IsIn}
 use Rattle.buckets.proofs.Going.{goes_shaded, goes_whole, goes_done}
-use Rattle.buckets.proofs.RowBytes.{rows_in_part}
+use Rattle.buckets.proofs.SharePuts.{puts_part}
 use Rattle.buckets.proofs.StepsOn.{is_none, is_not_none}
 use Rattle.buckets.proofs.frame.go_on.Goals as goal
 
 pub returns-in_err-fill-clause-part : goal.returns-in_err-fill-clause-part
 returns-in_err-fill-clause-part g c =
-    on_err _ _ (rows_in_part g.at_epoch.begun c.loop-progress.progress.drawing.at (g.O.FrameSink.written c.loop-progress.sink) c.requires.1.0.drawable c.loop-progress.invariant.put)
+    on_err _ _ (puts_part g.at_epoch.begun c.loop-progress.progress.drawing.at (g.O.FrameSink.written c.loop-progress.sink) c.requires.1.0.drawable c.loop-progress.invariant.stands.within c.loop-progress.invariant.put)
 
 pub returns-then-is_some-clause-full : goal.returns-then-is_some-clause-full
 returns-then-is_some-clause-full g c = λ low.
@@ -33,7 +33,8 @@ returns-then-is_some-clause-full g c = λ low.
       sights = c.fill.ensures.leaves ∙ q.frame;
       going = λ _. record {
         rect = ap (λ (r : List ℕ). rect_with r) c.fill.ensures.rect ∙ inside.rect ∙ ap (tile_rect d) (sym at');
-        row = subst (λ (k : ℕ). IsRowTo d k (bucket_of d k).left old.row.items) (sym at') inside.row;
+        drawn = subst (λ (k : ℕ). draws d k ≡ true) (sym at') inside.drawn;
+        row = subst (λ (k : ℕ). HasRow d k (bucket_of d k).left old.row.items) (sym at') inside.row;
         going = subst (λ (f : FrameValue). Going (next_epoch (points_in c.fill.new.epoch.kept) e) new.at new.tile new.next (to_come f new.leaves.number new.leaves.pieces) [] c.fill.new.shop.count) q.frame (c.in_ok-fill.ensures.full some);
       };
       ended = λ is. absurd (omega (arith, is, low));
@@ -57,20 +58,23 @@ finish_tile-requires g c = λ κs h.
         (
           omega (arith, low, at'),
           (
-            stands.format,
+            subst (λ (k : ℕ). draws d k ≡ true) (sym at') inside.drawn,
             (
-              goes.grid,
+              stands.format,
               (
-                goes_whole e new.at new.tile c.fill.new.epoch.kept c.fill.new.shop.count goes,
+                goes.grid,
                 (
-                  subst (λ (k : ℕ). IsRowTo d k (bucket_of d k).left old.row.items) (sym at') inside.row,
+                  goes_whole e new.at new.tile c.fill.new.epoch.kept c.fill.new.shop.count goes,
                   (
-                    c.loop-progress.invariant.open',
+                    subst (λ (k : ℕ). HasRow d k (bucket_of d k).left old.row.items) (sym at') inside.row,
                     (
-                      subst (λ (k : ℕ). PutsTo e.begun k (g.O.FrameSink.written c.loop-progress.sink)) (sym at') c.loop-progress.invariant.put,
+                      c.loop-progress.invariant.open',
                       (
-                        subst (λ (k : ℕ). TellsSamples e.begun k c.loop-progress.report.most_samples) (sym at') c.loop-progress.invariant.samples,
-                        c.fill.ensures.leaves ∙ q.frame,
+                        subst (λ (k : ℕ). PutsTo e.begun k (g.O.FrameSink.written c.loop-progress.sink)) (sym at') c.loop-progress.invariant.put,
+                        (
+                          subst (λ (k : ℕ). TellsSamples e.begun k c.loop-progress.report.most_samples) (sym at') c.loop-progress.invariant.samples,
+                          c.fill.ensures.leaves ∙ q.frame,
+                        ),
                       ),
                     ),
                   ),

@@ -1,4 +1,10 @@
-use Rattle.std.proofs.Common.{◌≡◌, subst, [], ◌∷◌, Some}
+use Rattle.std.proofs.Common.{◌≡◌, ◌∙◌, ◌≤◌, sym, ap, refl, arith, subst, [], ◌∷◌, Some}
+use Rattle.fixed_math.specs.Buckets.{bucket_count}
+use Rattle.buckets.specs.TileWalk.{picture_rect}
+use Rattle.buckets.specs.declared.limits.Limits.{Limits}
+use Rattle.buckets.specs.declared.share.Share.TheVariants.{Whole}
+use Rattle.buckets.proofs.Skipping.{whole_drawn}
+use Rattle.buckets.proofs.Drawable.{IsKnownFrame, drawn_with}
 use Rattle.outside.specs.Sink.{begun}
 use Rattle.outside.specs.Frames.{Adds, AddsPart, whole}
 use Rattle.outside.proofs.Puts.{on_err}
@@ -8,6 +14,37 @@ use Rattle.std.specs.Prelude.{slice_get}
 use Rattle.buckets.specs.Progress.{drawing_of}
 use Rattle.buckets.proofs.WholeEntry.{entry, header_in_part, pixels_in_part, all_ended, not_ended, same_entry}
 use Rattle.buckets.proofs.frame.render_frame.Goals as goal
+
+pub draw_tiles-requires : goal.draw_tiles-requires
+draw_tiles-requires g c = λ κs h.
+    let q = c.requires in
+    let s = c.shown_in-shown.result in
+    let e = c.shown_in-shown.ensures in
+    let set = set_value c.args.shop.now.set in
+    let there = s.there in
+    let scenes = e.scene in
+    let places = e.index in
+    let back = sym e.limits in
+    let at' : slice_get c.args.scene.now.frames c.args.frame ≡ Some s.frame.now = cc in
+    let same : s.tiles ≡ bucket_count s.limits.bucket (picture_rect s.frame.now) = e.tiles ∙ ap (λ (l : Limits). bucket_count l.bucket (picture_rect s.frame.now)) back in
+    let known : IsKnownFrame s c.args.scene.now set = record {
+      scene = scenes;
+      fits = q.fits;
+      variables = q.variables s.frame.now at';
+      view = e.view;
+      format = e.format;
+      options = e.options;
+      few = e.few;
+      bounds = e.bounds;
+      uses = e.uses;
+      side_low = subst (λ (l : Limits). 4 ≤ l.bucket) back q.bucket_low;
+      side_high = subst (λ (l : Limits). l.bucket ≤ 64) back q.bucket_high;
+      limit_low = subst (λ (l : Limits). 289 ≤ l.grid_points) back q.points_low;
+      tiles = same;
+    } in
+    let drawn = drawn_with s c.args.scene.now set Whole c.args.shop.now.count c.args.report.now (g.O.FrameSink.written c.put_header.new.sink) known e.share tt q.count q.epochs in
+    let some = e.some in
+    (h, (drawn, (whole_drawn (drawing_of s.scene.now set s.frame.now s.limits) refl, (omega (arith, some, same), (refl, (refl, (refl, (refl, c.put_header.ensures.open))))))))
 
 pub returns-in_err-put_header-clause-err : goal.returns-in_err-put_header-clause-err
 returns-in_err-put_header-clause-err g c =

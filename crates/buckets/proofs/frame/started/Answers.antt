@@ -1,4 +1,4 @@
-use Rattle.std.proofs.Common.{◌≡◌, ◌∙◌, sym, ap, subst, ℕ, []}
+use Rattle.std.proofs.Common.{◌≡◌, ◌∙◌, sym, ap, subst, []}
 use Rattle.scene.specs.Scene.{FrameValue}
 use Rattle.scene.specs.Settings.{OptionValues}
 use Rattle.transforms.specs.declared.view.View.{View}
@@ -8,16 +8,13 @@ use Rattle.hider.specs.Tiles.{IsSampleGrid}
 use Rattle.buckets.specs.declared.frame.Progress.{Progress}
 use Rattle.buckets.specs.TileWalk.{format_in, tile_rect}
 use Rattle.buckets.specs.Standing.{InEpoch, to_come}
-use Rattle.buckets.specs.Rows.{IsRowTo}
 use Rattle.buckets.specs.Progress.{Stands, next_of, report_before}
-use Rattle.buckets.proofs.BucketRows.{some_tiles, first_left}
+use Rattle.buckets.proofs.Skipping.{before_skips}
+use Rattle.buckets.proofs.SharePuts.{row_begins}
 use Rattle.buckets.proofs.BucketPixels.{grid_from, is_sample_grid}
 use Rattle.buckets.proofs.Passing.{gives_first}
 use Rattle.buckets.proofs.StepsOn.{stands_in, before_first}
 use Rattle.buckets.proofs.frame.started.Goals as goal
-
-pub new_row-requires : goal.new_row-requires
-new_row-requires g c = (c.requires.0, some_tiles g.begun.drawing c.requires.0.drawable)
 
 pub new-requires : goal.new-requires
 new-requires g c =
@@ -26,7 +23,7 @@ new-requires g c =
     let options : c.frame.inside.options ≡ d.frame.options = ap (λ (v : FrameValue). v.options) (c.frame.view_is ∙ q.frame) in
     let xs = ap (λ (o : OptionValues). o.xs) (c.options.view_is ∙ options) in
     let ys = ap (λ (o : OptionValues). o.ys) (c.options.view_is ∙ options) in
-    subst (λ (s : SampleGrid). IsSampleGrid s) (sym (grid_from d 0 c.tile_at-rect.result c.options.inside.xs c.options.inside.ys c.tile_at-rect.ensures xs ys)) (is_sample_grid d 0 q.drawable (some_tiles d q.drawable))
+    subst (λ (s : SampleGrid). IsSampleGrid s) (sym (grid_from d c.args.first c.tile_at-rect.result c.options.inside.xs c.options.inside.ys c.tile_at-rect.ensures xs ys)) (is_sample_grid d c.args.first q.drawable c.requires.1.1.1)
 
 pub returns-clause-stands : goal.returns-clause-stands
 returns-clause-stands g c = λ e is.
@@ -34,20 +31,23 @@ returns-clause-stands g c = λ e is.
     let d = b.drawing in
     let q = c.requires.0 in
     let f = c.args.shown.now.frame.now in
+    let first = c.args.first in
+    let begins = c.requires.1.1.0 in
+    let low = c.requires.1.1.1 in
     let frame : f ≡ d.frame = q.frame in
     let options : c.frame.inside.options ≡ d.frame.options = ap (λ (v : FrameValue). v.options) (c.frame.view_is ∙ frame) in
     let chosen : OptionValues = c.frame.inside.options in
     let camera : c.view-view.result.now ≡ d.frame.camera = c.view-view.ensures.value ∙ ap (λ (v : FrameValue). v.camera) (c.frame.view_is ∙ frame) in
-    let p : Progress = record { drawing = record { at = 0; rect = c.tile_at-rect.result; tile = c.in_ok-tile.tile; leaves = c.next-next.new.self; next = c.next-next.result }; filter = c.in_ok-new.field-0; row = c.in_ok-new_row.field-0 } in
+    let p : Progress = record { drawing = record { at = first; rect = c.tile_at-rect.result; tile = c.in_ok-tile.tile; leaves = c.next-next.new.self; next = c.next-next.result }; filter = c.in_ok-new.field-0; row = c.in_ok-first_row.field-0 } in
     let xs = ap (λ (o : OptionValues). o.xs) (c.options.view_is ∙ options) in
     let ys = ap (λ (o : OptionValues). o.ys) (c.options.view_is ∙ options) in
     let format : p.filter ≡ format_in d.frame = c.in_ok-new.ensures ∙ ap (λ (v : View). record { width = v.width; height = v.height; options = chosen }) camera ∙ ap (λ (o : OptionValues). record { width = d.frame.camera.width; height = d.frame.camera.height; options = o }) options in
-    let first = c.in_ok-leaves.leaves in
+    let walk = c.in_ok-leaves.leaves in
     let same = c.in_ok-leaves.ensures.frame ∙ frame in
     let leaves : p.drawing.leaves.sights ≡ d.frame = c.next-next.ensures.frame ∙ same in
     subst (λ (k : InEpoch). Stands k p [] b.count) (sym is)
-    (stands_in (next_of b (report_before b)) p [] b.count q.drawable (before_first b) (some_tiles d q.drawable) format leaves c.tile_at-rect.ensures
-    (c.in_ok-tile.ensures.grid ∙ grid_from d 0 c.tile_at-rect.result c.options.inside.xs c.options.inside.ys c.tile_at-rect.ensures xs ys) c.in_ok-tile.ensures.empty
-    (λ back tells. gives_first c.next-next.result first.sights d.frame (pixels_of c.tile_at-rect.result) (tile_rect d 0) back (λ v. to_come v first.number first.pieces) (λ v. to_come v c.next-next.new.self.number c.next-next.new.self.pieces)
+    (stands_in (next_of b (report_before b)) p [] b.count q.drawable (before_skips (next_of b (report_before b)) 0 first [] b.count begins (before_first b)) low (begins.drawn low) format leaves c.tile_at-rect.ensures
+    (c.in_ok-tile.ensures.grid ∙ grid_from d first c.tile_at-rect.result c.options.inside.xs c.options.inside.ys c.tile_at-rect.ensures xs ys) c.in_ok-tile.ensures.empty
+    (λ back tells. gives_first c.next-next.result walk.sights d.frame (pixels_of c.tile_at-rect.result) (tile_rect d first) back (λ v. to_come v walk.number walk.pieces) (λ v. to_come v c.next-next.new.self.number c.next-next.new.self.pieces)
     same c.tile_at-rect.ensures c.in_ok-leaves.ensures.all (c.next-next.ensures.next back tells))
-    (subst (λ (l : ℕ). IsRowTo d 0 l p.row.items) (sym (first_left d q.drawable)) c.in_ok-new_row.ensures))
+    (row_begins d first p.row.items q.drawable begins c.in_ok-first_row.ensures))

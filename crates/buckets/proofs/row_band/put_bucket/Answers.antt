@@ -3,7 +3,7 @@ use Rattle.hider.specs.Composite.{composite}
 use Rattle.filter_ppm.specs.Sampled.{film_with}
 use Rattle.filter_ppm.specs.Bands.{PutsPixels}
 use Rattle.buckets.specs.Rows.{IsRowTo}
-use Rattle.buckets.proofs.StepsOn.{take_front}
+use Rattle.filter_ppm.proofs.Puts.{take_front}
 use Rattle.fixed_math.specs.Spots.{PixelRect}
 use Rattle.filter_ppm.specs.Sampled.{FilmFormat}
 use Rattle.filter_ppm.specs.Bands.{rect_with, IsPartOfPicture, seen_from, grid_over}

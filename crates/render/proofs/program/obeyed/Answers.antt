@@ -1,62 +1,82 @@
-use Rattle.std.proofs.Common.{Some}
-use Rattle.command_line.specs.declared.command.Action.TheVariants.{Render, Check}
-use Rattle.command_line.specs.Command.{command_view}
-use Rattle.render.specs.Answers.{accepted_in}
-use Rattle.render.proofs.Obeying.{obeys-refused, obeys-check, obeys-drawn, obeys-unwritten, obeys-out-of-memory, accepted-front, left-front, loaded}
+use Rattle.std.proofs.Common.{subst, ℕ, List, map, Some}
+use Rattle.outside.specs.Frames.{Picture, whole, Adds}
+use Rattle.command_line.specs.declared.command.Action.TheVariants.{Render, Check, Part}
+use Rattle.command_line.specs.Command.{OnScene, scene_view}
+use Rattle.render.specs.Answers.{accepted_in, EndsSome}
+use Rattle.render.specs.Parts.{parts_of_frames, task_of}
+use Rattle.render.proofs.Obeying.{obeys-refused, obeys-check, obeys-drawn, obeys-unwritten, obeys-out-of-memory, obeys-entries, obeys-entries-unwritten, obeys-entries-out-of-memory, entries-told, loaded}
 use Rattle.render.proofs.program.obeyed.Goals as goal
 
 pub returns-in-Err-clause-course : goal.returns-in-Err-clause-course
 returns-in-Err-clause-course g c =
-    obeys-refused (Some (command_view c.args.command.now)) (g.L.Library.held c.args.library.now) c.in-Err.refusal _ _ _ c.in-Err.ensures.loads
+    obeys-refused (scene_view c.args.command.now) (g.L.Library.held c.args.library.now) c.in-Err.refusal _ _ _ c.in-Err.ensures.loads
 
 pub returns-in-Check-clause-course : goal.returns-in-Check-clause-course
 returns-in-Check-clause-course g c =
-    let command = command_view c.args.command.now in
+    let command = scene_view c.args.command.now in
     let held = g.L.Library.held c.args.library.now in
-    let a = accepted_in c.in-Ok-Some.accepted in
-    obeys-check command held a _ _ _ (loaded command held c.args.command.now.action Check c.in-Ok-Some.field-0 c.in-Ok-Some.accepted c.in-Ok-Some.field-0-is c.in-Check.is c.in-Ok-Some.ensures.loads)
+    let a = accepted_in c.in-Ok-Some.loaded.accepted in
+    obeys-check command held a _ _ _ (loaded command held Check c.in-Ok-Some.field-0 c.in-Ok-Some.loaded c.in-Ok-Some.field-0-is c.in-Check.is c.in-Ok-Some.ensures.loads)
 
 pub returns-in-Ok-clause-course : goal.returns-in-Ok-clause-course
 returns-in-Ok-clause-course g c =
-    let command = command_view c.args.command.now in
+    let command = scene_view c.args.command.now in
     let held = g.L.Library.held c.args.library.now in
-    let a = accepted_in c.in-Ok-Some.accepted in
+    let a = accepted_in c.in-Ok-Some.loaded.accepted in
     obeys-drawn command held a _ _ _ _ _ _
-    (loaded command held c.args.command.now.action Render c.in-Ok-Some.field-0 c.in-Ok-Some.accepted c.in-Ok-Some.field-0-is c.in-Render.is c.in-Ok-Some.ensures.loads)
+    (loaded command held Render c.in-Ok-Some.field-0 c.in-Ok-Some.loaded c.in-Ok-Some.field-0-is c.in-Render.is c.in-Ok-Some.ensures.loads)
     c.in-Ok.ensures.ok c.in-Ok.ensures.says
-
-pub returns-in-Err-WriteFault-clause-verdict : goal.returns-in-Err-WriteFault-clause-verdict
-returns-in-Err-WriteFault-clause-verdict g c =
-    let command = command_view c.args.command.now in
-    let held = g.L.Library.held c.args.library.now in
-    let a = accepted_in c.in-Ok-Some.accepted in
-    accepted-front c.args.command.now.options (Some command) held a _ _ _ _ _ _ _
-    (loaded command held c.args.command.now.action Render c.in-Ok-Some.field-0 c.in-Ok-Some.accepted c.in-Ok-Some.field-0-is c.in-Render.is c.in-Ok-Some.ensures.loads)
-    c.in-Err-WriteFault.ensures.err
 
 pub returns-in-Err-WriteFault-clause-course : goal.returns-in-Err-WriteFault-clause-course
 returns-in-Err-WriteFault-clause-course g c =
-    let command = command_view c.args.command.now in
+    let command = scene_view c.args.command.now in
     let held = g.L.Library.held c.args.library.now in
-    let a = accepted_in c.in-Ok-Some.accepted in
+    let a = accepted_in c.in-Ok-Some.loaded.accepted in
     obeys-unwritten command held a c.in-Err-WriteFault.field-0 _ _ _ _ _ _ c.in-Err-WriteFault.field-0-is
-    (loaded command held c.args.command.now.action Render c.in-Ok-Some.field-0 c.in-Ok-Some.accepted c.in-Ok-Some.field-0-is c.in-Render.is c.in-Ok-Some.ensures.loads)
+    (loaded command held Render c.in-Ok-Some.field-0 c.in-Ok-Some.loaded c.in-Ok-Some.field-0-is c.in-Render.is c.in-Ok-Some.ensures.loads)
     c.in-Err-WriteFault.ensures.err
 
-pub returns-in-Err-NoMemory-clause-verdict : goal.returns-in-Err-NoMemory-clause-verdict
-returns-in-Err-NoMemory-clause-verdict g c =
-    let command = command_view c.args.command.now in
+pub returns-in-Render-clause-course : goal.returns-in-Render-clause-course
+returns-in-Render-clause-course g c =
+    let command = scene_view c.args.command.now in
     let held = g.L.Library.held c.args.library.now in
-    let a = accepted_in c.in-Ok-Some.accepted in
-    left-front c.args.command.now.options (Some command) held a _ _ _ _ _ _ _
-    (loaded command held c.args.command.now.action Render c.in-Ok-Some.field-0 c.in-Ok-Some.accepted c.in-Ok-Some.field-0-is c.in-Render.is c.in-Ok-Some.ensures.loads)
+    let a = accepted_in c.in-Ok-Some.loaded.accepted in
+    obeys-out-of-memory command held a c.in-Err-NoMemory.field-0 _ _ _ _ _ _
+    (loaded command held Render c.in-Ok-Some.field-0 c.in-Ok-Some.loaded c.in-Ok-Some.field-0-is c.in-Render.is c.in-Ok-Some.ensures.loads)
     c.in-Err-NoMemory.ensures.err
 
-pub returns-in-Err-NoMemory-clause-course : goal.returns-in-Err-NoMemory-clause-course
-returns-in-Err-NoMemory-clause-course g c =
-    let command = command_view c.args.command.now in
+pub returns-in-Ok-write_parts-clause-course : goal.returns-in-Ok-write_parts-clause-course
+returns-in-Ok-write_parts-clause-course g c =
+    let t = scene_view c.args.command.now in
     let held = g.L.Library.held c.args.library.now in
-    let a = accepted_in c.in-Ok-Some.accepted in
-    obeys-out-of-memory command held a c.in-Err-NoMemory.field-0 _ _ _ _ _ _
-    (loaded command held c.args.command.now.action Render c.in-Ok-Some.field-0 c.in-Ok-Some.accepted c.in-Ok-Some.field-0-is c.in-Render.is c.in-Ok-Some.ensures.loads)
-    c.in-Err-NoMemory.ensures.err
+    let l = c.in-Ok-Some.loaded in
+    let entries : List ℕ → List Picture = λ text. parts_of_frames (task_of c.in-Part.part c.in-Part.count c.args.command.now.options text) (accepted_in l.accepted) in
+    let x = g.O.FrameSink.written c.args.frames.now in
+    let y = g.O.FrameSink.written c.write_parts.new.sink in
+    obeys-entries (Some (OnScene t)) held (entries l.text.items) x y _ _
+    (entries-told t held (entries l.text.items) (loaded t held (Part c.in-Part.part c.in-Part.count) c.in-Ok-Some.field-0 l c.in-Ok-Some.field-0-is c.in-Part.is c.in-Ok-Some.ensures.loads))
+    (subst (λ (b : List ℕ). Adds (map whole (entries b)) x y) c.deref.ensures.value c.in-Ok-write_parts.ensures.ok)
+
+pub returns-in-Err-WriteFault-write_parts-clause-course : goal.returns-in-Err-WriteFault-write_parts-clause-course
+returns-in-Err-WriteFault-write_parts-clause-course g c =
+    let t = scene_view c.args.command.now in
+    let held = g.L.Library.held c.args.library.now in
+    let l = c.in-Ok-Some.loaded in
+    let entries : List ℕ → List Picture = λ text. parts_of_frames (task_of c.in-Part.part c.in-Part.count c.args.command.now.options text) (accepted_in l.accepted) in
+    let x = g.O.FrameSink.written c.args.frames.now in
+    let y = g.O.FrameSink.written c.write_parts.new.sink in
+    obeys-entries-unwritten (Some (OnScene t)) held (entries l.text.items) x y _ _
+    (entries-told t held (entries l.text.items) (loaded t held (Part c.in-Part.part c.in-Part.count) c.in-Ok-Some.field-0 l c.in-Ok-Some.field-0-is c.in-Part.is c.in-Ok-Some.ensures.loads))
+    (subst (λ (b : List ℕ). EndsSome (entries b) x y) c.deref.ensures.value c.in-Err-WriteFault-write_parts.ensures.err)
+
+pub returns-clause-course : goal.returns-clause-course
+returns-clause-course g c =
+    let t = scene_view c.args.command.now in
+    let held = g.L.Library.held c.args.library.now in
+    let l = c.in-Ok-Some.loaded in
+    let entries : List ℕ → List Picture = λ text. parts_of_frames (task_of c.in-Part.part c.in-Part.count c.args.command.now.options text) (accepted_in l.accepted) in
+    let x = g.O.FrameSink.written c.args.frames.now in
+    let y = g.O.FrameSink.written c.write_parts.new.sink in
+    obeys-entries-out-of-memory (Some (OnScene t)) held (entries l.text.items) x y _ _
+    (entries-told t held (entries l.text.items) (loaded t held (Part c.in-Part.part c.in-Part.count) c.in-Ok-Some.field-0 l c.in-Ok-Some.field-0-is c.in-Part.is c.in-Ok-Some.ensures.loads))
+    (subst (λ (b : List ℕ). EndsSome (entries b) x y) c.deref.ensures.value c.in-Err-NoMemory-write_parts.ensures.err)

@@ -1,0 +1,183 @@
+// The pixels of a bucket, on their way to the sink.
+ghost use Rattle.std.specs.Prelude.{◌≡◌, ◌≤◌, ◌<◌, ◌+◌, ◌++◌, ℕ, List, true, All, IfOk, OnOk, OnErr, IsErrOf};
+ghost use Rattle.hider.specs.Tiles.{Shows};
+ghost use Rattle.outside.specs.Causes.{Rose};
+ghost use Rattle.filter_ppm.specs.Film.{pixels};
+ghost use Rattle.buckets.specs.Pictures.{frame_leaves};
+ghost use Rattle.buckets.specs.TileWalk.{bucket_of, draws, tile_grid, tile_count, format_in, picture_rect, fragments_of};
+ghost use Rattle.buckets.specs.Standing.{Begun, IsDrawn, IsFirstDrawn};
+ghost use Rattle.buckets.specs.Rows.{HasRow, PutsTo, PutsInPart, bucket_bytes, film};
+ghost use Rattle.buckets.specs.declared.share.Share.TheVariants.{Whole, Nth};
+ghost use Rattle.buckets.specs.declared.limits.DrawFault.TheVariants.{WriteFault};
+
+use crate::limits::DrawFault;
+use crate::row_band::{bucket_at, new_row, put_bucket, put_row, turn_row};
+use crate::share::Share;
+use crate::shown::Shown;
+use filter_ppm::{PixelFilter, append_band};
+use fixed_math::NoMemory;
+use hider::Tile;
+use outside::{FrameSink, put_all};
+use parts::append_number;
+use std::alloc::Global;
+
+/// The pixels of the row of the first bucket, none of which is known yet, where a whole picture is drawn.
+pub(crate) fn first_row(
+    alloc: Global,
+    shown: &Shown<'_>,
+    at: usize,
+) -> Result<Vec<[u32; 3]>, NoMemory>
+    ghost begun: { Begun }
+    requires drawn { IsDrawn begun shown.now }
+    requires at { at < tile_count begun.drawing }
+    ensures { IfOk result (λ row. HasRow begun.drawing at (picture_rect begun.drawing.frame).left row.items) }
+{
+    match shown.share {
+        Share::Whole => Ok(new_row(alloc, shown, at)?),
+        Share::Nth { .. } => Ok(Vec::new(alloc)),
+    }
+}
+
+/// Goes from the row of bucket `at` to that of the next one, where these are two.
+pub(crate) fn next_row(
+    alloc: Global,
+    shown: &Shown<'_>,
+    at: usize,
+    row: &mut Vec<[u32; 3]>,
+) -> Result<(), NoMemory>
+    ghost begun: { Begun }
+    requires drawn { IsDrawn begun shown.now }
+    requires at { at + 1 < tile_count begun.drawing }
+    requires row { HasRow begun.drawing at (bucket_of begun.drawing at).right row.old.items }
+    ensures { OnOk result (HasRow begun.drawing (at + 1) (bucket_of begun.drawing (at + 1)).left row.new.items) }
+{
+    match shown.share {
+        Share::Whole => turn_row(alloc, shown, at, row)?,
+        Share::Nth { .. } => (),
+    }
+    Ok(())
+}
+
+// The number of a bucket, and its pixels by rows.
+fn bytes_of(
+    alloc: Global,
+    shown: &Shown<'_>,
+    at: usize,
+    tile: &Tile,
+    filter: &mut PixelFilter,
+) -> Result<Vec<u8>, NoMemory>
+    ghost begun: { Begun }
+    requires drawn { IsDrawn begun shown.now }
+    requires at { at < tile_count begun.drawing }
+    requires format { filter.old ≡ format_in begun.drawing.frame }
+    requires grid { tile.now.grid ≡ tile_grid begun.drawing at }
+    requires shows { Shows tile.now (fragments_of begun.drawing (frame_leaves begun.drawing.frame)) }
+    ensures format { filter.new ≡ filter.old }
+    ensures bytes { IfOk result (λ bytes. bytes.items ≡ bucket_bytes begun.drawing at) }
+{
+    let pixels = filter.pixels(alloc, tile, bucket_at(shown, at))?;
+    let frame = shown.frame;
+    let mut bytes = Vec::new(alloc);
+    append_number(&mut bytes, at as u32)?;
+    append_band(&mut bytes, &frame.options, pixels.as_slice())?;
+    Ok(bytes)
+}
+
+// Puts a bucket of a part to the sink.
+fn put_alone<O: FrameSink>(
+    alloc: Global,
+    shown: &Shown<'_>,
+    at: usize,
+    tile: &Tile,
+    filter: &mut PixelFilter,
+    sink: &mut O,
+) -> Result<(), DrawFault>
+    ghost begun: { Begun }
+    requires drawn { IsDrawn begun shown.now }
+    requires part { (part parts : ℕ) × (begun.drawing.share ≡ Nth part parts) }
+    requires at { at < tile_count begun.drawing }
+    requires here { draws begun.drawing at ≡ true }
+    requires format { filter.old ≡ format_in begun.drawing.frame }
+    requires grid { tile.now.grid ≡ tile_grid begun.drawing at }
+    requires shows { Shows tile.now (fragments_of begun.drawing (frame_leaves begun.drawing.frame)) }
+    requires open { O.is_open sink.old ≡ true }
+    requires put { PutsTo begun at (O.written sink.old) }
+    ensures format { filter.new ≡ filter.old }
+    ensures open { O.is_open sink.new ≡ true }
+    ensures put { OnOk result (PutsTo begun (at + 1) (O.written sink.new)) }
+    ensures part { OnErr result (PutsInPart begun (O.written sink.new)) }
+    ensures later { O.faults sink.old ≤ O.faults sink.new }
+    ensures failed { IsErrOf result WriteFault → Rose (O.faults sink.old) (O.faults sink.new) }
+{
+    let bytes = bytes_of(alloc, shown, at, tile, filter)?;
+    put_all(sink, &bytes)?;
+    Ok(())
+}
+
+// Puts a bucket of a whole picture into its row, and a row that is done to the sink.
+fn put_in_row<O: FrameSink>(
+    alloc: Global,
+    shown: &Shown<'_>,
+    at: usize,
+    tile: &Tile,
+    filter: &mut PixelFilter,
+    row: &mut Vec<[u32; 3]>,
+    sink: &mut O,
+) -> Result<(), DrawFault>
+    ghost begun: { Begun }
+    requires drawn { IsDrawn begun shown.now }
+    requires whole { begun.drawing.share ≡ Whole }
+    requires at { at < tile_count begun.drawing }
+    requires format { filter.old ≡ format_in begun.drawing.frame }
+    requires grid { tile.now.grid ≡ tile_grid begun.drawing at }
+    requires shows { Shows tile.now (fragments_of begun.drawing (frame_leaves begun.drawing.frame)) }
+    requires row { HasRow begun.drawing at (bucket_of begun.drawing at).left row.old.items }
+    requires open { O.is_open sink.old ≡ true }
+    requires put { PutsTo begun at (O.written sink.old) }
+    ensures format { filter.new ≡ filter.old }
+    ensures row { OnOk result (HasRow begun.drawing at (bucket_of begun.drawing at).right row.new.items) }
+    ensures open { O.is_open sink.new ≡ true }
+    ensures put { OnOk result (PutsTo begun (at + 1) (O.written sink.new)) }
+    ensures part { OnErr result (PutsInPart begun (O.written sink.new)) }
+    ensures later { O.faults sink.old ≤ O.faults sink.new }
+    ensures failed { IsErrOf result WriteFault → Rose (O.faults sink.old) (O.faults sink.new) }
+{
+    put_bucket(shown, at, tile, filter, row)?;
+    put_row(alloc, shown, at, row.as_slice(), sink)?;
+    Ok(())
+}
+
+/// Puts the pixels of a bucket, whose tile shows the whole frame: of a whole picture into their row, and a row that is done to the
+/// sink; of a part to the sink at once.
+pub(crate) fn put_pixels<O: FrameSink>(
+    alloc: Global,
+    shown: &Shown<'_>,
+    at: usize,
+    tile: &Tile,
+    filter: &mut PixelFilter,
+    row: &mut Vec<[u32; 3]>,
+    sink: &mut O,
+) -> Result<(), DrawFault>
+    ghost begun: { Begun }
+    requires drawn { IsDrawn begun shown.now }
+    requires at { at < tile_count begun.drawing }
+    requires here { draws begun.drawing at ≡ true }
+    requires format { filter.old ≡ format_in begun.drawing.frame }
+    requires grid { tile.now.grid ≡ tile_grid begun.drawing at }
+    requires shows { Shows tile.now (fragments_of begun.drawing (frame_leaves begun.drawing.frame)) }
+    requires row { HasRow begun.drawing at (bucket_of begun.drawing at).left row.old.items }
+    requires open { O.is_open sink.old ≡ true }
+    requires put { PutsTo begun at (O.written sink.old) }
+    ensures format { filter.new ≡ filter.old }
+    ensures row { OnOk result (HasRow begun.drawing at (bucket_of begun.drawing at).right row.new.items) }
+    ensures open { O.is_open sink.new ≡ true }
+    ensures put { OnOk result (PutsTo begun (at + 1) (O.written sink.new)) }
+    ensures part { OnErr result (PutsInPart begun (O.written sink.new)) }
+    ensures later { O.faults sink.old ≤ O.faults sink.new }
+    ensures failed { IsErrOf result WriteFault → Rose (O.faults sink.old) (O.faults sink.new) }
+{
+    match shown.share {
+        Share::Whole => put_in_row(alloc, shown, at, tile, filter, row, sink),
+        Share::Nth { .. } => put_alone(alloc, shown, at, tile, filter, sink),
+    }
+}

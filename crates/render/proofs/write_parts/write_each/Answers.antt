@@ -1,0 +1,42 @@
+use Rattle.std.proofs.Common.{◌∷◌, [], ◌∙◌, subst, arith}
+use Rattle.outside.specs.Frames.{whole, Adds, AddsPart}
+use Rattle.displace_shade.specs.Shop.{set_value}
+use Rattle.displace_shade.specs.declared.set.ShaderSet.{ShaderSet}
+use Rattle.buckets.specs.Shopped.{shaded_by}
+use Rattle.render.specs.Parts.{part_picture}
+use Rattle.render.proofs.Parting.{next_added, next_in_part, all_added}
+use Rattle.render.proofs.write_parts.write_each.Goals as goal
+
+pub returns-in_err-drawn_part-clause-err : goal.returns-in_err-drawn_part-clause-err
+returns-in_err-drawn_part-clause-err g c =
+    let a = shaded_by c.args.scene.now c.args.shop.now in
+    let f = c.index-frames-index.result in
+    let x = g.O.FrameSink.written c.args.sink.now in
+    let y = g.O.FrameSink.written c.loop-index.sink in
+    let z = g.O.FrameSink.written c.drawn_part.new.sink in
+    next_in_part c.from_residual.result c.args.task a c.frames_in-frames.result.now c.args.scene.now.frames c.loop-index.index f x y z c.frames_in-frames.ensures c.loop-index-test.true c.index-frames-index.is
+    c.loop-index.invariant.added
+    (subst (λ (s : ShaderSet). AddsPart (part_picture c.args.task (record { scene = c.args.scene.now; set = set_value s }) (record { place = c.loop-index.index; frame = f })) y z)
+    c.loop-index.invariant.set c.in_err-drawn_part.ensures.err)
+
+pub loop-index-preserved : goal.loop-index-preserved
+loop-index-preserved g c =
+    let a = shaded_by c.args.scene.now c.args.shop.now in
+    let f = c.index-frames-index.result in
+    let x = g.O.FrameSink.written c.args.sink.now in
+    let y = g.O.FrameSink.written c.loop-index.sink in
+    let z = g.O.FrameSink.written c.drawn_part.new.sink in
+    let one = subst (λ (s : ShaderSet). Adds (whole (part_picture c.args.task (record { scene = c.args.scene.now; set = set_value s }) (record { place = c.loop-index.index; frame = f })) ∷ []) y z)
+    c.loop-index.invariant.set c.in_ok-drawn_part.ensures.ok in
+    record {
+      closed = c.in_ok-drawn_part.ensures.closed;
+      added = next_added c.args.task a c.frames_in-frames.result.now c.loop-index.index f x y z c.loop-index-test.true c.index-frames-index.is c.loop-index.invariant.added one;
+      later = omega (arith, c.loop-index.invariant.later, c.drawn_part.ensures.later);
+      set = c.in_ok-drawn_part.ensures.set ∙ c.loop-index.invariant.set;
+      count = omega (arith, c.loop-index.invariant.count, c.in_ok-drawn_part.ensures.count);
+    }
+
+pub returns-clause-ok : goal.returns-clause-ok
+returns-clause-ok g c =
+    all_added c.args.task (shaded_by c.args.scene.now c.args.shop.now) c.frames_in-frames.result.now c.args.scene.now.frames c.loop-index.index (g.O.FrameSink.written c.args.sink.now) (g.O.FrameSink.written c.loop-index.sink)
+    c.frames_in-frames.ensures (omega (arith, c.loop-index-test.false)) c.loop-index.invariant.added
