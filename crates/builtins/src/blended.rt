@@ -2,9 +2,9 @@
 ghost use Rattle.std.specs.Prelude.{◌≡◌, ◌<◌, ◌≤◌, ◌^◌, pos, ◌+ℤ◌, unsigned_abs};
 ghost use Rattle.fixed_math.specs.Whole.{floor_by};
 ghost use Rattle.builtins.specs.Noise as spec;
+ghost use Rattle.builtins.specs.Numbers.{hermite, mix};
 ghost use Rattle.builtins.specs.Noise.{row_of, of_row};
 
-use crate::numbers::{hermite, mix};
 use fixed_math::{Num, Vec3, with_word};
 
 /// A whole number as a word of 32 bits.
@@ -15,10 +15,23 @@ fn word(n: i64) -> u32
 }
 
 // The value at a point of the lattice, by the hash of its first two words.
-fn lattice(row: u32, z: u32) -> Num
-    ensures { result ≡ of_row row z }
+fn lattice(row: u32, z: u32) -> u64
+    ensures value { pos result ≡ of_row row z }
+    ensures small { result < 65536 }
 {
-    Num::sat((with_word(row, z) >> 16) as i128)
+    (with_word(row, z) >> 16) as u64
+}
+
+// The mix of two numbers from 0 to below 1, as far as `t` from 0 to 1 says: nothing of it has to be cut.
+#[tactic(auto, using(crate::proofs::Noises::blend_is, crate::proofs::Noises::blend_small))]
+fn blend(a: u64, b: u64, t: u64) -> u64
+    requires a { a < 65536 }
+    requires b { b < 65536 }
+    requires t { t ≤ 65536 }
+    ensures value { pos result ≡ mix (pos a) (pos b) (pos t) }
+    ensures small { result < 65536 }
+{
+    a * (65536 - t) / 65536 + b * t / 65536
 }
 
 /// The next whole number.
@@ -58,32 +71,39 @@ fn rows_at(x: i64, y: i64) -> Rows
 }
 
 // The blend of the four points about a point that have its third word.
-fn along_y(u: Num, v: Num, rows: &Rows, x: i64, y: i64, z: i64) -> Num
+fn along_y(u: u64, v: u64, rows: &Rows, x: i64, y: i64, z: i64) -> u64
+    requires u { u ≤ 65536 }
+    requires v { v ≤ 65536 }
     requires near { rows.now.near ≡ row_of x y }
     requires next { rows.now.next ≡ row_of (x +ℤ pos 1) y }
     requires far_near { rows.now.far_near ≡ row_of x (y +ℤ pos 1) }
     requires far_next { rows.now.far_next ≡ row_of (x +ℤ pos 1) (y +ℤ pos 1) }
-    ensures { result ≡ spec.along_y u v x y z }
+    ensures value { pos result ≡ spec.along_y (pos u) (pos v) x y z }
+    ensures small { result < 65536 }
 {
     let third = word(z);
-    let low = mix(lattice(rows.near, third), lattice(rows.next, third), u);
-    let high = mix(
+    let low = blend(lattice(rows.near, third), lattice(rows.next, third), u);
+    let high = blend(
         lattice(rows.far_near, third),
         lattice(rows.far_next, third),
         u,
     );
-    mix(low, high, v)
+    blend(low, high, v)
 }
 
 #[tactic(auto, unfolding(crate::specs::Noise::along_z))]
-fn along_z(u: Num, v: Num, w: Num, x: i64, y: i64, z: i64) -> Num
+fn along_z(u: u64, v: u64, w: u64, x: i64, y: i64, z: i64) -> u64
+    requires u { u ≤ 65536 }
+    requires v { v ≤ 65536 }
+    requires w { w ≤ 65536 }
     requires x { unsigned_abs x < 2 ^ 32 }
     requires y { unsigned_abs y < 2 ^ 32 }
     requires z { unsigned_abs z < 2 ^ 32 }
-    ensures { result ≡ spec.along_z u v w x y z }
+    ensures value { pos result ≡ spec.along_z (pos u) (pos v) (pos w) x y z }
+    ensures small { result < 65536 }
 {
     let rows = rows_at(x, y);
-    mix(
+    blend(
         along_y(u, v, &rows, x, y, z),
         along_y(u, v, &rows, x, y, next(z)),
         w,
@@ -99,10 +119,21 @@ fn whole(x: Num) -> i64
 }
 
 /// The part behind it.
-fn rest(x: Num) -> Num
-    ensures { result ≡ spec.rest x }
+fn rest(x: Num) -> u64
+    ensures value { pos result ≡ spec.rest x }
+    ensures small { result < 65536 }
 {
-    Num::sat(x.raw().rem_euclid(65536) as i128)
+    x.raw().rem_euclid(65536) as u64
+}
+
+/// How far `t` from 0 to below 1 is on a smooth way from 0 to 1.
+#[tactic(auto, using(crate::proofs::Noises::weight_is, crate::proofs::Noises::weight_small))]
+fn weight(t: u64) -> u64
+    requires { t < 65536 }
+    ensures value { pos result ≡ hermite (pos t) }
+    ensures small { result ≤ 65536 }
+{
+    t * t / 65536 * (196608 - 2 * t) / 65536
 }
 
 /// Noise at a point: a number from 0 to below 1 that varies smoothly.
@@ -110,6 +141,6 @@ fn rest(x: Num) -> Num
 pub fn noise(p: Vec3) -> Num
     ensures { result ≡ spec.noise p }
 {
-    let (u, v, w) = (hermite(rest(p.x)), hermite(rest(p.y)), hermite(rest(p.z)));
-    along_z(u, v, w, whole(p.x), whole(p.y), whole(p.z))
+    let (u, v, w) = (weight(rest(p.x)), weight(rest(p.y)), weight(rest(p.z)));
+    Num::sat(along_z(u, v, w, whole(p.x), whole(p.y), whole(p.z)) as i128)
 }

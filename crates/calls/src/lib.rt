@@ -1,6 +1,6 @@
 //! Tests of what only a call shows: numbers, rows of them and texts, the memory forms of files, frames and notes, tokens and
-//! requests, surfaces with their maps, splits and sample places, meshes and polygons, tiles of samples, filters and levels, and the
-//! joining of parts. What a text or a command's words can show is a case of `conformance`.
+//! requests, surfaces with their maps, splits and sample places, meshes and polygons, tiles of samples, filters and levels, the
+//! joining of parts, and textures with their look-ups. What a text or a command's words can show is a case of `conformance`.
 #![tactic(auto)]
 
 #[cfg(test)]
@@ -22,3 +22,5 @@ mod scene_text;
 #[cfg(test)]
 mod surfaces;
 pub mod texts;
+#[cfg(test)]
+mod textures;

@@ -226,7 +226,7 @@ fn run_seen<L: Illumination>(
     for n in 0..lights.count() {
         lights.ask(n, &scope.points.planes());
         let answers = lights.answers(n);
-        let seen = answers.seen(&scope.cone(), count);
+        let seen = answers.seen(&scope.cones, count);
         let live = m.live;
         m.live = live.and(&seen, count);
         m.enter(&answers);

@@ -11,13 +11,25 @@ use crate::machine::Machine;
 use fixed_math::{Num, Vec3};
 use grid_code::Register;
 
-/// Makes all elements 0.
+// Makes at most 128 elements from one on 0.
+fn clear_piece(rows: &mut [i64], start: usize)
+    requires { start ≤ length rows.old }
+    ensures long { length rows.new ≡ length rows.old }
+    ensures before { (k : ℕ) → k < start → get_or rows.new k (pos 0) ≡ get_or rows.old k (pos 0) }
+    ensures zero { (k : ℕ) → start ≤ k → k < start + 128 → k < length rows.old → get_or rows.new k (pos 0) ≡ pos 0 }
+{
+    for k in start..start + (rows.len() - start).min(128) {
+        rows[k] = 0;
+    }
+}
+
+/// Makes all elements 0, a kilobyte at a time, for which no instruction has to go through memory byte by byte.
 pub fn clear(rows: &mut [i64])
     ensures long { length rows.new ≡ length rows.old }
     ensures raws { (k : ℕ) → IsRaw (get_or rows.new k (pos 0)) }
 {
-    for k in 0..rows.len() {
-        rows[k] = 0;
+    for piece in 0..rows.len().div_ceil(128) {
+        clear_piece(rows, 128 * piece);
     }
 }
 

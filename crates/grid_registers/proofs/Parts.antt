@@ -14,7 +14,8 @@ use Rattle.sl_ast.specs.declared.typed.Value.TheVariants as values
 use Rattle.builtins.specs.declared.shape.Shape.{Shape}
 use Rattle.builtins.specs.declared.shape.Shape.TheVariants as shapes
 use Rattle.builtins.specs.Shapes.{shape}
-use Rattle.builtins.specs.Table.{placed}
+use Rattle.builtins.specs.Noise.{noise}
+use Rattle.builtins.specs.Table.{placed, noise_of}
 use Rattle.builtins.specs.Triples.{each, each_two}
 use Rattle.builtins.specs.Values.{number_of, triple_of, as_shape, shape_of, by_part, by_parts, by_three_parts, each_three, chosen}
 use Rattle.number_rows.specs.Planes.{triple_in, IsPlane, ArePlanes}
@@ -195,6 +196,12 @@ module _ (r : Registers) (q t : Operand) (i : ℕ) (b : Bool) where
   pub choice_of_triples : has_triple q t ≡ true → chosen b (operand_at r q i) (operand_at r t i) ≡ values.Triple (record { x = cond b (triple_of (operand_at r q i)).x (triple_of (operand_at r t i)).x; y = cond b (triple_of (operand_at r q i)).y (triple_of (operand_at r t i)).y; z = cond b (triple_of (operand_at r q i)).z (triple_of (operand_at r t i)).z })
   choice_of_triples h =
       chosen_of_others b (operand_at r q i) (operand_at r t i) (ap (λ s. is_triple s || is_triple (shape (operand_at r t i))) (operand_shape r q i) ∙ ap (λ s. is_triple (shape_at q) || is_triple s) (operand_shape r t i) ∙ h)
+
+-- noise of a value of the shape of triples is that at the triple
+pub noise_of_triple : (v : Value) → shape v ≡ shapes.Triple → noise_of v ≡ values.Number (noise (triple_of v))
+noise_of_triple (values.Number x) h = absurd (true≢false (sym (ap is_triple h)))
+noise_of_triple (values.Triple t) h = refl
+noise_of_triple (values.Word w) h = refl
 
 -- a value of the shape of triples is the triple that it stands for
 pub triple_back : (v : Value) → shape v ≡ shapes.Triple → values.Triple (triple_of v) ≡ v

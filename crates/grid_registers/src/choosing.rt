@@ -16,8 +16,8 @@ use builtins::{Shape, shape_of};
 use fixed_math::Axis;
 use grid_code::Register;
 use number_rows::{
-    And, Cross, Distance, Dot, FaceForward, Length, Normalize, Not, Or, Power, Reflect, SmoothStep,
-    Step,
+    And, Cross, Distance, Dot, FaceForward, Length, Noise, Normalize, Not, Or, Power, Reflect,
+    SmoothStep, Step,
 };
 use place_rows::Bank;
 use sl_ast::{SlType, SpaceName, ValueOperation as Op};
@@ -81,6 +81,21 @@ impl Registers<'_> {
                 self.frame.places,
                 row,
             ),
+        }
+    }
+
+    // Noise at the points or numbers of an operand.
+    fn noise(&self, p: Operand, row: &mut Bank)
+        requires p { OperandIn self.now p }
+        requires room { (s : AnyShape) → size row.old s ≡ self.now.frame.now.places }
+        ensures size { (s : AnyShape) → size row.new s ≡ size row.old s }
+        ensures each { HoldsEach (texts_of self.now) row.new self.now.frame.now.places (work_at self.now (works.One ops.Noise p)) }
+    {
+        match shape_at(p) {
+            Shape::Triple => self.number_of_triple::<Noise>(p, row),
+            Shape::Number | Shape::Word => {
+                self.fill(&Work::One(Op::Noise, p), self.frame.places, row)
+            }
         }
     }
 
@@ -178,6 +193,7 @@ impl Registers<'_> {
             Op::ZComp => self.component(Axis::Z, p, row),
             Op::Length => self.number_of_triple::<Length>(p, row),
             Op::Normalize => self.triple_of_one::<Normalize>(p, row),
+            Op::Noise => self.noise(p, row),
             _ => self.fill(&Work::One(op, p), self.frame.places, row),
         }
     }

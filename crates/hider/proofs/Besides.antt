@@ -5,7 +5,6 @@ use Rattle.std.specs.Option.{option_and_then}
 use Rattle.std.proofs.lemmas.Int.{ints}
 use Rattle.transforms.specs.declared.view.View.{View}
 use Rattle.hider.specs.declared.bounds.Bounds.{Bounds}
-use Rattle.hider.specs.declared.flat_cell.FlatCell.{FlatCell}
 use Rattle.hider.specs.declared.fragment.Fragment.{Fragment}
 use Rattle.hider.specs.declared.quad.Quad.{Quad}
 use Rattle.hider.specs.declared.sample_grid.SampleGrid.{SampleGrid}
@@ -13,7 +12,7 @@ use Rattle.hider.specs.Bounding.{bounds_of}
 use Rattle.hider.specs.Cells.{still, seen, projected}
 use Rattle.hider.specs.CellValues.{CellValues, cell_when}
 use Rattle.hider.specs.Coverage.{covers}
-use Rattle.hider.specs.Flat.{raster_point, flat_quad, are_all_seen, AreBoxes, IsPlaced}
+use Rattle.hider.specs.Flat.{FlatCell, raster_point, flat_quad, are_all_seen, AreBoxes, IsPlaced}
 use Rattle.hider.specs.Fragments.{covering}
 use Rattle.hider.specs.Searching.{IsBeside, IsNear, LiesBeside}
 use Rattle.hider.specs.Tiles.{HavePut, IsSampleGrid}

@@ -16,7 +16,6 @@ use Rattle.hider.specs.declared.areas.Areas.{Areas}
 use Rattle.hider.specs.declared.bounds.Bounds.{Bounds}
 use Rattle.hider.specs.declared.cell.Cell.{Cell}
 use Rattle.hider.specs.declared.facing.Facing.{Facing}
-use Rattle.hider.specs.declared.flat_cell.FlatCell.{FlatCell}
 use Rattle.hider.specs.declared.fragment.Fragment.{Fragment}
 use Rattle.hider.specs.declared.quad.Quad.{Quad}
 use Rattle.hider.specs.declared.raster_point.RasterPoint.{RasterPoint}
@@ -26,9 +25,9 @@ use Rattle.hider.specs.Bounding.{bounds_of, holds}
 use Rattle.hider.specs.Cells.{still, corner_of, projected, is_all_in_depth, is_turned_away, turn, seen, quad_of}
 use Rattle.hider.specs.CellValues.{CellValues, cell_when, grid_values, values_of, micropolygon_of}
 use Rattle.hider.specs.Coverage.{is_in_three, areas_at, mean_at, means_at, by_sign, covers_facing, covers_triangle, covers}
-use Rattle.hider.specs.Flat.{is_seen, raster_point, AreOnRaster, AreBoxes, flat_corner, flat_quad, are_all_seen, IsPlaced, IsFlat, facing_covers, IsFacingOf}
+use Rattle.hider.specs.Flat.{FlatCell, is_seen, raster_point, AreOnRaster, AreBoxes, flat_corner, flat_quad, are_all_seen, IsPlaced, IsFlat, facing_covers, held_covers, IsFacingOf}
 use Rattle.hider.specs.Fragments.{fragment_of, covering}
-use Rattle.hider.specs.Searching.{StaysIn, LiesBeside, column_of, row_of}
+use Rattle.hider.specs.Searching.{StaysIn, StaysInside, LiesOutside, LiesBeside, column_of, row_of}
 use Rattle.hider.specs.Tiles.{HavePut, sample_of}
 use Rattle.hider.specs.Weighing.{AreAreas}
 use Rattle.hider.proofs.Between.{mean_at-same}
@@ -257,3 +256,29 @@ not_held b q s e h =
 pub turn_is : (f : FlatCell) → turn (flat_quad f) ≡ edge f.a.place f.b.place f.c.place +ℤ edge f.a.place f.c.place f.d.place
 unfolding turn flat_quad
 turn_is f = refl
+
+-- ---- with a box
+held_is : (b : Bounds) (f : FlatCell) (s : Spot) → b ≡ bounds_of (flat_quad f) → held_covers b f s ≡ covers (flat_quad f) s
+held_is b f s e = by_bool (holds b s) (λ h. rw h refl) (λ h. rw h (sym (not_held b (flat_quad f) s e h)))
+
+pub held_put : (b : Bounds) (f : FlatCell) (g : SampleGrid) (l m : List (List Fragment)) → b ≡ bounds_of (flat_quad f) →
+    HavePut g (λ s. cons_option (held_covers b f s.place) []) l m → HavePut g (λ s. cons_option (covers (flat_quad f) s.place) []) l m
+held_put b f g l m e p n d h = let same = held_is b f (sample_of g n).place e in rw same at (p n d h)
+
+lt_not_le : (x y : ℤ) → x <ℤ y → int_le y x ≡ false
+lt_not_le x y h = let d : false ≡ int_le y x = omega (arith, ints) in sym d
+
+not_held_by : (b : Bounds) (s : Spot) → LiesOutside b s → holds b s ≡ false
+not_held_by b s (inl h) = let e = lt_not_le s.x b.left h in rw e refl
+not_held_by b s (inr (inl h)) = let e = lt_not_le b.right s.x h in by_bool (int_le b.left s.x) (λ l. rw (l, e) refl) (λ l. rw l refl)
+not_held_by b s (inr (inr (inl h))) =
+    let e = lt_not_le s.y b.top h in
+    by_bool (int_le b.left s.x) (λ l. by_bool (int_le s.x b.right) (λ r. rw (l, r, e) refl) (λ r. rw (l, r) refl)) (λ l. rw l refl)
+not_held_by b s (inr (inr (inr h))) =
+    let e = lt_not_le b.bottom s.y h in
+    by_bool (int_le b.left s.x)
+    (λ l. by_bool (int_le s.x b.right) (λ r. by_bool (int_le b.top s.y) (λ t. rw (l, r, t, e) refl) (λ t. rw (l, r, t) refl)) (λ r. rw (l, r) refl))
+    (λ l. rw l refl)
+
+pub held_inside : (b : Bounds) (f : FlatCell) → StaysInside b (λ s. held_covers b f s.place)
+held_inside b f s t l = let e = not_held_by b s.place l in rw e refl

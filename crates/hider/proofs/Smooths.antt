@@ -5,12 +5,11 @@ use Rattle.fixed_math.specs.declared.vec3.Vec3.{Vec3}
 use Rattle.fixed_math.specs.Axes.{origin}
 use Rattle.dice.specs.declared.diced.GridRef.{GridRef}
 use Rattle.transforms.specs.declared.view.View.{View}
-use Rattle.hider.specs.declared.flat_cell.FlatCell.{FlatCell}
 use Rattle.hider.specs.declared.quad.Quad.{Quad}
 use Rattle.hider.specs.declared.raster_point.RasterPoint.{RasterPoint}
 use Rattle.hider.specs.Cells.{corner_of, first_corner, projected}
 use Rattle.hider.specs.CellValues.{cell_when, values_of}
-use Rattle.hider.specs.Flat.{is_seen, raster_point, are_all_seen, own_corner, IsPlaced}
+use Rattle.hider.specs.Flat.{FlatCell, is_seen, raster_point, are_all_seen, own_corner, IsPlaced}
 use Rattle.hider.proofs.Flats.{all_seen}
 
 -- what is read of a colour at point n

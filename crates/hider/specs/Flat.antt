@@ -9,16 +9,16 @@ use Rattle.transforms.specs.Raster.{raster_x, raster_y}
 use Rattle.dice.specs.declared.diced.GridRef.{GridRef}
 use Rattle.hider.specs.declared.bounds.Bounds.{Bounds}
 use Rattle.hider.specs.declared.facing.Facing.{Facing}
-use Rattle.hider.specs.declared.flat_cell.FlatCell.{FlatCell}
 use Rattle.hider.specs.declared.fragment.Fragment.{Fragment}
 use Rattle.hider.specs.declared.quad.Corner.{Corner}
 use Rattle.hider.specs.declared.quad.Quad.{Quad}
+use Rattle.hider.specs.declared.raster_cell.RasterCell.{RasterCell}
 use Rattle.hider.specs.declared.raster_point.RasterPoint.{RasterPoint}
 use Rattle.hider.specs.declared.sample.Sample.{Sample}
 use Rattle.hider.specs.declared.seen_grid.SeenGrid.{SeenGrid}
-use Rattle.hider.specs.Bounding.{bounds_of}
+use Rattle.hider.specs.Bounding.{bounds_of, holds}
 use Rattle.hider.specs.CellValues.{CellValues, values_of, micropolygons_of}
-use Rattle.hider.specs.Coverage.{covers_facing, covers_triangle}
+use Rattle.hider.specs.Coverage.{covers, covers_facing, covers_triangle}
 use Rattle.hider.specs.Tiles.{TileValue, Shows, with_covering}
 
 -- a depth from near to far
@@ -37,6 +37,19 @@ raster_point v p = record {
 pub record AreOnRaster (v : View) (points : List Vec3) (seen : List RasterPoint) : Type 0 where
   pub count : length seen ≡ length points
   pub each : (n : ℕ) (d : RasterPoint) → n < length points → slice_index_or seen n d ≡ raster_point v (slice_index_or points n origin)
+
+-- a micropolygon of one colour and opacity: its corners in turn, as a camera sees them
+pub record FlatCell : Type 0 where
+  pub a : RasterPoint
+  pub b : RasterPoint
+  pub c : RasterPoint
+  pub d : RasterPoint
+  pub colour : Vec3
+  pub opacity : Vec3
+
+-- the one that stays where a grid has it
+abbrev pub flat_of : RasterCell → FlatCell
+flat_of r = record { a = r.a.now; b = r.b.now; c = r.c.now; d = r.d.now; colour = r.colour.now; opacity = r.opacity.now }
 
 -- a corner of a micropolygon
 abbrev pub flat_corner : FlatCell → RasterPoint → Corner
@@ -79,6 +92,10 @@ ShowsSeen s smooth one_sided flip old new =
 -- point n of a grid, which is on the raster, as a corner with its own colour and opacity
 abbrev pub own_corner : GridRef → RasterPoint → ℕ → Corner
 own_corner g p n = record { place = p.place; depth = p.depth; colour = slice_index_or g.ci.now n origin; opacity = slice_index_or g.oi.now n origin }
+
+-- what a micropolygon shows at a place that a box holds
+abbrev pub held_covers : Bounds → FlatCell → Spot → Option Fragment
+held_covers b f s = cond (holds b s) (covers (flat_quad f) s) None
 
 -- what a triangle of a micropolygon shows, if it is one
 abbrev pub facing_covers : FlatCell → Option Facing → Spot → Option Fragment

@@ -40,17 +40,24 @@ fn owns_edge(dx: i64, dy: i64) -> bool
 }
 
 /// Whether the side of an edge on which a place lies is the inner one, or the place lies on the edge and is its own.
-pub(crate) fn is_on_side(side: i64, owned: bool) -> bool
+fn is_on_side(side: i64, owned: bool) -> bool
     ensures { result ≡ by_side side owned }
 {
     side > 0 || side == 0 && owned
 }
 
 /// Whether the edge from `a` to `b` owns the places on it.
-pub(crate) fn owns_places(a: Spot, b: Spot) -> bool
+fn owns_places(a: Spot, b: Spot) -> bool
     ensures { result ≡ owns (b.x -ℤ a.x) (b.y -ℤ a.y) }
 {
     owns_edge(less(b.x(), a.x()), less(b.y(), a.y()))
+}
+
+/// Whether a place lies inside the edge from `a` to `b`, or on it where the edge owns it, by its side. Few places lie on edges.
+pub(crate) fn is_inner(side: i64, a: Spot, b: Spot) -> bool
+    ensures { result ≡ by_side side (owns (b.x -ℤ a.x) (b.y -ℤ a.y)) }
+{
+    side > 0 || side == 0 && owns_places(a, b)
 }
 
 /// Whether `s` lies inside the edge from `a` to `b`, or on it where the edge owns it.

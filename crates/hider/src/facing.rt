@@ -1,27 +1,21 @@
 // A triangle of a micropolygon of one colour, turned so that its area is positive.
-ghost use Rattle.std.specs.Prelude.{◌≡◌, ◌≤◌, ◌^◌, ◌<ℤ◌, ◌-ℤ◌, pos, true, false, unsigned_abs, MatchOption, IfSome};
-ghost use Rattle.fixed_math.specs.Edges.{edge, owns};
+ghost use Rattle.std.specs.Prelude.{◌≡◌, ◌≤◌, ◌^◌, ◌<ℤ◌, pos, true, false, unsigned_abs, MatchOption, IfSome};
+ghost use Rattle.fixed_math.specs.Edges.{edge};
 ghost use Rattle.hider.specs.Coverage.{is_in_three, areas_at};
 ghost use Rattle.hider.specs.Weighing.{AreAreas};
 
 use crate::areas::Areas;
-use crate::edges::{edge_at, is_on_side, owns_places};
+use crate::edges::{edge_at, is_inner};
 use crate::raster_point::RasterPoint;
 use crate::spot::Spot;
 
-/// A triangle whose twofold area is `whole`, above 0, with what its three edges in turn own of the places on them.
+/// A triangle whose twofold area is `whole`, above 0.
 #[derive(Clone, Copy)]
 pub(crate) struct Facing<'a> {
     pub(crate) a: &'a RasterPoint,
     pub(crate) b: &'a RasterPoint,
     pub(crate) c: &'a RasterPoint,
     pub(crate) whole: i64,
-    first: bool,
-    second: bool,
-    third: bool,
-    pub(crate) ghost first_is: { first ≡ owns (b.now.place.x -ℤ a.now.place.x) (b.now.place.y -ℤ a.now.place.y) },
-    pub(crate) ghost second_is: { second ≡ owns (c.now.place.x -ℤ b.now.place.x) (c.now.place.y -ℤ b.now.place.y) },
-    pub(crate) ghost third_is: { third ≡ owns (a.now.place.x -ℤ c.now.place.x) (a.now.place.y -ℤ c.now.place.y) },
     pub(crate) ghost whole_is: { whole ≡ edge a.now.place b.now.place c.now.place },
     pub(crate) ghost some: { pos 0 <ℤ whole },
     pub(crate) ghost small: { unsigned_abs whole ≤ 2 ^ 59 },
@@ -39,15 +33,7 @@ impl<'a> Facing<'a> {
         ensures b { result.b.now ≡ b.now }
         ensures c { result.c.now ≡ c.now }
     {
-        Facing {
-            a,
-            b,
-            c,
-            whole,
-            first: owns_places(a.place, b.place),
-            second: owns_places(b.place, c.place),
-            third: owns_places(c.place, a.place),
-        }
+        Facing { a, b, c, whole }
     }
 
     /// The triangle of three corners, turned so that its area is positive: `area` is its twofold area with its sign.
@@ -78,15 +64,15 @@ impl<'a> Facing<'a> {
         ensures small { IfSome result (λ w. unsigned_abs w.whole ≤ 2 ^ 59) }
     {
         let at_c = edge_at(self.a.place, self.b.place, s);
-        if !is_on_side(at_c, self.first) {
+        if !is_inner(at_c, self.a.place, self.b.place) {
             return None;
         }
         let at_a = edge_at(self.b.place, self.c.place, s);
-        if !is_on_side(at_a, self.second) {
+        if !is_inner(at_a, self.b.place, self.c.place) {
             return None;
         }
         let at_b = edge_at(self.c.place, self.a.place, s);
-        if !is_on_side(at_b, self.third) {
+        if !is_inner(at_b, self.c.place, self.a.place) {
             return None;
         }
         Some(Areas {

@@ -7,7 +7,7 @@ ghost use Rattle.hider.specs.Bounding.{bounds_of};
 ghost use Rattle.hider.specs.CellValues.{CellValues, micropolygons_of, cell_when, values_of};
 ghost use Rattle.hider.specs.Cells.{still, seen};
 ghost use Rattle.hider.specs.Coverage.{covers};
-ghost use Rattle.hider.specs.Flat.{AreBoxes, AreOnRaster, IsFlat, IsSeenBy, are_all_seen, flat_quad};
+ghost use Rattle.hider.specs.Flat.{AreBoxes, AreOnRaster, IsFlat, IsSeenBy, are_all_seen, flat_of, flat_quad, held_covers};
 ghost use Rattle.hider.specs.Fragments.{covering};
 ghost use Rattle.hider.specs.Searching.{IsPartOf, StaysIn};
 ghost use Rattle.hider.specs.Tiles.{HavePut, sample_count};
@@ -17,12 +17,12 @@ use crate::bounds::Bounds;
 use crate::edges::edge_at;
 use crate::extremes::{greatest_of, least_of};
 use crate::facing::Facing;
-use crate::flat_cell::FlatCell;
 use crate::flat_quad::FlatQuad;
 use crate::grid_cells::first_of;
 use crate::list::FragmentList;
 use crate::near::put_rows;
 use crate::places::Places;
+use crate::raster_cell::RasterCell;
 use crate::raster_point::{RasterPoint, put_on_raster};
 use crate::sample_grid::SampleGrid;
 use crate::seen_grid::SeenGrid;
@@ -50,8 +50,8 @@ pub(crate) fn fill_points<A: Allocator>(
 
 /// The least box that holds the corners.
 #[tactic(auto, unfolding(crate::specs::Bounding::bounds_of, crate::specs::Flat::flat_quad))]
-fn bounds_of(cell: &FlatCell) -> Bounds
-    ensures { result ≡ bounds_of (flat_quad cell.now) }
+fn bounds_of(cell: &RasterCell<'_>) -> Bounds
+    ensures { result ≡ bounds_of (flat_quad (flat_of cell.now)) }
 {
     let [a, b, c, d] = [cell.a.place, cell.b.place, cell.c.place, cell.d.place];
     Bounds {
@@ -62,8 +62,8 @@ fn bounds_of(cell: &FlatCell) -> Bounds
     }
 }
 
-pub(crate) fn are_all_seen(cell: &FlatCell) -> bool
-    ensures { result ≡ are_all_seen cell.now }
+pub(crate) fn are_all_seen(cell: &RasterCell<'_>) -> bool
+    ensures { result ≡ are_all_seen (flat_of cell.now) }
 {
     cell.a.is_seen && cell.b.is_seen && cell.c.is_seen && cell.d.is_seen
 }
@@ -82,16 +82,16 @@ fn hide_in(
     lists: &mut [FragmentList],
     places: &Places<'_>,
     part: &SampleGrid,
-    cell: &FlatCell,
+    cell: &RasterCell<'_>,
     bounds: &Bounds,
     one_sided: bool,
     flip: bool,
 ) -> Result<(), NoMemory>
     requires enough { sample_count places.now.grid ≤ length lists.old }
-    requires bounds { bounds.now ≡ bounds_of (flat_quad cell.now) }
     requires part { IsPartOf part.now places.now.grid }
-    requires beside { StaysIn part.now places.now.grid (λ s. covers (flat_quad cell.now) s.place) }
-    ensures { OnOk result (HavePut places.now.grid (λ s. cons_option (option_and_then (λ q. covers q s.place) (seen one_sided flip (flat_quad cell.now))) []) lists.old lists.new) }
+    requires beside { StaysIn part.now places.now.grid (λ s. held_covers bounds.now (flat_of cell.now) s.place) }
+    ensures { OnOk result (bounds.now ≡ bounds_of (flat_quad (flat_of cell.now)) →
+        HavePut places.now.grid (λ s. cons_option (option_and_then (λ q. covers q s.place) (seen one_sided flip (flat_quad (flat_of cell.now)))) []) lists.old lists.new) }
 {
     let first = edge_at(cell.a.place, cell.b.place, cell.c.place);
     let second = edge_at(cell.a.place, cell.c.place, cell.d.place);
@@ -101,62 +101,67 @@ fn hide_in(
     let quad = FlatQuad {
         cell,
         bounds,
-        first: Facing::of(&cell.a, &cell.b, &cell.c, first),
-        second: Facing::of(&cell.a, &cell.c, &cell.d, second),
+        first: Facing::of(cell.a, cell.b, cell.c, first),
+        second: Facing::of(cell.a, cell.c, cell.d, second),
     };
     put_rows(lists, places, part, &quad)?;
     Ok(())
 }
 
-/// Puts in what a cell shows at each sample.
+/// Puts in what a cell shows at each sample, with the least box that holds its corners.
 fn hide_flat(
     lists: &mut [FragmentList],
     places: &Places<'_>,
-    cell: &FlatCell,
+    cell: &RasterCell<'_>,
+    bounds: &Bounds,
     one_sided: bool,
     flip: bool,
 ) -> Result<(), NoMemory>
     requires enough { sample_count places.now.grid ≤ length lists.old }
-    ensures { OnOk result ((v : View) (k : CellValues) (i : ℕ) → IsFlat v k i cell.now → HavePut places.now.grid (covering v (still one_sided flip (cell_when k i 0) ∷ [])) lists.old lists.new) }
+    ensures { OnOk result ((v : View) (k : CellValues) (i : ℕ) → IsFlat v k i (flat_of cell.now) → bounds.now ≡ bounds_of (flat_quad (flat_of cell.now)) →
+        HavePut places.now.grid (covering v (still one_sided flip (cell_when k i 0) ∷ [])) lists.old lists.new) }
 {
     if !are_all_seen(cell) {
         return Ok(());
     }
-    let bounds = bounds_of(cell);
-    let part = part_near(&places.grid, &bounds);
+    let part = part_near(&places.grid, bounds);
     if part.left >= part.right {
         return Ok(());
     }
     if part.top >= part.bottom {
         return Ok(());
     }
-    hide_in(lists, places, &part, cell, &bounds, one_sided, flip)?;
+    hide_in(lists, places, &part, cell, bounds, one_sided, flip)?;
     Ok(())
 }
 
 /// Cell `cell` of a grid, whose points are on the raster.
-pub(crate) fn flat_cell(grid: &GridRef<'_>, seen: &[RasterPoint], cell: usize) -> FlatCell
+pub(crate) fn flat_cell<'a>(
+    grid: &GridRef<'a>,
+    seen: &'a [RasterPoint],
+    cell: usize,
+) -> RasterCell<'a>
     requires count { length seen.now ≡ length grid.now.p.now }
     requires cell { cell < (values_of false grid.now).count }
-    ensures { (v : View) → AreOnRaster v grid.now.p.now seen.now → IsFlat v (values_of false grid.now) cell result }
+    ensures { (v : View) → AreOnRaster v grid.now.p.now seen.now → IsFlat v (values_of false grid.now) cell (flat_of result) }
 {
     let columns = grid.columns;
     let n = first_of(columns, cell);
-    FlatCell {
-        a: seen[n],
-        b: seen[n + 1],
-        c: seen[n + columns + 1],
-        d: seen[n + columns],
-        colour: grid.ci[n],
-        opacity: grid.oi[n],
+    RasterCell {
+        a: &seen[n],
+        b: &seen[n + 1],
+        c: &seen[n + columns + 1],
+        d: &seen[n + columns],
+        colour: &grid.ci[n],
+        opacity: &grid.oi[n],
     }
 }
 
 /// Puts the boxes round a grid's cells, whose points are on the raster, into a row for them.
-pub(crate) fn fill_boxes<A: Allocator>(
+pub(crate) fn fill_boxes<'a, A: Allocator>(
     boxes: &mut Vec<Bounds, A>,
-    grid: &GridRef<'_>,
-    seen: &[RasterPoint],
+    grid: &GridRef<'a>,
+    seen: &'a [RasterPoint],
 ) -> Result<(), NoMemory>
     requires { length seen.now ≡ length grid.now.p.now }
     ensures count { OnOk result (length boxes.new.items ≡ (values_of false grid.now).count) }
@@ -186,7 +191,7 @@ fn hide_at(
         return Ok(());
     }
     let flat = flat_cell(&seen.grid, seen.points, cell);
-    hide_flat(lists, places, &flat, one_sided, flip)?;
+    hide_flat(lists, places, &flat, &seen.boxes[cell], one_sided, flip)?;
     Ok(())
 }
 

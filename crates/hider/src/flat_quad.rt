@@ -2,66 +2,64 @@
 ghost use Rattle.std.specs.Prelude.{◌≡◌, ◌<◌, ◌≤◌, ◌^◌, [], IfOk, OnOk, false, true, is_some, unsigned_abs};
 ghost use Rattle.std.specs.List.{cons_option};
 ghost use Rattle.fixed_math.specs.Edges.{edge};
-ghost use Rattle.hider.specs.Bounding.{bounds_of};
 ghost use Rattle.hider.specs.Coverage.{covers, means_at};
-ghost use Rattle.hider.specs.Flat.{IsFacingOf, flat_corner, flat_quad, facing_covers};
+ghost use Rattle.hider.specs.Flat.{IsFacingOf, flat_corner, flat_of, flat_quad, facing_covers, held_covers};
 ghost use Rattle.hider.specs.Kept.{keep, keep_all};
 ghost use Rattle.hider.specs.Weighing.{AreAreas};
 
 use crate::areas::Areas;
 use crate::bounds::Bounds;
 use crate::facing::Facing;
-use crate::flat_cell::FlatCell;
 use crate::fragment::Fragment;
 use crate::list::FragmentList;
 use crate::places::Places;
+use crate::raster_cell::RasterCell;
 use crate::showing::Showing;
 use crate::spot::Spot;
 use fixed_math::NoMemory;
 
-/// A micropolygon of one colour and opacity with its box and its two triangles.
+/// A micropolygon of one colour and opacity with a box, outside of which it isn't looked up, and its two triangles.
 #[derive(Drop)]
 pub(crate) struct FlatQuad<'a> {
-    pub(crate) cell: &'a FlatCell,
+    pub(crate) cell: &'a RasterCell<'a>,
     pub(crate) bounds: &'a Bounds,
     pub(crate) first: Option<Facing<'a>>,
     pub(crate) second: Option<Facing<'a>>,
-    pub(crate) ghost bounds_are: { bounds.now ≡ bounds_of (flat_quad cell.now) },
-    pub(crate) ghost first_is: { IsFacingOf cell.now.a cell.now.b cell.now.c first },
-    pub(crate) ghost second_is: { IsFacingOf cell.now.a cell.now.c cell.now.d second },
+    pub(crate) ghost first_is: { IsFacingOf cell.now.a.now cell.now.b.now cell.now.c.now first },
+    pub(crate) ghost second_is: { IsFacingOf cell.now.a.now cell.now.c.now cell.now.d.now second },
 }
 
 /// Puts in what a triangle of a micropolygon shows where it covers a place with these areas. Its colour and opacity are those
 /// of all corners.
 fn put_covered(
-    cell: &FlatCell,
+    cell: &RasterCell<'_>,
     t: &Facing<'_>,
     areas: &Areas,
     list: &mut FragmentList,
 ) -> Result<(), NoMemory>
     requires parts { AreAreas areas.now }
     requires small { unsigned_abs areas.now.whole ≤ 2 ^ 59 }
-    ensures { OnOk result (list.new ≡ keep (means_at areas.now (flat_corner cell.now t.now.a.now) (flat_corner cell.now t.now.b.now) (flat_corner cell.now t.now.c.now)) list.old) }
+    ensures { OnOk result (list.new ≡ keep (means_at areas.now (flat_corner (flat_of cell.now) t.now.a.now) (flat_corner (flat_of cell.now) t.now.b.now) (flat_corner (flat_of cell.now) t.now.c.now)) list.old) }
 {
     let Some(depth) = list.visible_depth(areas, t.a.depth, t.b.depth, t.c.depth) else {
         return Ok(());
     };
     list.put(Fragment {
         depth,
-        colour: cell.colour,
-        opacity: cell.opacity,
+        colour: *cell.colour,
+        opacity: *cell.opacity,
     })
 }
 
 /// Puts in what a triangle of a micropolygon shows at a place, and says whether it covers the place.
 fn put_facing(
-    cell: &FlatCell,
+    cell: &RasterCell<'_>,
     facing: &Option<Facing<'_>>,
     s: Spot,
     list: &mut FragmentList,
 ) -> Result<bool, NoMemory>
-    ensures covers { IfOk result (λ covered. covered ≡ is_some (facing_covers cell.now facing.now s)) }
-    ensures put { OnOk result (list.new ≡ keep_all list.old (cons_option (facing_covers cell.now facing.now s) [])) }
+    ensures covers { IfOk result (λ covered. covered ≡ is_some (facing_covers (flat_of cell.now) facing.now s)) }
+    ensures put { OnOk result (list.new ≡ keep_all list.old (cons_option (facing_covers (flat_of cell.now) facing.now s) [])) }
 {
     let Some(t) = facing else {
         return Ok(false);
@@ -75,7 +73,7 @@ fn put_facing(
 
 /// Puts in what the micropolygon shows at a place inside its box.
 fn put_inside(quad: &FlatQuad<'_>, s: Spot, list: &mut FragmentList) -> Result<(), NoMemory>
-    ensures { OnOk result (list.new ≡ keep_all list.old (cons_option (covers (flat_quad quad.now.cell.now) s) [])) }
+    ensures { OnOk result (list.new ≡ keep_all list.old (cons_option (covers (flat_quad (flat_of quad.now.cell.now)) s) [])) }
 {
     if put_facing(quad.cell, &quad.first, s, list)? {
         return Ok(());
@@ -85,7 +83,7 @@ fn put_inside(quad: &FlatQuad<'_>, s: Spot, list: &mut FragmentList) -> Result<(
 }
 
 impl<'a> Showing for FlatQuad<'a> {
-    ghost shown = { λ q s. covers (flat_quad q.cell.now) s.place };
+    ghost shown = { λ q s. held_covers q.bounds.now (flat_of q.cell.now) s.place };
 
     fn put_at(
         &self,

@@ -7,19 +7,19 @@ ghost use Rattle.transforms.specs.declared.view.View.{View};
 ghost use Rattle.hider.specs.CellValues.{cell_when, micropolygons_of, values_of};
 ghost use Rattle.hider.specs.Cells.{projected, still, seen};
 ghost use Rattle.hider.specs.Coverage.{covers};
-ghost use Rattle.hider.specs.Flat.{IsPlaced, IsSeenBy, are_all_seen, own_corner};
+ghost use Rattle.hider.specs.Flat.{IsPlaced, IsSeenBy, are_all_seen, flat_of, own_corner};
 ghost use Rattle.hider.specs.Fragments.{covering};
 ghost use Rattle.hider.specs.Tiles.{HavePut, sample_count};
 
 use crate::beside::is_beside;
 use crate::bounded::BoundedQuad;
-use crate::flat_cell::FlatCell;
 use crate::flat_hiding::{are_all_seen, flat_cell};
 use crate::grid_cells::first_of;
 use crate::list::FragmentList;
 use crate::near::put_near;
 use crate::places::Places;
 use crate::quad::{Corner, Quad};
+use crate::raster_cell::RasterCell;
 use crate::raster_point::RasterPoint;
 use crate::seen_grid::SeenGrid;
 use crate::sight::{is_turned_away, turn_of};
@@ -40,17 +40,17 @@ fn own_corner(grid: &GridRef<'_>, point: &RasterPoint, n: usize) -> Corner
 }
 
 /// Cell `cell` of a grid on the raster, whose points are those of a cell of one colour.
-fn smooth_quad(grid: &GridRef<'_>, cell: usize, flat: &FlatCell) -> Quad
+fn smooth_quad(grid: &GridRef<'_>, cell: usize, flat: &RasterCell<'_>) -> Quad
     requires { cell < (values_of true grid.now).count }
-    ensures { (v : View) → IsPlaced v (values_of true grid.now).corner cell flat.now → are_all_seen flat.now ≡ true → result ≡ projected v (cell_when (values_of true grid.now) cell 0) }
+    ensures { (v : View) → IsPlaced v (values_of true grid.now).corner cell (flat_of flat.now) → are_all_seen (flat_of flat.now) ≡ true → result ≡ projected v (cell_when (values_of true grid.now) cell 0) }
 {
     let columns = grid.columns;
     let n = first_of(columns, cell);
     Quad {
-        a: own_corner(grid, &flat.a, n),
-        b: own_corner(grid, &flat.b, n + 1),
-        c: own_corner(grid, &flat.c, n + columns + 1),
-        d: own_corner(grid, &flat.d, n + columns),
+        a: own_corner(grid, flat.a, n),
+        b: own_corner(grid, flat.b, n + 1),
+        c: own_corner(grid, flat.c, n + columns + 1),
+        d: own_corner(grid, flat.d, n + columns),
     }
 }
 

@@ -8,3 +8,5 @@ pub mod Bits
 pub mod Numbers
 pub mod Fours
 pub mod Sides
+pub mod Inverses
+pub mod Words

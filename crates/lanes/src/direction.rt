@@ -2,7 +2,9 @@
 ghost use Rattle.std.specs.Prelude.{◌≡◌, ℕ, ◌+◌, ◌*◌, ◌/◌, ◌^◌, ◌<◌, ◌≤◌, ℤ, pos, ◌≤ℤ◌, unsigned_abs};
 ghost use Rattle.fixed_math.specs.Fixed.{IsRaw};
 ghost use Rattle.fixed_math.specs.Unit.{square, norm, part, unit_part};
+ghost use Rattle.lanes.specs.Directions.{IsFine};
 
+use crate::fine::{Fine, fine_part};
 use crate::quotient::{Inverse, floor_by, inverse_of};
 use crate::root::{Root, isqrt, root_of};
 
@@ -19,7 +21,7 @@ fn square(c: i32) -> u64
     ensures value { result ≡ square c }
     ensures bound { result ≤ 4611686018427387904 }
 {
-    let magnitude = c.unsigned_abs() as u64;
+    let magnitude = (c as i64).unsigned_abs();
     magnitude * magnitude
 }
 
@@ -73,6 +75,25 @@ fn unit_by(x: i32, y: i32, z: i32, n: u64, by: Inverse) -> Direction
     }
 }
 
+// The same, where the inverse needs no test.
+#[inline(always)]
+#[tactic(auto, using(crate::proofs::Inverses::fine_some))]
+fn unit_fine(x: i32, y: i32, z: i32, n: u64, by: Fine) -> Direction
+    requires length { n ≡ norm x y z }
+    requires bound { n < 2 ^ 32 }
+    requires fine { IsFine n by.factor by.zeros }
+    ensures x { result.x ≡ unit_part x x y z }
+    ensures y { result.y ≡ unit_part y x y z }
+    ensures z { result.z ≡ unit_part z x y z }
+    ensures raws { IsRaw result.x × IsRaw result.y × IsRaw result.z }
+{
+    Direction {
+        x: fine_part(x, n, by),
+        y: fine_part(y, n, by),
+        z: fine_part(z, n, by),
+    }
+}
+
 /// The unit vector in the direction of a vector.
 #[inline(always)]
 pub fn unit(x: i32, y: i32, z: i32) -> Direction
@@ -82,7 +103,11 @@ pub fn unit(x: i32, y: i32, z: i32) -> Direction
     ensures raws { IsRaw result.x × IsRaw result.y × IsRaw result.z }
 {
     let n = norm_with_inverse(x, y, z);
-    unit_by(x, y, z, n.root, n.by)
+    if n.by.serves(n.root) {
+        unit_fine(x, y, z, n.root, n.by)
+    } else {
+        unit_by(x, y, z, n.root, inverse_of(n.root))
+    }
 }
 
 /// Four directions.

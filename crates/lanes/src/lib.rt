@@ -7,6 +7,7 @@
 mod calls;
 pub mod direction;
 mod edges;
+mod fine;
 pub mod kernels;
 pub mod mask;
 mod power;

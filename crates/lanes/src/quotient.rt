@@ -36,14 +36,6 @@ pub fn inverse_of(d: u64) -> Inverse {
     sharpened(x, second, zeros)
 }
 
-/// The same of a divisor of 32 bits, where it is nearly known: `first` is about 2^31 over `d` with its first bit brought to the
-/// top of 32, which are `zeros` bits.
-#[inline(always)]
-pub(crate) fn inverse_near(d: u64, first: u64, zeros: u32) -> Inverse {
-    let zeros = zeros & 31;
-    sharpened(d << zeros, first, zeros + 32)
-}
-
 #[inline(always)]
 pub(crate) fn guess(n: u64, by: Inverse) -> u64
     ensures { result < 2 ^ 32 }

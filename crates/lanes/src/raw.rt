@@ -1,5 +1,5 @@
 // Operations on single numbers.
-ghost use Rattle.std.specs.Prelude.{◌≡◌, ◌≤◌, ℤ, pos, neg_ℤ, ◌≤ℤ◌, ◌<ℤ◌, ◌+ℤ◌, unsigned_abs, cond, int_lt};
+ghost use Rattle.std.specs.Prelude.{◌≡◌, ◌≤◌, ℤ, pos, neg_ℤ, ◌≤ℤ◌, ◌<ℤ◌, ◌+ℤ◌, ◌*ℤ◌, unsigned_abs, cond, int_lt};
 ghost use Rattle.fixed_math.specs.Fixed.{sat, IsRaw, add, sub, mul};
 ghost use Rattle.fixed_math.specs.Whole.{floor_by};
 ghost use Rattle.lanes.specs.Kernels.{negated, magnitude, least, greatest, floor};
@@ -126,11 +126,42 @@ fn cut(p: i64) -> i32
     below(high, above(high, middle_of(p))).max(-LIMIT)
 }
 
+// The word of a number, which is 2^32 more than it where it is negative.
+#[inline(always)]
+fn word_of(a: i32) -> i64
+    ensures above { pos 0 ≤ℤ a → result ≡ a }
+    ensures below { a <ℤ pos 0 → result ≡ a +ℤ pos 4294967296 }
+    ensures small { unsigned_abs result ≤ 4294967296 }
+{
+    a.cast_unsigned() as i64
+}
+
+// `x` where `a` is negative, else 0.
+#[inline(always)]
+fn where_negative(a: i32, x: i64) -> i64
+    ensures above { pos 0 ≤ℤ a → result ≡ pos 0 }
+    ensures below { a <ℤ pos 0 → result ≡ x }
+    ensures small { unsigned_abs result ≤ unsigned_abs x }
+{
+    if a < 0 { x } else { 0 }
+}
+
+// The product, by that of words, since lanes of the processor multiply no others.
+#[inline(always)]
+fn product(a: i32, b: i32) -> i64
+    ensures value { result ≡ a *ℤ b }
+    ensures small { unsigned_abs result ≤ 4611686018427387904 }
+{
+    let (x, y) = (word_of(a), word_of(b));
+    let (m, n) = (where_negative(a, y), where_negative(b, a as i64));
+    (x as i128 * y as i128 - (m + n) as i128 * 4294967296) as i64
+}
+
 /// The product, rounded down and saturated.
 #[inline(always)]
 pub fn mul(a: i32, b: i32) -> i32
     ensures value { result ≡ mul a b }
     ensures raw { IsRaw result }
 {
-    cut(a as i64 * b as i64)
+    cut(product(a, b))
 }

@@ -3,7 +3,8 @@ ghost use Rattle.std.specs.Prelude.{◌≡◌, ◌<◌, ◌≤◌, ◌^◌, ◌*
 ghost use Rattle.fixed_math.specs.Fixed.{IsRaw, sqrt};
 ghost use Rattle.fixed_math.specs.Root.{isqrt};
 
-use crate::quotient::{Inverse, inverse_near, lies_within};
+use crate::fine::{Fine, fine_inverse};
+use crate::quotient::lies_within;
 use crate::tables::INVERSE_ROOTS;
 
 /// The root of a number of 64 bits.
@@ -66,11 +67,11 @@ fn settled(n: u64, r: u64) -> u64
     isqrt(n)
 }
 
-/// A root with the inverse by which quotients by it are guessed.
+/// A root with its inverse.
 #[derive(Clone, Copy)]
 pub(crate) struct Root {
     pub(crate) root: u64,
-    pub(crate) by: Inverse,
+    pub(crate) by: Fine,
 }
 
 /// The root of a number of 64 bits, and its inverse, which costs little beside it.
@@ -83,7 +84,7 @@ pub(crate) fn root_of(n: u64) -> Root
     let root = settled(n, guess.root);
     Root {
         root,
-        by: inverse_near(root, guess.inverse, guess.zeros),
+        by: fine_inverse(root, guess.inverse, guess.zeros),
     }
 }
 

@@ -2,4 +2,3 @@ pub mod Seen
 pub mod Loops
 pub mod Scopes
 pub mod Shares
-pub mod Cones

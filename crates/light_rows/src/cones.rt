@@ -1,11 +1,11 @@
-// Cones made ready for many directions. A grid has at most 17 columns of 17 places.
+// Cones made ready for many directions, and the points of statements over lights. A grid has at most 17 columns of 17 places.
 ghost use Rattle.std.specs.Prelude.{◌≡◌, ℕ, ◌<◌, ◌≤◌, pos, false, length, get_or};
 ghost use Rattle.fixed_math.specs.Sine.{cos};
 ghost use Rattle.fixed_math.specs.declared.vec3.Vec3.{Vec3 as AnyVec3};
 ghost use Rattle.builtins.specs.Triples.{normalize};
 ghost use Rattle.number_rows.specs.Planes.{plane_at, triple_at, triple_in, IsPlane, ArePlanes};
 ghost use Rattle.light_rows.specs.Seen.{cone_at, IsCone};
-ghost use Rattle.light_rows.specs.Cones.{cones_at};
+ghost use Rattle.light_rows.specs.Scopes.{cones_at, points_at, scope_at};
 
 use crate::points::{Numbers, Points};
 use crate::units::{cosine, one_unit};
@@ -16,7 +16,7 @@ use place_rows::Mask;
 
 /// The cone of each place by the unit of its axis and the cosine of its angle; where none is given, all directions lie in it.
 #[derive(Drop)]
-pub(crate) struct Cones {
+pub struct Cones {
     pub given: bool,
     pub axes: Points,
     pub cosines: Numbers,
@@ -95,8 +95,8 @@ impl Cones {
         cones
     }
 
-    // Whether a direction lies in the cone of a place, by its unit.
-    fn holds(&self, place: usize, unit: Vec3) -> bool
+    /// Whether a direction lies in the cone of a place, by its unit.
+    pub(crate) fn holds(&self, place: usize, unit: Vec3) -> bool
         requires { place < 289 }
         ensures { (l : AnyVec3) → unit ≡ normalize l → result ≡ cones_at self.now place l }
     {
@@ -108,8 +108,8 @@ impl Cones {
         }
     }
 
-    /// The places of directions that lie in them.
-    pub fn mask(&self, directions: &Planes, count: usize) -> Mask
+    // The places of directions that lie in them.
+    fn mask(&self, directions: &Planes, count: usize) -> Mask
         requires count { count ≤ 289 }
         requires directions { ArePlanes count directions.now }
         ensures { (i : ℕ) → i < count → get_or result.places i false ≡ cones_at self.now i (triple_at directions.now i) }
@@ -119,5 +119,47 @@ impl Cones {
             mask.places[place] = self.holds(place, Normalize::apply(directions.at(place)));
         }
         mask
+    }
+}
+
+impl Cone<'_> {
+    /// The places of directions that lie in it.
+    pub fn mask(&self, directions: &Planes, count: usize) -> Mask
+        requires count { count ≤ 289 }
+        requires cone { IsCone count self.now }
+        requires directions { ArePlanes count directions.now }
+        ensures { (i : ℕ) → i < count → get_or result.places i false ≡ cone_at self.now i (triple_at directions.now i) }
+    {
+        if self.given {
+            let cones = Cones::of(self, count);
+            cones.mask(directions, count)
+        } else {
+            Mask::full()
+        }
+    }
+}
+
+/// The points and the cones of a statement over lights, kept while its body runs.
+#[derive(Drop)]
+pub struct Scope {
+    pub points: Points,
+    pub cones: Cones,
+}
+
+impl Scope {
+    /// Those of the first places.
+    pub fn of(points: &Planes, cone: &Cone, count: usize) -> Scope
+        requires count { count ≤ 289 }
+        requires points { ArePlanes count points.now }
+        requires cone { IsCone count cone.now }
+        ensures points { (i : ℕ) → i < count → points_at result i ≡ triple_at points.now i }
+        ensures cone { (i : ℕ) (l : AnyVec3) → i < count → scope_at result i l ≡ cone_at cone.now i l }
+    {
+        let mut scope = Scope {
+            points: Points::zero(),
+            cones: Cones::of(cone, count),
+        };
+        scope.points.take(points, count);
+        scope
     }
 }

@@ -16,8 +16,9 @@ mod viewing;
 mod workroom;
 
 pub use answers::Answers;
+pub use cones::{Cones, Scope};
 pub use illumination::{Dark, Illumination};
-pub use points::{Numbers, Points, Scope};
+pub use points::{Numbers, Points};
 pub use sums::Sum;
 pub use triples::Triples;
 pub use viewing::{Cone, View};

@@ -13,7 +13,10 @@ ghost use Rattle.light_rows.specs.Seen.{size, at_place};
 use crate::triples::Triples;
 use builtins::max;
 use fixed_math::{Num, Vec3};
-use number_rows::{Dot, Normalize, OfTriples, Planes, Power, Raw, ToTriple, ToTriples, Two};
+use number_rows::{
+    Add, Dot, Multiply, Normalize, OfTriples, Planes, Power, Raw, ToTriple, ToTriples, Two,
+    number_of_triples,
+};
 
 // The sum of two triples.
 #[inline(always)]
@@ -56,6 +59,19 @@ fn weight_of(a: Vec3, b: Vec3) -> Raw
     Raw::of(positive(Dot::apply(a, b)))
 }
 
+// The same of triples in rows.
+struct Weight;
+
+impl OfTriples for Weight {
+    ghost formula = { weight };
+
+    #[inline(always)]
+    #[tactic(auto, unfolding(crate::specs::Loops::weight))]
+    fn apply(a: Vec3, b: Vec3) -> Num {
+        positive(Dot::apply(a, b))
+    }
+}
+
 /// The products of triples where they aren't negative, else 0.
 pub fn weigh(a: &Triples, b: &Triples, out: &mut [Raw])
     requires a { size a.now ≡ length out.old }
@@ -63,9 +79,9 @@ pub fn weigh(a: &Triples, b: &Triples, out: &mut [Raw])
     ensures long { length out.new ≡ length out.old }
     ensures each { (i : ℕ) → i < length out.old → get_or out.new i (pos 0) ≡ weight (at_place a.now i) (at_place b.now i) }
 {
-    for i in 0..out.len() {
-        out[i] = weight_of(a.at(i), b.at(i));
-    }
+    let Planes { x, y, z } = a.planes();
+    let Planes { x: u, y: v, z: w } = b.planes();
+    number_of_triples::<Weight>(&Planes { x, y, z }, &Planes { x: u, y: v, z: w }, out);
 }
 
 // Whether a number isn't 0.
@@ -96,16 +112,27 @@ fn truth(holds: bool) -> Raw
     }
 }
 
-// Whether a light is lit in front of a surface, by the units of the direction to it and of the normal, as a number.
+// The same as a number.
 #[inline(always)]
-#[tactic(auto, unfolding(crate::specs::Loops::is_before))]
-fn mark_of(lit: Raw, unit: Vec3, normal: Vec3) -> Raw
-    ensures { result ≡ truths.truth (is_before lit unit normal) }
+fn mark_of(lit: Raw, cosine: Raw) -> Raw
+    ensures { result ≡ truths.truth (is_nonzero lit && int_le (pos 0) cosine) }
 {
-    truth(is_lit_before(lit, Dot::apply(unit, normal)))
+    truth(is_lit_before(lit, cosine.number()))
+}
+
+// Where a light is lit in front of surfaces, in place of the cosines between them.
+fn mark_lit(lit: &[Raw], cosines: &mut [Raw])
+    requires lit { length lit.now ≡ length cosines.old }
+    ensures long { length cosines.new ≡ length cosines.old }
+    ensures each { (i : ℕ) → i < length cosines.old → get_or cosines.new i (pos 0) ≡ truths.truth (is_nonzero (get_or lit.now i (pos 0)) && int_le (pos 0) (get_or cosines.old i (pos 0))) }
+{
+    for i in 0..cosines.len() {
+        cosines[i] = mark_of(lit[i], cosines[i]);
+    }
 }
 
 /// Where a light is lit in front of surfaces, by the units of the directions to it and of the normals.
+#[tactic(auto, unfolding(crate::specs::Loops::is_before))]
 pub fn mark(lit: &[Raw], units: &Triples, normals: &Triples, out: &mut [Raw])
     requires lit { length lit.now ≡ length out.old }
     requires units { size units.now ≡ length out.old }
@@ -113,9 +140,10 @@ pub fn mark(lit: &[Raw], units: &Triples, normals: &Triples, out: &mut [Raw])
     ensures long { length out.new ≡ length out.old }
     ensures each { (i : ℕ) → i < length out.old → get_or out.new i (pos 0) ≡ truths.truth (is_before (get_or lit.now i (pos 0)) (at_place units.now i) (at_place normals.now i)) }
 {
-    for i in 0..out.len() {
-        out[i] = mark_of(lit[i], units.at(i), normals.at(i));
-    }
+    let Planes { x, y, z } = units.planes();
+    let Planes { x: u, y: v, z: w } = normals.planes();
+    number_of_triples::<Dot>(&Planes { x, y, z }, &Planes { x: u, y: v, z: w }, out);
+    mark_lit(lit, out);
 }
 
 // The sum of two numbers.
@@ -123,7 +151,7 @@ pub fn mark(lit: &[Raw], units: &Triples, normals: &Triples, out: &mut [Raw])
 fn sum(x: Raw, y: Raw) -> Raw
     ensures { result ≡ add x y }
 {
-    Raw::of(x.number().add(y.number()))
+    Add::apply(x, y)
 }
 
 // The product of two numbers.
@@ -131,7 +159,7 @@ fn sum(x: Raw, y: Raw) -> Raw
 fn product(x: Raw, y: Raw) -> Raw
     ensures { result ≡ mul x y }
 {
-    Raw::of(x.number().mul(y.number()))
+    Multiply::apply(x, y)
 }
 
 #[inline(always)]

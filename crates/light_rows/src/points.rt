@@ -1,11 +1,7 @@
 // Rows of numbers and triples that are kept while code runs. A grid has at most 17 columns of 17 places.
 ghost use Rattle.std.specs.Prelude.{◌≡◌, ℕ, ◌<◌, ◌≤◌, pos, length, get_or};
-ghost use Rattle.fixed_math.specs.declared.vec3.Vec3.{Vec3 as AnyVec3};
 ghost use Rattle.number_rows.specs.Planes.{plane_at, triple_at, triple_in, IsPlane, ArePlanes};
-ghost use Rattle.light_rows.specs.Seen.{cone_at, IsCone};
-ghost use Rattle.light_rows.specs.Scopes.{points_at, scope_at};
 
-use crate::viewing::Cone;
 use fixed_math::Vec3;
 use number_rows::{Plane, Planes, Raw};
 
@@ -97,49 +93,6 @@ impl Points {
             x: self.x.row[place].number(),
             y: self.y.row[place].number(),
             z: self.z.row[place].number(),
-        }
-    }
-}
-
-/// The points and the cones of a statement over lights, kept while its body runs.
-#[derive(Drop)]
-pub struct Scope {
-    pub points: Points,
-    pub given: bool,
-    pub axis: Points,
-    pub angle: Numbers,
-}
-
-impl Scope {
-    /// Those of the first places.
-    pub fn of(points: &Planes, cone: &Cone, count: usize) -> Scope
-        requires count { count ≤ 289 }
-        requires points { ArePlanes count points.now }
-        requires cone { IsCone count cone.now }
-        ensures points { (i : ℕ) → i < count → points_at result i ≡ triple_at points.now i }
-        ensures cone { (i : ℕ) (l : AnyVec3) → i < count → scope_at result i l ≡ cone_at cone.now i l }
-    {
-        let mut scope = Scope {
-            points: Points::zero(),
-            given: cone.given,
-            axis: Points::zero(),
-            angle: Numbers::zero(),
-        };
-        scope.points.take(points, count);
-        scope.axis.take(&cone.axis, count);
-        scope.angle.take(&cone.angle, count);
-        scope
-    }
-
-    /// The cones.
-    pub fn cone(&self) -> Cone<'_>
-        ensures cone { (c : ℕ) → c ≤ 289 → IsCone c result }
-        ensures each { (i : ℕ) (l : AnyVec3) → cone_at result i l ≡ scope_at self.now i l }
-    {
-        Cone {
-            given: self.given,
-            axis: self.axis.planes(),
-            angle: self.angle.plane(),
         }
     }
 }

@@ -5,12 +5,12 @@ ghost use Rattle.builtins.specs.Triples.{normalize};
 ghost use Rattle.builtins.specs.Values.{is_nonzero};
 ghost use Rattle.number_rows.specs.Planes.{plane_at, triple_at, ArePlanes};
 ghost use Rattle.builtins.specs.Lights.{Light};
+ghost use Rattle.light_rows.specs.Scopes.{cones_at};
 ghost use Rattle.light_rows.specs.Seen.{cone_at, shown_by, HasPlaces, HasPlanes, IsAnswer, IsShown, IsCone};
 
 use crate::answers::Answers;
 use crate::cones::Cones;
-use fixed_math::Vec3;
-use number_rows::{Dot, Normalize, OfTriples, Plane, Planes, Raw, ToTriple};
+use number_rows::{Plane, Planes, Raw};
 use place_rows::Mask;
 
 /// The cone of a statement over lights at each place, by its axis and its angle; without one, all directions are in it.
@@ -54,34 +54,6 @@ impl Cone<'_> {
             angle: Plane::Value(Raw::zero()),
         }
     }
-
-    // Whether a direction lies in the cone of a place, by its unit.
-    fn holds(&self, place: usize, unit: Vec3) -> bool
-        requires { IsCone (place + 1) self.now }
-        ensures { (l : AnyVec3) → unit ≡ normalize l → result ≡ cone_at self.now place l }
-    {
-        if self.given {
-            let cosine = Dot::apply(unit, Normalize::apply(self.axis.at(place)));
-            self.angle.at(place).number().cos().raw() <= cosine.raw()
-        } else {
-            true
-        }
-    }
-
-    /// The places of directions that lie in it.
-    pub fn mask(&self, directions: &Planes, count: usize) -> Mask
-        requires count { count ≤ 289 }
-        requires cone { IsCone count self.now }
-        requires directions { ArePlanes count directions.now }
-        ensures { (i : ℕ) → i < count → get_or result.places i false ≡ cone_at self.now i (triple_at directions.now i) }
-    {
-        if self.given {
-            let cones = Cones::of(self, count);
-            cones.mask(directions, count)
-        } else {
-            Mask::full()
-        }
-    }
 }
 
 impl Answers<'_> {
@@ -115,40 +87,38 @@ impl View<'_> {
     }
 
     // Whether a light is seen at a place.
-    fn is_seen(&self, cone: &Cone, place: usize) -> bool
+    fn is_seen(&self, cones: &Cones, place: usize) -> bool
         requires planes { HasPlanes (place + 1) self.now }
-        requires cone { IsCone (place + 1) cone.now }
-        ensures { (l : AnyVec3) → triple_at self.now.units place ≡ normalize l → result ≡ (is_nonzero (plane_at self.now.lit place) && cone_at cone.now place l) }
+        requires place { place < 289 }
+        ensures { (l : AnyVec3) → triple_at self.now.units place ≡ normalize l → result ≡ (is_nonzero (plane_at self.now.lit place) && cones_at cones.now place l) }
     {
-        self.lit.at(place).raw() != 0 && cone.holds(place, self.units.at(place))
+        self.lit.at(place).raw() != 0 && cones.holds(place, self.units.at(place))
     }
 
     // The places that see a light that isn't ambient.
-    fn seen_lit(&self, cone: &Cone, count: usize) -> Mask
+    fn seen_lit(&self, cones: &Cones, count: usize) -> Mask
         requires planes { HasPlanes count self.now }
         requires lit { self.now.ambient ≡ false }
         requires count { count ≤ 289 }
-        requires cone { IsCone count cone.now }
-        ensures { (l : Light) (i : ℕ) → i < count → IsShown self.now i l → get_or result.places i false ≡ is_some (shown_by (cone_at cone.now i) l) }
+        ensures { (l : Light) (i : ℕ) → i < count → IsShown self.now i l → get_or result.places i false ≡ is_some (shown_by (cones_at cones.now i) l) }
     {
         let mut mask = Mask::none();
         for place in 0..count {
-            mask.places[place] = self.is_seen(cone, place);
+            mask.places[place] = self.is_seen(cones, place);
         }
         mask
     }
 
     /// The places that see a light within cones.
-    pub fn seen(&self, cone: &Cone, count: usize) -> Mask
+    pub fn seen(&self, cones: &Cones, count: usize) -> Mask
         requires planes { HasPlanes count self.now }
         requires count { count ≤ 289 }
-        requires cone { IsCone count cone.now }
-        ensures { (l : Light) (i : ℕ) → i < count → IsShown self.now i l → get_or result.places i false ≡ is_some (shown_by (cone_at cone.now i) l) }
+        ensures { (l : Light) (i : ℕ) → i < count → IsShown self.now i l → get_or result.places i false ≡ is_some (shown_by (cones_at cones.now i) l) }
     {
         if self.ambient {
             Mask::none()
         } else {
-            self.seen_lit(cone, count)
+            self.seen_lit(cones, count)
         }
     }
 }

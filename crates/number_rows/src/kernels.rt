@@ -200,7 +200,8 @@ impl One for Degrees {
     }
 }
 
-pub(crate) struct Add;
+/// The sum.
+pub struct Add;
 
 impl Two for Add {
     ghost formula = { fixed.add };
@@ -222,7 +223,8 @@ impl Two for Subtract {
     }
 }
 
-pub(crate) struct Multiply;
+/// The product.
+pub struct Multiply;
 
 impl Two for Multiply {
     ghost formula = { fixed.mul };

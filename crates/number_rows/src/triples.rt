@@ -1,6 +1,7 @@
 // Operations on triples, place by place.
 ghost use Rattle.std.specs.Prelude.{◌≡◌, ℕ, ℤ, ◌<◌, pos, length, get_or};
 ghost use Rattle.fixed_math.specs.declared.vec3.Vec3.{Vec3 as AnyVec3};
+ghost use Rattle.builtins.specs.Noise.{noise};
 ghost use Rattle.builtins.specs.Triples as t;
 ghost use Rattle.fixed_math.specs.Fixed.{add, mul};
 ghost use Rattle.number_rows.specs.Planes.{triple_at, triple_in, rows_at, ArePlanes, AreLonger};
@@ -111,6 +112,18 @@ impl OfTriple for Length {
     #[inline(always)]
     fn apply(a: Vec3) -> Num {
         builtins::length(a)
+    }
+}
+
+/// Noise at a point.
+pub struct Noise;
+
+impl OfTriple for Noise {
+    ghost formula = { noise };
+
+    #[inline(always)]
+    fn apply(a: Vec3) -> Num {
+        builtins::noise(a)
     }
 }
 

@@ -4,9 +4,20 @@ ghost use Rattle.outside.specs.Causes.{Rose};
 ghost use Rattle.outside.specs.Library.{Files, Asks, Fetches};
 ghost use Rattle.outside.specs.declared.library.Fetch.TheVariants.{Failed as FetchFailed};
 
+use std::error::Error;
+use std::fmt;
+
 /// A fault of the outside, which the count of faults of its object tells.
 #[derive(Clone, Copy, Debug, PartialEq, Eq)]
 pub struct Failed;
+
+impl fmt::Display for Failed {
+    fn fmt<W: fmt::Write>(&self, f: &mut fmt::Formatter<W>) -> fmt::Result {
+        write!(f, "what lies outside failed")
+    }
+}
+
+impl Error for Failed {}
 
 /// What came of a fetch.
 #[derive(Clone, Copy, Debug, PartialEq, Eq)]

@@ -2,8 +2,11 @@
 ghost use Rattle.std.specs.Prelude.{◌≡◌, ◌≤◌};
 ghost use Rattle.part_files.specs.Parts.{join_code_text, status_of_join, status_of_join_code};
 
+use std::error::Error;
+use std::fmt;
+
 /// The code of a fault that keeps parts from being joined, as notes have it.
-#[derive(Clone, Copy)]
+#[derive(Clone, Copy, Debug, PartialEq, Eq)]
 pub enum JoinCode {
     /// A file that isn't a part.
     J1,
@@ -44,8 +47,17 @@ impl JoinCode {
     }
 }
 
+impl fmt::Display for JoinCode {
+    fn fmt<W: fmt::Write>(&self, f: &mut fmt::Formatter<W>) -> fmt::Result {
+        let text = self.as_str();
+        write!(f, "{text}")
+    }
+}
+
+impl Error for JoinCode {}
+
 /// Why parts aren't joined.
-#[derive(Clone, Copy)]
+#[derive(Clone, Copy, Debug, PartialEq, Eq)]
 pub enum JoinCause {
     /// The library lacks that part.
     Missing { part: u32 },
@@ -66,3 +78,18 @@ impl JoinCause {
         }
     }
 }
+
+impl fmt::Display for JoinCause {
+    fn fmt<W: fmt::Write>(&self, f: &mut fmt::Formatter<W>) -> fmt::Result {
+        match self {
+            JoinCause::Missing { part } => write!(f, "part {part} is missing"),
+            JoinCause::At {
+                part: Some(part),
+                code,
+            } => write!(f, "{code} in part {part}"),
+            JoinCause::At { part: None, code } => write!(f, "{code}"),
+        }
+    }
+}
+
+impl Error for JoinCause {}

@@ -81,14 +81,30 @@ fn length_of(row: &Bank, shape: Shape) -> usize
     }
 }
 
-// Makes the first elements that one.
+// Makes the elements from one to below another that one.
+fn make_between<T: Copy>(row: &mut [T], from: usize, to: usize, value: T)
+    requires order { from ≤ to }
+    requires within { to ≤ length row.old }
+    ensures long { length row.new ≡ length row.old }
+    ensures before { (d : T) (i : ℕ) → i < from → get_or row.new i d ≡ get_or row.old i d }
+    ensures each { (d : T) (i : ℕ) → from ≤ i → i < to → get_or row.new i d ≡ value }
+{
+    for n in from..to {
+        row[n] = value;
+    }
+}
+
+// Makes the first elements that one, a kilobyte at a time: what fills longer memory in one go takes some time to begin.
 fn make_first<T: Copy>(row: &mut [T], count: usize, value: T)
     requires { count ≤ length row.old }
     ensures long { length row.new ≡ length row.old }
     ensures each { (d : T) (i : ℕ) → i < count → get_or row.new i d ≡ value }
 {
-    for n in 0..count {
-        row[n] = value;
+    let mut from = 0;
+    while from < count {
+        let to = from + (count - from).min(256);
+        make_between(row, from, to, value);
+        from = to;
     }
 }
 
@@ -120,7 +136,13 @@ fn zero_words<'a>(arena: &'a Bump, count: usize) -> Result<Vec<usize, &'a Bump>,
     ensures long { IfOk result (λ v. length v.items ≡ count) }
     ensures zero { IfOk result (λ v. (k : ℕ) → get_or v.items k 0 ≡ 0) }
 {
-    Ok(vec![in arena; 0; count]?)
+    let zeros = [0; 128];
+    let mut row = Vec::with_capacity(arena, count)?;
+    for _ in 0..count / 128 {
+        row.extend_from_slice(&zeros)?;
+    }
+    row.extend_from_slice(&zeros[..count % 128])?;
+    Ok(row)
 }
 
 impl<'a> Bank<'a> {

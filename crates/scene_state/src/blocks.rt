@@ -5,7 +5,7 @@ ghost use Rattle.scene_state.specs.Answers.{Steps};
 ghost use Rattle.scene_state.specs.declared.state.Block.TheVariants.{InAttributes, InTransform};
 
 use crate::attributes::Attributes;
-use crate::fault::{StepFault, code_of};
+use crate::fault::StepFault;
 use crate::state::{Block, State, World};
 use fixed_math::{List, NoMemory};
 use scene::Frame;
@@ -150,10 +150,7 @@ impl State {
         if self.world.is_some() {
             return Err(StepFault::Refused(StateCode::N1));
         }
-        let camera = match Camera::new(self.choices.view()) {
-            Ok(camera) => camera,
-            Err(fault) => return Err(StepFault::Refused(code_of(fault))),
-        };
+        let camera = Camera::new(self.choices.view())?;
         let block = Block::InWorld {
             attributes: self.attributes.shared()?,
             current: self.current,

@@ -3,7 +3,7 @@ ghost use Rattle.std.specs.Prelude.{◌≡◌};
 ghost use Rattle.scene_state.specs.State.{code_of};
 ghost use Rattle.scene_state.specs.Answers.{fault_at, step_fault};
 ghost use Rattle.scene_state.specs.declared.fault.StateFault.TheVariants.{NoMemory as OutOfMemory};
-ghost use Rattle.scene_state.specs.declared.fault.StepFault.TheVariants.{NoMemory as Exhausted};
+ghost use Rattle.scene_state.specs.declared.fault.StepFault.TheVariants.{Refused, NoMemory as Exhausted};
 
 use fixed_math::NoMemory;
 use primitives::PrimitiveFault;
@@ -93,8 +93,16 @@ impl From<PrimitiveFault> for StepFault {
     }
 }
 
-/// The code of a refused transformation.
-pub(crate) fn code_of(fault: FormFault) -> StateCode
+impl From<FormFault> for StepFault {
+    ghost from_gives = { λ fault e. e ≡ Refused (code_of fault) };
+
+    fn from(fault: FormFault) -> StepFault {
+        StepFault::Refused(code_of(fault))
+    }
+}
+
+// The code of a refused transformation.
+fn code_of(fault: FormFault) -> StateCode
     ensures { result ≡ code_of fault }
 {
     match fault {

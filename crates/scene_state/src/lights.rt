@@ -12,7 +12,7 @@ ghost use Rattle.scene_state.specs.Unnamed.{first_named};
 ghost use Rattle.scene_state.specs.Steps.{with_surface, with_displacement, with_atmosphere};
 ghost use Rattle.scene_state.specs.Answers.{Steps, GivesMap};
 
-use crate::fault::{StepFault, code_of};
+use crate::fault::StepFault;
 use crate::shaders::{Handle, light_of};
 use crate::state::State;
 use fixed_math::NoMemory;
@@ -102,10 +102,7 @@ impl State {
     fn shader_space(&self) -> Result<Affine, StepFault>
         ensures { GivesMap result (space_of self.now) }
     {
-        match self.space() {
-            Ok(space) => Ok(space),
-            Err(fault) => Err(StepFault::Refused(code_of(fault))),
-        }
+        Ok(self.space()?)
     }
 
     /// The first light that has a number: those that were made before it have none.
@@ -139,10 +136,7 @@ impl State {
         requires { request.now.name ≡ reqs.LightSource }
         ensures { Steps result (light_made (plain request.now) space self.old) self.new }
     {
-        let space = match space {
-            Ok(space) => space,
-            Err(fault) => return Err(StepFault::Refused(code_of(fault))),
-        };
+        let space = space?;
         if self.handles.len() >= MOST_LIGHTS {
             return Err(StepFault::Refused(StateCode::M4));
         }

@@ -9,7 +9,7 @@ ghost use Rattle.scene_state.specs.State.{prim_of, with_patches, patches_placed,
 ghost use Rattle.scene_state.specs.Unnamed.{LastAreAt};
 ghost use Rattle.scene_state.specs.Answers.{Steps};
 
-use crate::fault::{StepFault, code_of};
+use crate::fault::StepFault;
 use crate::shaders::Worn;
 use crate::state::State;
 use fixed_math::{List, NoMemory};
@@ -126,9 +126,7 @@ impl State {
         if self.world.is_none() {
             return Err(StepFault::Refused(StateCode::N5));
         }
-        match self.space() {
-            Ok(object) => self.place_under(alloc, request, object),
-            Err(fault) => Err(StepFault::Refused(code_of(fault))),
-        }
+        let object = self.space()?;
+        self.place_under(alloc, request, object)
     }
 }

@@ -7,7 +7,7 @@ ghost use Rattle.transforms.specs.Map.{identity};
 ghost use Rattle.scene_state.specs.State.{translated_by, scaled_by, rotated_by, of_rows, with_current, with_before, space_of};
 ghost use Rattle.scene_state.specs.Answers.{Steps};
 
-use crate::fault::{StepFault, code_of};
+use crate::fault::StepFault;
 use crate::state::State;
 use fixed_math::{Decimal, Num, Vec3};
 use rib_reader::Request;
@@ -34,25 +34,16 @@ impl State {
     fn set_current(&mut self, map: Result<Affine, FormFault>) -> Result<(), StepFault>
         ensures { Steps result (with_current map self.old) self.new }
     {
-        match map {
-            Ok(map) => {
-                self.current = map;
-                Ok(())
-            }
-            Err(fault) => Err(StepFault::Refused(code_of(fault))),
-        }
+        self.current = map?;
+        Ok(())
     }
 
     fn set_before(&mut self, map: Result<Affine, FormFault>) -> Result<(), StepFault>
         ensures { Steps result (with_before map self.old) self.new }
     {
-        match map {
-            Ok(map) => {
-                let current = self.current;
-                self.set_current(current.before(&map))
-            }
-            Err(fault) => Err(StepFault::Refused(code_of(fault))),
-        }
+        let map = map?;
+        let current = self.current;
+        self.set_current(current.before(&map))
     }
 
     pub(crate) fn set_identity(&mut self)

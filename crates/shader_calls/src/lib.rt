@@ -8,6 +8,8 @@ mod compiled;
 #[cfg(test)]
 mod differences;
 #[cfg(test)]
+mod farm;
+#[cfg(test)]
 mod operations;
 #[cfg(test)]
 mod operations_in_spaces;

@@ -6,16 +6,16 @@ use render::run;
 use std::alloc::{AllocError, Global};
 use std::test::Fail;
 
-const RED: &str = "Color [1 0 0] Patch \"bilinear\" \"P\" [-1 -1 1 1 -1 1 -1 1 1 1 1 1]";
+pub(crate) const RED: &str = "Color [1 0 0] Patch \"bilinear\" \"P\" [-1 -1 1 1 -1 1 -1 1 1 1 1 1]";
 
 const PATCH: &str = "Patch \"bilinear\" \"P\" [-1 -1 1 1 -1 1 -1 1 1 1 1 1]";
 
 const PLAIN: &[u8] = b"surface m() { Ci = 1; Oi = 1; }";
 
-const RED_PICTURE: &[u8] = b"P6\n2 2\n255\n\xff\0\0\xff\0\0\xff\0\0\xff\0\0";
+pub(crate) const RED_PICTURE: &[u8] = b"P6\n2 2\n255\n\xff\0\0\xff\0\0\xff\0\0\xff\0\0";
 
 /// A scene of two by two pixels with these requests in its world.
-fn scene(alloc: Global, world: &str) -> Result<String, AllocError> {
+pub(crate) fn scene(alloc: Global, world: &str) -> Result<String, AllocError> {
     let head =
         "Format 2 2 1\nPixelSamples 1 1\nPixelFilter \"box\" 1 1\nDisplay \"a.ppm\" \"file\" \"rgb\"\n";
     format!(in alloc; "{head}WorldBegin\n{world}\nWorldEnd\n")
@@ -23,29 +23,27 @@ fn scene(alloc: Global, world: &str) -> Result<String, AllocError> {
 
 /// What came of a command.
 #[derive(Drop)]
-struct Outcome {
-    status: u8,
-    notes: Vec<u8>,
-    entries: usize,
+pub(crate) struct Outcome {
+    pub(crate) status: u8,
+    pub(crate) notes: Vec<u8>,
+    pub(crate) entries: usize,
     /// The last entry's bytes, and whether it has ended.
-    bytes: Vec<u8>,
-    ended: bool,
+    pub(crate) bytes: Vec<u8>,
+    pub(crate) ended: bool,
 }
 
 /// A sink with this room that takes so many bytes at a time, and whose call of that number fails.
 #[derive(Clone, Copy)]
-struct SinkForm {
-    room: usize,
-    most: usize,
-    fails: u64,
+pub(crate) struct SinkForm {
+    pub(crate) room: usize,
+    pub(crate) most: usize,
+    pub(crate) fails: u64,
 }
 
-/// Carries out an action on `s.rib`, with its text and other files in the library, whose call of that number fails, and a sink
-/// of this form.
-fn carried_out(
+/// Carries out a command with these files in the library, whose call of that number fails, and a sink of this form.
+pub(crate) fn answered(
     alloc: Global,
-    action: &str,
-    text: &str,
+    words: &[&str],
     files: &[(&str, &[u8])],
     library_fails: u64,
     form: SinkForm,
@@ -53,7 +51,6 @@ fn carried_out(
     requires { 1 ≤ form.most }
 {
     let mut library = MemoryLibrary::new(alloc);
-    library.add("s.rib", text.as_bytes()).or(Err("memory"))?;
     for (name, bytes) in files {
         library.add(name, bytes).or(Err("memory"))?;
     }
@@ -61,8 +58,7 @@ fn carried_out(
     let mut sink = MemorySink::new(alloc, form.room, form.most).or(Err("memory"))?;
     sink.fail_call(form.fails);
     let mut notes = MemoryNotes::new(alloc, 100).or(Err("memory"))?;
-    let words = ["reyes", action, "s.rib"];
-    let status = run(alloc, &words, &mut library, &mut sink, &mut notes);
+    let status = run(alloc, words, &mut library, &mut sink, &mut notes);
     let entries = sink.entries();
     let mut outcome = Outcome {
         status,
@@ -77,6 +73,29 @@ fn carried_out(
         outcome.ended = entry.ended;
     }
     Ok(outcome)
+}
+
+/// Carries out an action on `s.rib`, with its text and other files in the library, as `answered` does.
+fn carried_out(
+    alloc: Global,
+    action: &str,
+    text: &str,
+    files: &[(&str, &[u8])],
+    library_fails: u64,
+    form: SinkForm,
+) -> Result<Outcome, Fail>
+    requires { 1 ≤ form.most }
+{
+    let mut held: Vec<(&str, &[u8])> = Vec::new(alloc);
+    held.push(("s.rib", text.as_bytes()))?;
+    held.extend_from_slice(files)?;
+    answered(
+        alloc,
+        &["reyes", action, "s.rib"],
+        &held,
+        library_fails,
+        form,
+    )
 }
 
 #[test]

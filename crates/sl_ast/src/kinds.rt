@@ -1,4 +1,6 @@
 // The words and operators of the Shading Language that trees name.
+use std::error::Error;
+use std::fmt;
 
 /// The type of a value (Shading Language, RenderMan Interface 3.2, section 11).
 #[derive(Clone, Copy, Debug, PartialEq, Eq)]
@@ -92,6 +94,14 @@ pub enum ControlCode {
     T9,
     T11,
 }
+
+impl fmt::Display for ControlCode {
+    fn fmt<W: fmt::Write>(&self, f: &mut fmt::Formatter<W>) -> fmt::Result {
+        write!(f, "{self:?}")
+    }
+}
+
+impl Error for ControlCode {}
 
 /// The statements over lights.
 #[derive(Clone, Copy, Debug, PartialEq, Eq)]

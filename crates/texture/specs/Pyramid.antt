@@ -39,7 +39,7 @@ channel Z = 2
 abbrev pub texel : Image → ℕ → ℕ → ℕ → Vec3
 texel p l x y = by_axes (λ a. pos (texel_part p (2 ^ l) x y (channel a)))
 
--- worked values: two by two samples, red, green, blue and white; with three columns
+-- worked values: two by two samples, red, green, blue and white
 abbrev pub four : Image
 four = record { width = 2; height = 2; most = 255; samples = 255 ∷ 0 ∷ 0 ∷ 0 ∷ 255 ∷ 0 ∷ 0 ∷ 0 ∷ 255 ∷ 255 ∷ 255 ∷ 255 ∷ [] }
 

@@ -48,16 +48,16 @@ fn number_at(most: u32, bytes: &[u8], k: usize) -> u32
 
 impl Samples {
     /// The image whose samples stand at the front of these bytes, or want of memory.
-    pub(crate) fn new(alloc: Global, header: &Header, data: &[u8]) -> Result<Samples, NoMemory>
-        requires whole { IsWhole header.now.width header.now.height header.now.most (length data.now) }
+    pub(crate) fn new(alloc: Global, header: &Header, stored: &[u8]) -> Result<Samples, NoMemory>
+        requires whole { IsWhole header.now.width header.now.height header.now.most (length stored.now) }
         requires sides { max header.now.width header.now.height ≤ 2048 }
-        ensures { IfOk result (λ s. s ≡ image_in header.now.width header.now.height header.now.most (take (byte_count header.now.width header.now.height header.now.most) data.now)) }
+        ensures { IfOk result (λ s. s ≡ image_in header.now.width header.now.height header.now.most (take (byte_count header.now.width header.now.height header.now.most) stored.now)) }
     {
         let width = header.width as u32;
         let height = header.height as u32;
         let most = header.most as u32;
         let count = 3 * (width as usize * height as usize) * bytes_each(most);
-        let (front, _rest) = data.split_at(count);
+        let (front, _rest) = stored.split_at(count);
         let mut bytes = Vec::new(alloc);
         bytes.extend_from_slice(front)?;
         Ok(Samples {

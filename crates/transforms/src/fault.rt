@@ -1,3 +1,7 @@
+// Why a transformation or a camera is refused.
+use std::error::Error;
+use std::fmt;
+
 /// Why a transformation or a camera is refused.
 #[derive(Debug, Clone, Copy, PartialEq, Eq)]
 pub enum FormFault {
@@ -10,3 +14,11 @@ pub enum FormFault {
     /// A matrix whose fourth column isn't 0, 0, 0, 1.
     G4,
 }
+
+impl fmt::Display for FormFault {
+    fn fmt<W: fmt::Write>(&self, f: &mut fmt::Formatter<W>) -> fmt::Result {
+        write!(f, "{self:?}")
+    }
+}
+
+impl Error for FormFault {}

@@ -5,6 +5,8 @@ ghost use Rattle.uniform_varying.specs.Gives.{Refuses};
 
 use sl_ast::ControlCode;
 use std::alloc::{AllocError, AllocFailed};
+use std::error::Error;
+use std::fmt;
 
 /// A fault of classes or control, with the line on which its token begins: the name that is declared or set, the called
 /// name, or the word of the statement.
@@ -13,6 +15,15 @@ pub struct ControlFault {
     pub code: ControlCode,
     pub line: u32,
 }
+
+impl fmt::Display for ControlFault {
+    fn fmt<W: fmt::Write>(&self, f: &mut fmt::Formatter<W>) -> fmt::Result {
+        let ControlFault { code, line } = self;
+        write!(f, "{code:?} in line {line}")
+    }
+}
+
+impl Error for ControlFault {}
 
 // Why the rest of a tree isn't looked at.
 #[derive(Clone, Copy)]

@@ -10,7 +10,8 @@ use Rattle.builtins.specs.Values.{triple_of}
 use Rattle.grid_code.specs.Names.{name_at, lit_at}
 use Rattle.grid_code.proofs.Both.{left, right}
 use Rattle.builtins.specs.Lights.{Light}
-use Rattle.light_rows.specs.Seen.{unasked, shown_by, cone_at, HasPlanes, IsShown}
+use Rattle.light_rows.specs.Scopes.{scope_at}
+use Rattle.light_rows.specs.Seen.{unasked, shown_by, HasPlanes, IsShown}
 use Rattle.light_rows.proofs.Views.{shown_there}
 use Rattle.number_rows.specs.Planes.{triple_at, ArePlanes}
 use Rattle.grid_machine.specs.Writes.{aimed_at}
@@ -282,7 +283,7 @@ run_seen-seen-seen-requires g t c =
     let few = c.args.m.now.registers.frame.now.few in
     let of = c.answers-answers.ensures in
     let e2 = c.ask.ensures.same ∙ inv.0.1 in
-    record { planes = subst (λ p. HasPlanes p ans) (ap (λ s. s.places) e2 ∙ c.requires.places) of.planes; count = few; cone = c.cone.ensures.cone _ few }
+    record { planes = subst (λ p. HasPlanes p ans) (ap (λ s. s.places) e2 ∙ c.requires.places) of.planes; count = few }
 
 pub run_seen-ask-requires-clause-points : goal.run_seen-ask-requires-clause-points
 run_seen-ask-requires-clause-points g t c =
@@ -340,12 +341,12 @@ run_seen-loop-n-preserved g t c =
     let b = subst (λ p. i < p) same2 k in
     ap triple_of (read_near r.places v u s (state_of m0) place i near c.requires.place b ∙ sym (read_held m0 place i)) ∙ sym (c.scope_of-scope.ensures.points i b) ∙ sym (c.planes.ensures.each i)
     ∙ sym (c.ask.ensures.turned i (subst (λ p. i < p) (sym same) b))) j (subst (λ p. j < p) (sym same2) l)) in
-    let shows : (s : State) → Near r.places v u s (state_of m0) → (j : ℕ) → j < r.places → shown_by (cone_at c.cone.result j) (light s j) ≡ view_from ls.lights n place qs s j = λ s near j l.
-    shown_is (reads s qs j) (cone_at c.cone.result j) (light s j) (λ d.
-    c.cone.ensures.each j d ∙ c.scope_of-scope.ensures.cone j d l ∙ ap (λ vs. is_in_cone vs d) (reads_held m0 qs j ∙ sym (reads_near r.places v u s (state_of m0) qs j near c.requires.args l))) in
+    let shows : (s : State) → Near r.places v u s (state_of m0) → (j : ℕ) → j < r.places → shown_by (scope_at c.scope_of-scope.result j) (light s j) ≡ view_from ls.lights n place qs s j = λ s near j l.
+    shown_is (reads s qs j) (scope_at c.scope_of-scope.result j) (light s j) (λ d.
+    c.scope_of-scope.ensures.cone j d l ∙ ap (λ vs. is_in_cone vs d) (reads_held m0 qs j ∙ sym (reads_near r.places v u s (state_of m0) qs j near c.requires.args l))) in
     let there : (s : State) → Near r.places v u s (state_of m0) → (j : ℕ) → j < r.places → get_or c.and-m.result.places j false ≡ true → view_from ls.lights n place qs s j ≡ Some (triple_at ans.towards j, triple_at ans.colours j) = λ s near j l on.
     sym (shows s near j l)
-    ∙ shown_there ans j (light s j) (cone_at c.cone.result j) (is s near j l) (sym (c.seen-seen.ensures (light s j) j l (is s near j l)) ∙ right (get_or m.live.places j false) (get_or seen j false) (sym (c.and-m.ensures j l) ∙ on)) in
+    ∙ shown_there ans j (light s j) (scope_at c.scope_of-scope.result j) (is s near j l) (sym (c.seen-seen.ensures (light s j) j l (is s near j l)) ∙ right (get_or m.live.places j false) (get_or seen j false) (sym (c.and-m.ensures j l) ∙ on)) in
     let entering = subst (λ x. (s : State) (f : ℕ → Option (Vec3 × Vec3)) → NearBy x s (state_of m1) → ((i : ℕ) → i < x.now.places → (state_of m1).live i ≡ true → f i ≡ Some (triple_at ans.towards i, triple_at ans.colours i)) → NearBy x (entered x.now.places f s) (state_of m2)) inv.0.0.frame c.enter.ensures.near in (
       (kept_live m0 m3 c.or-m.result (kept_on m0 m2 m3 k2 c.run_block.ensures.kept), c.run_block.ensures.same ∙ e2),
       showing_next (lit_ground ls.lights r) r.places v u c.args.most place qs body n (state_of m0) (state_of m) (state_of record m3 { live = c.or-m.result }) (let z = c.count-n-end.ensures in omega arith) inv.1 (λ s h ns nh.

@@ -1,5 +1,6 @@
 use Rattle.std.proofs.Common.{◌+◌, ◌∙◌, ap, sym, subst, length, ℕ, false}
 use Rattle.hider.specs.CellValues.{values_of}
+use Rattle.hider.specs.Flat.{flat_of}
 use Rattle.hider.proofs.Besides.{AreFirstBoxes, length_pushed, one_more_box}
 use Rattle.hider.proofs.flat_hiding.fill_boxes.Goals as goal
 
@@ -12,5 +13,5 @@ loop-cell-preserved g c =
     let b = c.bounds_of.result in
     record {
       counted = ap length c.in_ok-push.ensures.items ∙ length_pushed boxes b ∙ ap (λ (m : ℕ). m + 1) i.counted;
-      each = λ v h. subst (AreFirstBoxes v k (n + 1)) (sym c.in_ok-push.ensures.items) (one_more_box v k n boxes b c.flat_cell.result i.counted (c.flat_cell.ensures v h).placed c.bounds_of.ensures (i.each v h));
+      each = λ v h. subst (AreFirstBoxes v k (n + 1)) (sym c.in_ok-push.ensures.items) (one_more_box v k n boxes b (flat_of c.flat_cell.result) i.counted (c.flat_cell.ensures v h).placed c.bounds_of.ensures (i.each v h));
     }

@@ -1,10 +1,9 @@
 use Rattle.std.proofs.Common.{◌≡◌, ◌<◌, ℕ, false, length, slice_index_or}
 use Rattle.transforms.specs.declared.view.View.{View}
 use Rattle.hider.specs.declared.bounds.Bounds.{Bounds}
-use Rattle.hider.specs.declared.flat_cell.FlatCell.{FlatCell}
 use Rattle.hider.specs.Bounding.{bounds_of}
 use Rattle.hider.specs.CellValues.{values_of}
-use Rattle.hider.specs.Flat.{AreOnRaster, IsPlaced, flat_quad}
+use Rattle.hider.specs.Flat.{FlatCell, AreOnRaster, IsPlaced, flat_quad}
 use Rattle.hider.proofs.flat_hiding.fill_boxes.Given as goal
 
 abbrev pub invariant-loop-cell : goal.invariant-loop-cell

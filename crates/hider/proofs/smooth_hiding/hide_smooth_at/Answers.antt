@@ -6,6 +6,7 @@ use Rattle.hider.specs.Cells.{seen}
 use Rattle.hider.specs.CellValues.{values_of}
 use Rattle.hider.specs.Coverage.{covers}
 use Rattle.hider.specs.Tiles.{HavePut}
+use Rattle.hider.specs.Flat.{flat_of}
 use Rattle.hider.proofs.Besides.{beside_put}
 use Rattle.hider.proofs.Flats.{boxes_of_any, seen_placed_put, unseen_placed_put}
 use Rattle.hider.proofs.smooth_hiding.hide_smooth_at.Goals as goal
@@ -18,13 +19,13 @@ returns-then-is_beside c = λ v h.
 
 pub returns-then-not-are_all_seen : goal.returns-then-not-are_all_seen
 returns-then-not-are_all_seen c = λ v h.
-    unseen_placed_put v (values_of true c.args.seen.now.grid) c.args.cell c.flat_cell-flat.result c.args.one_sided c.args.flip c.args.places.now.grid c.args.lists.now (c.flat_cell-flat.ensures v h.points).placed
+    unseen_placed_put v (values_of true c.args.seen.now.grid) c.args.cell (flat_of c.flat_cell-flat.result) c.args.one_sided c.args.flip c.args.places.now.grid c.args.lists.now (c.flat_cell-flat.ensures v h.points).placed
     (sym c.if-not-are_all_seen.ensures)
 
 pub returns : goal.returns
 returns c = λ v h.
     let g = c.args.places.now.grid in
-    let f = c.flat_cell-flat.result in
+    let f = flat_of c.flat_cell-flat.result in
     let placed = (c.flat_cell-flat.ensures v h.points).placed in
     let all = sym c.if-not-are_all_seen.ensures in
     let put = subst (λ (q : Quad). HavePut g (λ s. cons_option (option_and_then (λ r. covers r s.place) (seen c.args.one_sided c.args.flip q)) []) c.args.lists.now c.hide_quad.new.lists)

@@ -1,4 +1,5 @@
 use Rattle.std.proofs.Common.{arith}
+use Rattle.hider.specs.Flat.{flat_of}
 use Rattle.hider.proofs.Grids.{corner_inside}
 use Rattle.hider.proofs.Smooths.{smooth_is}
 use Rattle.hider.proofs.smooth_hiding.smooth_quad.Goals as goal
@@ -30,4 +31,4 @@ own_corner-requires-4 c =
 pub returns : goal.returns
 returns c = λ v h e.
     rw (c.own_corner.ensures, c.own_corner-2.ensures, c.own_corner-3.ensures, c.own_corner-4.ensures)
-    (smooth_is v c.args.grid.now c.args.cell c.first_of-n.result c.args.flat.now c.first_of-n.ensures h e)
+    (smooth_is v c.args.grid.now c.args.cell c.first_of-n.result (flat_of c.args.flat.now) c.first_of-n.ensures h e)

@@ -1,32 +1,23 @@
-use Rattle.std.proofs.Common.{arith, ◌≤◌, w32, w64, FitsSigned}
+use Rattle.std.proofs.Common.{ap, ◌∙◌, arith, ◌≤◌, w32, w64, FitsSigned}
 use Rattle.std.specs.Int.RustNames.{unsigned_abs}
-use Rattle.std.proofs.lemmas.Int.{to_z-of_z, fits_signed_mul, ints}
-use Rattle.lanes.proofs.Products.{product_small}
+use Rattle.std.proofs.lemmas.Int.{to_z-of_z, ints}
+use Rattle.fixed_math.specs.Fixed.{sat}
+use Rattle.fixed_math.specs.Whole.{floor_by}
 use Rattle.lanes.proofs.raw.mul.Goals as goal
 
 pub cut-requires : goal.cut-requires
 cut-requires c =
-    let a_is : FitsSigned w32 c.args.a = c.ranges.a in
-    let b_is : FitsSigned w32 c.args.b = c.ranges.b in
-    let a_small : unsigned_abs c.args.a ≤ 2147483648 = omega (arith, ints) in
-    let b_small : unsigned_abs c.args.b ≤ 2147483648 = omega (arith, ints) in
-    let a_fits : FitsSigned w64 c.args.a = omega (arith, ints) in
-    let b_fits : FitsSigned w64 c.args.b = omega (arith, ints) in
-    let product_fits = fits_signed_mul w64 c.args.a c.args.b 2147483648 2147483648 a_small b_small (omega arith) in
-    let small = product_small c.args.a c.args.b a_small b_small in
+    let small : unsigned_abs c.product.result ≤ 4611686018427387904 = c.product.ensures.small in
+    let fits : FitsSigned w64 c.product.result = omega (arith, ints, small) in
     simp to_z-of_z small
 
 pub returns-clause-value : goal.returns-clause-value
 returns-clause-value c =
-    let a = c.args.a in
-    let b = c.args.b in
-    let a_is : FitsSigned w32 a = c.ranges.a in
-    let b_is : FitsSigned w32 b = c.ranges.b in
-    let a_fits : FitsSigned w64 a = omega (arith, ints) in
-    let b_fits : FitsSigned w64 b = omega (arith, ints) in
-    let a_small : unsigned_abs a ≤ 2147483648 = omega (arith, ints) in
-    let b_small : unsigned_abs b ≤ 2147483648 = omega (arith, ints) in
-    let product_fits = fits_signed_mul w64 a b 2147483648 2147483648 a_small b_small (omega arith) in
+    let small : unsigned_abs c.product.result ≤ 4611686018427387904 = c.product.ensures.small in
+    let fits : FitsSigned w64 c.product.result = omega (arith, ints, small) in
+    let a_is : FitsSigned w32 c.args.a = c.ranges.a in
+    let b_is : FitsSigned w32 c.args.b = c.ranges.b in
     let cut_fits : FitsSigned w32 c.cut.result = omega (arith, ints, c.cut.ensures.raw.0, c.cut.ensures.raw.1) in
     let is = simp to_z-of_z at c.cut.ensures.value in
-    simp to_z-of_z is
+    let value = simp to_z-of_z at c.product.ensures.value in
+    simp to_z-of_z (is ∙ ap (λ p. sat (floor_by p 65536)) value)

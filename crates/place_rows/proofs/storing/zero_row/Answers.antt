@@ -1,4 +1,4 @@
-use Rattle.std.proofs.Common.{rules, ◌%◌}
+use Rattle.std.proofs.Common.{rules, ◌%◌, pos}
 use Rattle.place_rows.proofs.Zeroed.{zeros_behind, zeros_taken, zeros_only}
 use Rattle.place_rows.proofs.storing.zero_row.Goals as goal
 
@@ -6,10 +6,10 @@ use Rattle.place_rows.proofs.storing.zero_row.Goals as goal
 pub loop-preserved : goal.loop-preserved
 loop-preserved c = record {
   long = search rules;
-  zero = zeros_behind _ _ _ c.in_ok-extend_from_slice.ensures.items c.loop.invariant.zero (zeros_only 256 _ c.zero-zeros.ensures);
+  zero = zeros_behind (pos 0) _ _ _ c.in_ok-extend_from_slice.ensures.items c.loop.invariant.zero (zeros_only (pos 0) 256 _ c.zero-zeros.ensures);
 }
 
 -- src/storing.rt:105:1
 pub returns-clause-zero : goal.returns-clause-zero
 returns-clause-zero c =
-    zeros_behind _ _ _ c.in_ok-extend_from_slice-2.ensures.items c.loop.invariant.zero (zeros_taken (c.args.count % 256) _ (zeros_only 256 _ c.zero-zeros.ensures))
+    zeros_behind (pos 0) _ _ _ c.in_ok-extend_from_slice-2.ensures.items c.loop.invariant.zero (zeros_taken (pos 0) (c.args.count % 256) _ (zeros_only (pos 0) 256 _ c.zero-zeros.ensures))

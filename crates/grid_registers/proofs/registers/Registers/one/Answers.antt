@@ -170,3 +170,10 @@ returns-in-ZComp-clause-each c =
     let r = c.args.self.now in
     let P : ValueOperation → Type 0 = λ o. HoldsEach (texts_of r) c.component-in-ZComp.new.row r.frame.now.places (work_at r (works.One o c.args.p)) in
     subst P (sym c.in-ZComp.is) c.component-in-ZComp.ensures.each
+
+pub returns-in-Noise-clause-each : goal.returns-in-Noise-clause-each
+unfolding of_one
+returns-in-Noise-clause-each c =
+    let r = c.args.self.now in
+    let P : ValueOperation → Type 0 = λ o. HoldsEach (texts_of r) c.noise.new.row r.frame.now.places (work_at r (works.One o c.args.p)) in
+    subst P (sym c.in-Noise.is) c.noise.ensures.each

@@ -1,6 +1,6 @@
 use Rattle.std.proofs.Common.{◌≡◌, ℕ, ◌<◌, length, get_or, false}
 use Rattle.number_rows.specs.Planes.{triple_at}
-use Rattle.light_rows.specs.Cones.{cones_at}
+use Rattle.light_rows.specs.Scopes.{cones_at}
 use Rattle.light_rows.proofs.cones.Cones.mask.Given as goal
 
 abbrev pub invariant-loop-place : goal.invariant-loop-place
