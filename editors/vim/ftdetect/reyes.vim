@@ -1,3 +1,3 @@
 " Scenes and shaders by their endings.
-autocmd BufNewFile,BufRead *.rib setfiletype rib
-autocmd BufNewFile,BufRead *.sl setfiletype sl
+autocmd BufNewFile,BufRead *.rib set filetype=rib
+autocmd BufNewFile,BufRead *.sl set filetype=sl
