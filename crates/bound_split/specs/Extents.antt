@@ -1,6 +1,6 @@
 -- Which parts of a surface can show in a rectangle of pixels, wherever displacement moves their points within its bound
 -- (Cook, Carpenter and Catmull 1987, "bound", "cull").
-use Rattle.std.specs.Prelude.{◌≡◌, refl, ℕ, ◌+◌, ◌*◌, ℤ, pos, neg_ℤ, ◌+ℤ◌, ◌-ℤ◌, int_lt, int_le, Bool, true, false, ◌&&◌, ◌||◌, if◌then◌else◌, None, List, [], ◌∷◌, slice_index_or}
+use Rattle.std.specs.Prelude.{◌≡◌, refl, ℕ, ◌+◌, ◌*◌, ℤ, pos, neg_ℤ, ◌+ℤ◌, ◌-ℤ◌, int_lt, int_le, Bool, true, false, ◌&&◌, ◌||◌, if◌then◌else◌, None, List, [], ◌∷◌, filter, slice_index_or}
 use Rattle.fixed_math.specs.declared.vec3.Vec3.{Vec3}
 use Rattle.fixed_math.specs.Axes.{part_of, by_axes}
 use Rattle.fixed_math.specs.Spots.{PixelRect}
@@ -12,6 +12,8 @@ use Rattle.transforms.specs.Raster.{raster_box, box_of_places, side}
 use Rattle.bound_split.specs.declared.extents.Reach.{Reach}
 use Rattle.bound_split.specs.declared.extents.Reach.TheVariants.{Nowhere, Everywhere, Within}
 use Rattle.bound_split.specs.declared.extents.Extent.{Extent}
+use Rattle.bound_split.specs.declared.splits.Decision.{Decision}
+use Rattle.bound_split.specs.Leaves.{leaves}
 
 -- p with each coordinate less by the bound, and with each greater by it
 abbrev pub lowered : ℤ → Vec3 → Vec3
@@ -55,6 +57,10 @@ meets v bound b r = reaches (extent_of v bound b).reach r
 -- the same of a part of a surface that has these boxes
 abbrev pub part_meets : View → ℤ → (Rect → Box) → PixelRect → Part → Bool
 part_meets v bound box r p = meets v bound (box (rect_of p)) r
+
+-- no leaf below a part can show in a rectangle of pixels
+abbrev pub NoLeafMeets : View → ℤ → (Rect → Box) → PixelRect → (Part → Decision) → Part → Type 0
+NoLeafMeets v bound box r decide p = filter (part_meets v bound box r) (leaves decide p) ≡ []
 
 -- the rectangle of pixels given by its left, top, right and bottom
 abbrev pub pixels_of : List ℕ → PixelRect

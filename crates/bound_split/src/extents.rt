@@ -1,5 +1,5 @@
 // Where a piece can show, and in which rectangles of pixels.
-ghost use Rattle.std.specs.Prelude.{◌≡◌, ◌≤◌, ◌^◌, ℤ, pos, ◌≤ℤ◌, int_lt, ◌||◌, false, [], filter};
+ghost use Rattle.std.specs.Prelude.{◌≡◌, ◌≤◌, ◌^◌, ℤ, pos, ◌≤ℤ◌, int_lt, ◌||◌, false};
 ghost use Rattle.fixed_math.specs.declared.vec3.Axis.{Axis};
 ghost use Rattle.fixed_math.specs.Axes.{part_of};
 ghost use Rattle.patches.specs.Boxes.{Box, IsWithin, IsOrdered};
@@ -7,8 +7,7 @@ ghost use Rattle.patches.specs.Parts.{Part, IsPart, rect_of};
 ghost use Rattle.patches.specs.Rects.{IsInside};
 ghost use Rattle.transforms.specs.Raster.{raster_box};
 ghost use Rattle.bound_split.specs.Decisions.{decision_of};
-ghost use Rattle.bound_split.specs.Leaves.{leaves};
-ghost use Rattle.bound_split.specs.Extents.{lowered, raised, reach_within, reach_of, extent_of, overlaps, reaches, meets, part_meets, pixels_of};
+ghost use Rattle.bound_split.specs.Extents.{lowered, raised, reach_within, reach_of, extent_of, overlaps, reaches, meets, pixels_of, NoLeafMeets};
 
 use fixed_math::{Num, Vec3};
 use patches::{Piece, Surface};
@@ -167,7 +166,7 @@ pub fn meets<S: Surface>(s: &S, piece: &Piece, camera: &Camera, bound: Num, tile
     requires high { bound ≤ℤ pos 536870912 }
     ensures value { result ≡ meets camera.now bound (S.box_in s.now (rect_of piece.now)) (pixels_of tile) }
     ensures inherited { (rate : ℤ) → let decide = decision_of camera.now rate bound (S.width_of s.now) (S.net_of s.now) in
-        result ≡ false → filter (part_meets camera.now bound (S.box_in s.now) (pixels_of tile)) (leaves decide piece.now) ≡ [] }
+        result ≡ false → NoLeafMeets camera.now bound (S.box_in s.now) (pixels_of tile) decide piece.now }
 {
     // here is told what holds of every piece and of every view
     piece.recall();

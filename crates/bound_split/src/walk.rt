@@ -1,10 +1,10 @@
 // The walk over the tree of splits, leaf after leaf.
-ghost use Rattle.std.specs.Prelude.{◌≡◌, ◌≤◌, ◌<◌, ◌+◌, ℕ, List, [], ◌∷◌, ◌++◌, Bool, true, length, filter, MatchOption, IfSome, OnSome, IfNone, pos, ◌≤ℤ◌};
+ghost use Rattle.std.specs.Prelude.{◌≡◌, ◌≤◌, ◌<◌, ◌+◌, ℕ, List, [], ◌∷◌, ◌++◌, true, length, MatchOption, IfSome, OnSome, IfNone, pos, ◌≤ℤ◌};
 ghost use Rattle.patches.specs.Parts.{Part, IsPart};
 ghost use Rattle.bound_split.specs.declared.splits.Decision.{Decision};
 ghost use Rattle.bound_split.specs.Decisions.{decision_of, FitsPart};
 ghost use Rattle.bound_split.specs.Leaves.{leaves, pending, IsBelow, IsDeepFrom};
-ghost use Rattle.bound_split.specs.Culling.{IsTest, Skips, visits};
+ghost use Rattle.bound_split.specs.Culling.{IsNext, IsNextKept, PassesOver, visits};
 
 use crate::deciding::decide;
 use crate::splits::{Decision, halves};
@@ -61,8 +61,7 @@ impl Walk {
         requires low { pos 0 ≤ℤ bound }
         requires high { bound ≤ℤ pos 536870912 }
         ensures leaf { let decide = decision_of camera.now rate bound (S.width_of s.now) (S.net_of s.now) in
-            MatchOption result (pending decide self.old ≡ [])
-            (λ leaf. pending decide self.old ≡ leaf.piece ∷ pending decide self.new) }
+            IsNext (pending decide self.old) (pending decide self.new) result }
         ensures sizes { let decide = decision_of camera.now rate bound (S.width_of s.now) (S.net_of s.now) in
             IfSome result (λ leaf. decide leaf.piece ≡ Decision.Dice leaf.p leaf.q) }
         ensures small { IfSome result (λ leaf. IsPart leaf.piece × (leaf.p ≤ 4) × (leaf.q ≤ 4)) }
@@ -87,13 +86,9 @@ impl Walk {
         requires low { pos 0 ≤ℤ bound }
         requires high { bound ≤ℤ pos 536870912 }
         ensures filtered { let decide = decision_of camera.now rate bound (S.width_of s.now) (S.net_of s.now) in
-            (test : Part → Bool) → IsTest (F.post keeps) decide test →
-            MatchOption result (filter test (pending decide self.old) ≡ [])
-            (λ leaf. filter test (pending decide self.old) ≡ leaf.piece ∷ filter test (pending decide self.new)) }
+            IsNextKept (F.post keeps) decide self.old self.new result }
         ensures skipped { let decide = decision_of camera.now rate bound (S.width_of s.now) (S.net_of s.now) in
-            (test : Part → Bool) → IsTest (F.post keeps) decide test →
-            MatchOption result (Skips test (pending decide self.old) [])
-            (λ leaf. Skips test (pending decide self.old) (leaf.piece ∷ pending decide self.new)) }
+            PassesOver (F.post keeps) decide self.old self.new result }
         ensures passed { IfSome result (λ leaf. F.post keeps leaf.piece true) }
         ensures sizes { let decide = decision_of camera.now rate bound (S.width_of s.now) (S.net_of s.now) in
             IfSome result (λ leaf. decide leaf.piece ≡ Decision.Dice leaf.p leaf.q) }
@@ -146,9 +141,7 @@ fn next_leaf<S: Surface, F: Fn(Piece) -> bool>(
     requires low { pos 0 ≤ℤ bound }
     requires high { bound ≤ℤ pos 536870912 }
     ensures skipped { let decide = decision_of camera.now rate bound (S.width_of s.now) (S.net_of s.now) in
-        (test : Part → Bool) → IsTest (F.post keeps) decide test →
-        MatchOption result (Skips test (pending decide stack.old.items) [])
-        (λ leaf. Skips test (pending decide stack.old.items) (leaf.piece ∷ pending decide stack.new.items)) }
+        PassesOver (F.post keeps) decide stack.old.items stack.new.items result }
     ensures passed { IfSome result (λ leaf. F.post keeps leaf.piece true) }
     ensures sizes { let decide = decision_of camera.now rate bound (S.width_of s.now) (S.net_of s.now) in
         IfSome result (λ leaf. decide leaf.piece ≡ Decision.Dice leaf.p leaf.q) }

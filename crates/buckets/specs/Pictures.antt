@@ -1,6 +1,7 @@
 -- What a frame shows: the micropolygons of its primitives, and its picture.
-use Rattle.std.specs.Prelude.{ℕ, ◌-◌, Bool, List, [], map}
+use Rattle.std.specs.Prelude.{◌≡◌, ℕ, ◌-◌, Bool, List, [], map, Some, slice_get}
 use Rattle.std.specs.List.{flat_map, enumerate_from}
+use Rattle.outside.specs.Frames.{Picture}
 use Rattle.patches.specs.Parts.{Part, whole_of}
 use Rattle.quadrics.specs.AnyPatches.{patch_net, patch_width}
 use Rattle.transforms.specs.declared.view.View.{View}
@@ -8,7 +9,7 @@ use Rattle.bound_split.specs.declared.splits.Decision.{Decision}
 use Rattle.bound_split.specs.declared.splits.Decision.TheVariants.{SplitU, SplitV, Dice}
 use Rattle.bound_split.specs.Decisions.{decision_of}
 use Rattle.bound_split.specs.Leaves.{leaves}
-use Rattle.scene.specs.Scene.{PrimValue, FrameValue}
+use Rattle.scene.specs.Scene.{PrimValue, FrameValue, SceneValue}
 use Rattle.scene.specs.Settings.{crop_of}
 use Rattle.displace_shade.specs.Shaded.{GridValue, shaded}
 use Rattle.displace_shade.specs.Shop.{leaf_of}
@@ -82,3 +83,11 @@ header_of f = header ((crop_of f.options).right - (crop_of f.options).left) ((cr
 
 unfoldable pub picture_bytes : AcceptedValue → FrameValue → List ℕ
 picture_bytes a f = picture (film_of a f)
+
+-- the picture with the frame's name
+abbrev pub picture_of : AcceptedValue → FrameValue → Picture
+picture_of a f = record { name = f.name; bytes = picture_bytes a f }
+
+-- f is the frame of that number of a scene
+abbrev pub HasFrame : SceneValue → ℕ → FrameValue → Type 0
+HasFrame s n f = slice_get s.frames n ≡ Some f

@@ -15,7 +15,7 @@ ghost use Rattle.displace_shade.specs.Shop.{set_value};
 ghost use Rattle.hider.specs.Tiles.{Shows, IsSampleGrid};
 ghost use Rattle.filter_ppm.specs.Bands.{rect_with};
 ghost use Rattle.grid_epoch.specs.Kept.{points_in};
-ghost use Rattle.buckets.specs.Pictures.{picture_bytes, header_of, frame_leaves};
+ghost use Rattle.buckets.specs.Pictures.{picture_of, header_of, frame_leaves, HasFrame};
 ghost use Rattle.buckets.specs.Shopped.{shaded_by};
 ghost use Rattle.buckets.specs.TileWalk.{bucket_of, draws, picture_rect, tile_grid, tile_count, format_in, fragments_of};
 ghost use Rattle.buckets.specs.Standing.{Begun, InEpoch, IsFirstDrawn, IsDrawn, IsDrawable, Before, Goes, ShadesInPart, next_epoch};
@@ -386,7 +386,7 @@ pub fn render_frame<O: FrameSink>(
 ) -> Result<(), DrawFault>
     requires frame { frame < length scene.now.frames }
     requires fits { Fits (set_value shop.old.set) scene.now.uses }
-    requires variables { (f : FrameValue) → slice_get scene.now.frames frame ≡ Some f → All (FitsPrim (set_value shop.old.set) scene.now.uses) f.prims }
+    requires variables { (f : FrameValue) → HasFrame scene.now frame f → All (FitsPrim (set_value shop.old.set) scene.now.uses) f.prims }
     requires closed { O.is_open sink.old ≡ false }
     requires bucket_low { 4 ≤ limits.bucket }
     requires bucket_high { limits.bucket ≤ 64 }
@@ -395,10 +395,10 @@ pub fn render_frame<O: FrameSink>(
     requires count { shop.old.count ≤ 2 ^ 62 }
     requires epochs { report.old.epochs ≤ 2 ^ 62 }
     ensures closed { OnOk result (O.is_open sink.new ≡ false) }
-    ensures ok { OnOk result ((f : FrameValue) → slice_get scene.now.frames frame ≡ Some f → Adds (whole (record { name = f.name; bytes = picture_bytes (shaded_by scene.now shop.old) f }) ∷ []) (O.written sink.old) (O.written sink.new)) }
-    ensures err { OnErr result ((f : FrameValue) → slice_get scene.now.frames frame ≡ Some f → AddsPart (record { name = f.name; bytes = picture_bytes (shaded_by scene.now shop.old) f }) (O.written sink.old) (O.written sink.new)) }
-    ensures drawn { OnOk result ((f : FrameValue) → slice_get scene.now.frames frame ≡ Some f → Done (drawing_of scene.now (set_value shop.old.set) f limits) shop.old.count shop.new.count report.old report.new) }
-    ensures drawn_part { OnErr result ((f : FrameValue) → slice_get scene.now.frames frame ≡ Some f → DoneInPart (drawing_of scene.now (set_value shop.old.set) f limits) shop.old.count shop.new.count report.old report.new) }
+    ensures ok { OnOk result ((f : FrameValue) → HasFrame scene.now frame f → Adds (whole (picture_of (shaded_by scene.now shop.old) f) ∷ []) (O.written sink.old) (O.written sink.new)) }
+    ensures err { OnErr result ((f : FrameValue) → HasFrame scene.now frame f → AddsPart (picture_of (shaded_by scene.now shop.old) f) (O.written sink.old) (O.written sink.new)) }
+    ensures drawn { OnOk result ((f : FrameValue) → HasFrame scene.now frame f → Done (drawing_of scene.now (set_value shop.old.set) f limits) shop.old.count shop.new.count report.old report.new) }
+    ensures drawn_part { OnErr result ((f : FrameValue) → HasFrame scene.now frame f → DoneInPart (drawing_of scene.now (set_value shop.old.set) f limits) shop.old.count shop.new.count report.old report.new) }
     ensures few_shadings { OnOk result (shop.new.count ≤ shop.old.count + 2 ^ 52) }
     ensures few_epochs { OnOk result (report.new.epochs ≤ report.old.epochs + 2 ^ 52 + 1) }
     ensures set { shop.new.set ≡ shop.old.set }

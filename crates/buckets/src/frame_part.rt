@@ -1,5 +1,5 @@
 // A part of a frame's picture, to a sink.
-ghost use Rattle.std.specs.Prelude.{◌≡◌, ◌≤◌, ◌<◌, ◌+◌, ◌^◌, ◌∷◌, ◌++◌, [], Some, true, false, All, length, IfOk, OnOk, OnErr, IsErrOf, slice_get, slice_index_or};
+ghost use Rattle.std.specs.Prelude.{◌≡◌, ◌≤◌, ◌<◌, ◌+◌, ◌^◌, ◌∷◌, ◌++◌, [], true, false, All, length, IfOk, OnOk, OnErr, IsErrOf, slice_index_or};
 ghost use Rattle.outside.specs.Causes.{Rose};
 ghost use Rattle.outside.specs.Frames.{Adds, AddsPart, PutsAll, PutsFront, whole};
 ghost use Rattle.shader_binding.specs.Sets.{Fits};
@@ -7,6 +7,7 @@ ghost use Rattle.shader_binding.specs.Bindings.{FitsPrim};
 ghost use Rattle.scene.specs.Scene.{FrameValue, HasUses};
 ghost use Rattle.displace_shade.specs.Shop.{set_value};
 ghost use Rattle.buckets.specs.Shopped.{shaded_by};
+ghost use Rattle.buckets.specs.Pictures.{HasFrame};
 ghost use Rattle.buckets.specs.FrameParts.{IsPartText, entry_of, share_header};
 ghost use Rattle.buckets.specs.Standing.{Begun, IsDrawn};
 ghost use Rattle.buckets.specs.Rows.{PutsInPart, all_by};
@@ -150,7 +151,7 @@ pub fn render_part<O: FrameSink>(
 ) -> Result<(), DrawFault>
     requires frame { frame < length scene.now.frames }
     requires fits { Fits (set_value shop.old.set) scene.now.uses }
-    requires variables { (f : FrameValue) → slice_get scene.now.frames frame ≡ Some f → All (FitsPrim (set_value shop.old.set) scene.now.uses) f.prims }
+    requires variables { (f : FrameValue) → HasFrame scene.now frame f → All (FitsPrim (set_value shop.old.set) scene.now.uses) f.prims }
     requires closed { O.is_open sink.old ≡ false }
     requires bucket_low { 4 ≤ limits.bucket }
     requires bucket_high { limits.bucket ≤ 64 }
@@ -159,9 +160,9 @@ pub fn render_part<O: FrameSink>(
     requires part { slice_index_or part 0 0 < slice_index_or part 1 0 }
     requires count { shop.old.count ≤ 2 ^ 62 }
     ensures closed { OnOk result (O.is_open sink.new ≡ false) }
-    ensures ok { OnOk result ((f : FrameValue) → slice_get scene.now.frames frame ≡ Some f → Adds (whole (entry_of (shaded_by scene.now shop.old) f limits.bucket tag part name.now) ∷ []) (O.written sink.old) (O.written sink.new)) }
-    ensures err { OnErr result ((f : FrameValue) → slice_get scene.now.frames frame ≡ Some f → AddsPart (entry_of (shaded_by scene.now shop.old) f limits.bucket tag part name.now) (O.written sink.old) (O.written sink.new)) }
-    ensures shaded { (f : FrameValue) → slice_get scene.now.frames frame ≡ Some f → ShadesAtMost (part_drawing scene.now (set_value shop.old.set) f limits part) shop.old.count shop.new.count }
+    ensures ok { OnOk result ((f : FrameValue) → HasFrame scene.now frame f → Adds (whole (entry_of (shaded_by scene.now shop.old) f limits.bucket tag part name.now) ∷ []) (O.written sink.old) (O.written sink.new)) }
+    ensures err { OnErr result ((f : FrameValue) → HasFrame scene.now frame f → AddsPart (entry_of (shaded_by scene.now shop.old) f limits.bucket tag part name.now) (O.written sink.old) (O.written sink.new)) }
+    ensures shaded { (f : FrameValue) → HasFrame scene.now frame f → ShadesAtMost (part_drawing scene.now (set_value shop.old.set) f limits part) shop.old.count shop.new.count }
     ensures few_shadings { OnOk result (shop.new.count ≤ shop.old.count + 2 ^ 52) }
     ensures set { shop.new.set ≡ shop.old.set }
     ensures later { O.faults sink.old ≤ O.faults sink.new }

@@ -1,10 +1,9 @@
 // The leaves of a frame, one primitive after another.
-ghost use Rattle.std.specs.Prelude.{◌≡◌, ◌≤◌, ◌<◌, ◌∷◌, [], true, Some, Bool, ℤ, ◌&&◌, not, pos, ◌≤ℤ◌, length, MatchOption, IfSome, IfOk, OnOk, slice_get};
+ghost use Rattle.std.specs.Prelude.{◌≡◌, ◌≤◌, ◌<◌, true, Some, Bool, ℤ, ◌&&◌, not, pos, ◌≤ℤ◌, length, IfSome, IfOk, OnOk, slice_get};
 ghost use Rattle.patches.specs.Parts.{IsPart};
 ghost use Rattle.scene.specs.Scene.{FrameValue};
 ghost use Rattle.transforms.specs.Field.{IsView};
-ghost use Rattle.bound_split.specs.Leaves.{pending};
-ghost use Rattle.bound_split.specs.Culling.{Skips};
+ghost use Rattle.bound_split.specs.Culling.{SkipsTo};
 ghost use Rattle.bound_split.specs.Extents.{reaches, pixels_of};
 ghost use Rattle.bound_split.specs.declared.splits.Decision.TheVariants.{Dice};
 ghost use Rattle.buckets.specs.Pictures.{decide, frame_leaves};
@@ -68,9 +67,8 @@ fn next_of(
 ) -> Option<Leaf>
     requires { slice_get sights.old.prims number ≡ Some prim.now }
     ensures frame { sights.new ≡ sights.old }
-    ensures skipped { (back : ℤ → Bool) → TellsBehind tile.now back → let decides = decide sights.old.camera prim.now in
-        let test = part_shows sights.old prim.now (pixels_of rect) back in
-        MatchOption result (Skips test (pending decides walk.old) []) (λ leaf. Skips test (pending decides walk.old) (leaf.piece ∷ pending decides walk.new)) }
+    ensures skipped { (back : ℤ → Bool) → TellsBehind tile.now back →
+        SkipsTo (part_shows sights.old prim.now (pixels_of rect) back) (decide sights.old.camera prim.now) walk.old walk.new result }
     ensures passed { (back : ℤ → Bool) → TellsBehind tile.now back → IfSome result (λ leaf. part_shows sights.old prim.now (pixels_of rect) back leaf.piece ≡ true) }
     ensures sizes { IfSome result (λ leaf. decide sights.old.camera prim.now leaf.piece ≡ Dice leaf.p leaf.q) }
     ensures small { IfSome result (λ leaf. IsPart leaf.piece × (leaf.p ≤ 4) × (leaf.q ≤ 4)) }

@@ -34,6 +34,7 @@ fn one_cell<'a>(p: &'a [Vec3], ci: &'a [Vec3], oi: &'a [Vec3]) -> Option<GridRef
         p,
         ci,
         oi,
+        closing: None,
     })
 }
 

@@ -17,7 +17,7 @@ use Rattle.clap.specs.declared.error.kind.ErrorKind.TheVariants.{OutOfMemory}
 use Rattle.clap.specs.Matches.{first_value}
 use Rattle.clap.specs.declared.parser.matches.Found.{Found}
 use Rattle.clap.proofs.WalkLemmas.{first_value-rows}
-use Rattle.command_line.specs.Command.{Command, number_in, reyes, options_for, parts_for, command_for, command_in, command_of}
+use Rattle.command_line.specs.Command.{Command, number_in, reyes, options_for, parts_for, command_for, command_by, command_in, command_of}
 
 pub simple : is_simple reyes ≡ true
 simple = refl
@@ -30,9 +30,7 @@ empty [] x y e = refl
 empty (k ∷ ks) x y e = absurd (cc e)
 
 pub given : (a : App) (ws : List Text) (f : Found) → a ≡ reyes → rows_of f ≡ matches_of a ws → fault_of a ws ≡ []
-    → command_for (first_value f (codes "action")) (first_value f (codes "name")) (options_for (first_value f (codes "bucket")) (first_value f (codes "grid-points")) (first_value f (codes "stats")))
-    (parts_for (first_value f (codes "part")) (first_value f (codes "of")))
-    ≡ command_of ws
+    → command_by (first_value f) ≡ command_of ws
 given a ws f is rows fault =
     let here : rows_of f ≡ matches_of reyes ws = rows ∙ ap (λ b. matches_of b ws) is in
     let none : fault_of reyes ws ≡ [] = ap (λ b. fault_of b ws) (sym is) ∙ fault in

@@ -142,11 +142,15 @@ command_for (Some action) None options parts = None
 command_for (Some action) (Some name) None parts = None
 command_for (Some action) (Some name) (Some options) parts = command_named action name options parts
 
+-- the command, where each of clap's names has its value by this function
+abbrev pub command_by : (Text → Option Text) → Option Command
+command_by value =
+    command_for (value (codes "action")) (value (codes "name"))
+    (options_for (value (codes "bucket")) (value (codes "grid-points")) (value (codes "stats")))
+    (parts_for (value (codes "part")) (value (codes "of")))
+
 abbrev pub command_in : List Row → Option Command
-command_in rows =
-    command_for (first_of (codes "action") rows) (first_of (codes "name") rows)
-    (options_for (first_of (codes "bucket") rows) (first_of (codes "grid-points") rows) (first_of (codes "stats") rows))
-    (parts_for (first_of (codes "part") rows) (first_of (codes "of") rows))
+command_in rows = command_by (λ name. first_of name rows)
 
 -- the command in some words, where clap finds no fault in them; a call for help is a fault too
 abbrev pub command_of : List Text → Option Command

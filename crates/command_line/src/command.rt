@@ -5,7 +5,7 @@ ghost use Rattle.clap.specs.Matches.{found_of, first_value};
 ghost use Rattle.clap.specs.Simple.{app_of};
 ghost use Rattle.clap.specs.Walk.{rule_of};
 ghost use Rattle.command_line.specs.Command.{reyes, action_rule, name_rule, bucket_rule, grid_points_rule, stats_rule, part_rule, of_rule, number_in, is_set, is_digit, patches_named};
-ghost use Rattle.command_line.specs.Command.{demo_command, file_command, part_command, join_command, scene_command, options_for, parts_for, command_named, command_for, command_of, command_view, scene_view};
+ghost use Rattle.command_line.specs.Command.{demo_command, file_command, part_command, join_command, scene_command, options_for, parts_for, command_named, command_by, command_of, command_view, scene_view};
 ghost use Rattle.command_line.specs.Ranges.{LieInRanges, IsInRange, IsInParts};
 ghost use Rattle.command_line.specs.Texts.{texts};
 
@@ -333,9 +333,7 @@ fn command_named<'a>(
 
 // The command among the words that clap found.
 fn command_found<'a>(matches: &ArgMatches<'a>) -> Option<Command<'a>>
-    ensures command { option_map command_view result ≡ command_for (first_value (found_of matches.now) (codes "action")) (first_value (found_of matches.now) (codes "name"))
-        (options_for (first_value (found_of matches.now) (codes "bucket")) (first_value (found_of matches.now) (codes "grid-points")) (first_value (found_of matches.now) (codes "stats")))
-        (parts_for (first_value (found_of matches.now) (codes "part")) (first_value (found_of matches.now) (codes "of"))) }
+    ensures command { option_map command_view result ≡ command_by (first_value (found_of matches.now)) }
     ensures ranges { IfSome result (λ c. IsInRange (command_view c)) }
 {
     let action = matches.get_str("action")?;

@@ -1,5 +1,6 @@
 // Grids in an arena: diced ones, and shaded ones.
 ghost use Rattle.std.specs.Prelude.{◌≡◌, ◌≤◌, ◌*◌, ◌+◌, ◌^◌, ℕ, List, length, IfOk};
+ghost use Rattle.std.specs.Option.{ForSome};
 ghost use Rattle.patches.specs.Boxes.{IsWithin};
 ghost use Rattle.patches.specs.Lists.{Each};
 ghost use Rattle.dice.specs.Grids.{line_count, diced_points};
@@ -12,8 +13,8 @@ use bumpalo::collections::into_bump_slice;
 use fixed_math::{NoMemory, Vec3};
 use patches::{Piece, Surface};
 
-/// A shaded grid in an arena: points, colours and opacities, each by rows, u fastest. Columns and rows are 2 to 17, and each
-/// slice has one item for each point of the grid.
+/// A shaded grid in an arena: points, colours and opacities, each by rows, u fastest, and where the points are when their motion
+/// ends, if they move. Columns and rows are 2 to 17, and each slice has one item for each point of the grid.
 #[derive(Clone, Copy)]
 pub struct GridRef<'a> {
     pub columns: usize,
@@ -21,6 +22,7 @@ pub struct GridRef<'a> {
     pub p: &'a [Vec3],
     pub ci: &'a [Vec3],
     pub oi: &'a [Vec3],
+    pub closing: Option<&'a [Vec3]>,
     pub ghost columns_from: { 2 ≤ columns },
     pub ghost columns_to: { columns ≤ 17 },
     pub ghost rows_from: { 2 ≤ rows },
@@ -28,6 +30,7 @@ pub struct GridRef<'a> {
     pub ghost points: { length p.now ≡ columns * rows },
     pub ghost colours: { length ci.now ≡ columns * rows },
     pub ghost opacities: { length oi.now ≡ columns * rows },
+    pub ghost closing_places: { ForSome closing (λ q. length q.now ≡ columns * rows) },
 }
 
 /// A diced grid in an arena, as a displacement or surface shader finds it: points and unit normals, each by rows, u fastest.

@@ -6,6 +6,7 @@ ghost use Rattle.grid_code.specs.Masked.{read, budgets, Asked, going as going_of
 ghost use Rattle.grid_machine.specs.State.{state_of, Runs, HasRegister, Whole, Kept};
 ghost use Rattle.grid_machine.specs.Writes.{BeginsTurn};
 
+use crate::held::nonzero_of;
 use crate::machine::Machine;
 use grid_code::Register;
 use place_rows::{Mask, both};
@@ -40,13 +41,7 @@ impl Machine<'_> {
         requires has { HasRegister self.now test }
         ensures { (i : ℕ) → i < self.now.registers.frame.now.places → get_or result.places i false ≡ holds (read (state_of self.now) test i) }
     {
-        let operand = self.registers.operand(test);
-        let mut mask = Mask::none();
-        for place in 0..self.registers.frame.places {
-            let cell = self.registers.get(operand, place);
-            mask.places[place] = self.registers.frame.setting.is_true(&cell);
-        }
-        mask
+        nonzero_of(&self.registers, test)
     }
 
     /// Whether a uniform register holds.

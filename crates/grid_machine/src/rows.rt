@@ -1,17 +1,20 @@
-// Rows that take triples.
-ghost use Rattle.std.specs.Prelude.{◌≡◌, ℕ, ◌<◌};
-ghost use Rattle.fixed_math.specs.Fixed.{sub};
+// Rows that take triples or give them.
+ghost use Rattle.std.specs.Prelude.{◌≡◌, ℕ, ◌+◌, ◌*◌, ◌<◌, ◌≤◌, pos, false, length, get_or};
+ghost use Rattle.fixed_math.specs.Fixed.{IsRaw, sub};
+ghost use Rattle.sl_ast.specs.declared.typed.Value.TheVariants as values;
+ghost use Rattle.builtins.specs.Values.{is_nonzero};
 ghost use Rattle.builtins.specs.Triples.{each_two};
 ghost use Rattle.builtins.specs.declared.shape.Shape.{Shape as AnyShape};
 ghost use Rattle.builtins.specs.declared.shape.Shape.TheVariants as shapes;
 ghost use Rattle.light_rows.specs.Seen.{IsSum, IsSumOf};
-ghost use Rattle.number_rows.specs.Planes.{triple_at, ArePlanes};
+ghost use Rattle.number_rows.specs.Planes.{plane_at, triple_at, ArePlanes};
 ghost use Rattle.place_rows.specs.Banks.{size};
+ghost use Rattle.grid_machine.specs.Run.{value_in};
 ghost use Rattle.grid_machine.specs.Writes.{row_at};
 
 use light_rows::{Illumination, Sum};
-use number_rows::{Planes, copy, parts_rows};
-use place_rows::Bank;
+use number_rows::{Planes, copy, give_raws, nonzero_places, parts_rows};
+use place_rows::{Bank, Mask};
 use sl_ast::ValueOperation;
 
 /// A row takes triples.
@@ -23,6 +26,32 @@ pub fn take(triples: &Planes, row: &mut Bank)
     copy(&triples.x, &mut row.xs);
     copy(&triples.y, &mut row.ys);
     copy(&triples.z, &mut row.zs);
+}
+
+/// Rows of raws take triples, from an element on.
+pub fn give(triples: &Planes, rows: &mut [i64], width: usize, start: usize, count: usize)
+    requires triples { ArePlanes count triples.now }
+    requires count { count ≤ width }
+    requires room { start + 3 * width ≤ length rows.old }
+    ensures long { length rows.new ≡ length rows.old }
+    ensures each { (i : ℕ) → i < count → value_in shapes.Triple rows.new width (start + i) ≡ values.Triple (triple_at triples.now i) }
+    ensures before { (k : ℕ) → k < start → get_or rows.new k (pos 0) ≡ get_or rows.old k (pos 0) }
+    ensures raws { ((k : ℕ) → IsRaw (get_or rows.old k (pos 0))) → (k : ℕ) → IsRaw (get_or rows.new k (pos 0)) }
+{
+    give_raws(&triples.x, rows, start, count);
+    give_raws(&triples.y, rows, start + width, count);
+    give_raws(&triples.z, rows, start + 2 * width, count);
+}
+
+/// The first places where the first parts of triples aren't 0. The first part of a number as a triple is the number.
+pub fn nonzero(triples: &Planes, count: usize) -> Mask
+    requires triples { ArePlanes count triples.now }
+    requires count { count ≤ 289 }
+    ensures { (i : ℕ) → i < count → get_or result.places i false ≡ is_nonzero (plane_at triples.now.x i) }
+{
+    let mut mask = Mask::none();
+    nonzero_places(&triples.x, count, &mut mask.places);
+    mask
 }
 
 /// A row takes the differences of triples to others.

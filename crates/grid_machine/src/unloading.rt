@@ -1,5 +1,5 @@
 // Rows that take the values of registers.
-ghost use Rattle.std.specs.Prelude.{◌≡◌, ℕ, ℤ, ◌+◌, ◌*◌, ◌<◌, ◌≤◌, pos, length, get_or, slice_set};
+ghost use Rattle.std.specs.Prelude.{◌≡◌, ℕ, ℤ, ◌+◌, ◌*◌, ◌<◌, ◌≤◌, pos, length, get_or};
 ghost use Rattle.fixed_math.specs.Fixed.{IsRaw};
 ghost use Rattle.builtins.specs.declared.shape.Shape.TheVariants as shapes;
 ghost use Rattle.grid_code.specs.Masked.{read};
@@ -7,9 +7,11 @@ ghost use Rattle.grid_code.specs.Shapes.{register_shape};
 ghost use Rattle.grid_machine.specs.Run.{value_in};
 ghost use Rattle.grid_machine.specs.State.{state_of, HasRegister, Whole};
 
+use crate::held::triples_of;
 use crate::machine::Machine;
-use fixed_math::{Num, Vec3};
+use crate::rows::give;
 use grid_code::Register;
+use number_rows::Planes;
 
 // Makes at most 128 elements from one on 0.
 fn clear_piece(rows: &mut [i64], start: usize)
@@ -33,25 +35,6 @@ pub fn clear(rows: &mut [i64])
     }
 }
 
-fn set_raw(rows: &mut [i64], at: usize, x: Num)
-    requires { at < length rows.old }
-    ensures value { rows.new ≡ slice_set rows.old at x }
-    ensures raw { IsRaw x }
-{
-    rows[at] = x.raw();
-}
-
-// Writes a triple into an element of each of three rows.
-fn set_triple(rows: &mut [i64], width: usize, at: usize, t: Vec3)
-    requires room { at + 2 * width < length rows.old }
-    ensures value { rows.new ≡ slice_set (slice_set (slice_set rows.old at t.x) (at + width) t.y) (at + 2 * width) t.z }
-    ensures raws { IsRaw t.x × (IsRaw t.y × IsRaw t.z) }
-{
-    set_raw(rows, at, t.x);
-    set_raw(rows, at + width, t.y);
-    set_raw(rows, at + 2 * width, t.z);
-}
-
 impl Machine<'_> {
     /// Writes the values of a register of triples into three rows from an element on.
     pub fn unload(&self, from: Register, rows: &mut [i64], width: usize, start: usize)
@@ -65,15 +48,13 @@ impl Machine<'_> {
         ensures before { (k : ℕ) → k < start → get_or rows.new k (pos 0) ≡ get_or rows.old k (pos 0) }
         ensures raws { ((k : ℕ) → IsRaw (get_or rows.old k (pos 0))) → (k : ℕ) → IsRaw (get_or rows.new k (pos 0)) }
     {
-        let operand = self.registers.operand(from);
-        for place in 0..self.registers.frame.places {
-            let cell = self.registers.get(operand, place);
-            set_triple(
-                rows,
-                width,
-                start + place,
-                self.registers.frame.setting.triple(&cell),
-            );
-        }
+        let Planes { x, y, z } = triples_of(&self.registers, from);
+        give(
+            &Planes { x, y, z },
+            rows,
+            width,
+            start,
+            self.registers.frame.places,
+        );
     }
 }

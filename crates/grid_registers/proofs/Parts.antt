@@ -29,7 +29,7 @@ use Rattle.place_rows.specs.declared.bank.Bank.{Bank}
 use Rattle.grid_registers.specs.declared.registers.Registers.{Registers}
 use Rattle.grid_registers.specs.declared.operand.Operand.{Operand}
 use Rattle.grid_registers.specs.declared.operand.Operand.TheVariants.{Row, Shared}
-use Rattle.grid_registers.specs.Operands.{operand_at, shape_at, is_number, is_triple, is_number_at, two_numbers, three_numbers, has_triple}
+use Rattle.grid_registers.specs.Operands.{operand_at, shape_at, is_number, is_triple, is_number_at, two_numbers, three_numbers, has_triple, AreGrey}
 use Rattle.grid_registers.specs.Held.{texts_of, HoldsEach}
 use Rattle.grid_registers.proofs.Filled.{shape_is}
 use Rattle.grid_registers.proofs.Writes.{held_shape}
@@ -196,6 +196,15 @@ module _ (r : Registers) (q t : Operand) (i : ℕ) (b : Bool) where
   pub choice_of_triples : has_triple q t ≡ true → chosen b (operand_at r q i) (operand_at r t i) ≡ values.Triple (record { x = cond b (triple_of (operand_at r q i)).x (triple_of (operand_at r t i)).x; y = cond b (triple_of (operand_at r q i)).y (triple_of (operand_at r t i)).y; z = cond b (triple_of (operand_at r q i)).z (triple_of (operand_at r t i)).z })
   choice_of_triples h =
       chosen_of_others b (operand_at r q i) (operand_at r t i) (ap (λ s. is_triple s || is_triple (shape (operand_at r t i))) (operand_shape r q i) ∙ ap (λ s. is_triple (shape_at q) || is_triple s) (operand_shape r t i) ∙ h)
+
+-- the parts of values that aren't triples are the same
+grey_of : (v : Value) → is_triple (shape v) ≡ false → ((triple_of v).y ≡ (triple_of v).x) × ((triple_of v).z ≡ (triple_of v).x)
+grey_of (values.Number x) h = (refl, refl)
+grey_of (values.Triple t) h = absurd (true≢false h)
+grey_of (values.Word w) h = (refl, refl)
+
+pub grey_by_shape : (r : Registers) (p : Operand) → is_triple (shape_at p) ≡ false → AreGrey r p
+grey_by_shape r p h i = grey_of (operand_at r p i) (ap is_triple (operand_shape r p i) ∙ h)
 
 -- noise of a value of the shape of triples is that at the triple
 pub noise_of_triple : (v : Value) → shape v ≡ shapes.Triple → noise_of v ≡ values.Number (noise (triple_of v))

@@ -1,5 +1,5 @@
 -- For private contracts alone: what instructions work on, where each operand has been found.
-use Rattle.std.specs.Prelude.{ℕ, ℤ, ◌+◌, ◌<◌, ◌≤◌, pos, Bool, true, false, ◌&&◌, ◌||◌, List, [], ◌∷◌}
+use Rattle.std.specs.Prelude.{◌≡◌, ℕ, ℤ, ◌+◌, ◌<◌, ◌≤◌, pos, Bool, true, false, ◌&&◌, ◌||◌, List, [], ◌∷◌}
 use Rattle.fixed_math.specs.declared.vec3.Vec3.{Vec3}
 use Rattle.transforms.specs.declared.spaces.Spaces.{Spaces}
 use Rattle.sl_ast.specs.declared.operations.ValueOperation.{ValueOperation}
@@ -35,6 +35,10 @@ operand_number r q i = number_of (operand_at r q i)
 
 abbrev pub operand_triple : Registers → Operand → ℕ → Vec3
 operand_triple r q i = triple_of (operand_at r q i)
+
+-- the three parts of each of its values are the same
+abbrev pub AreGrey : Registers → Operand → Type 0
+AreGrey r q = (i : ℕ) → ((operand_triple r q i).y ≡ (operand_triple r q i).x) × ((operand_triple r q i).z ≡ (operand_triple r q i).x)
 
 -- a row holds at each place what a function gives
 abbrev pub Fills : Registers → Bank → (ℕ → Value) → Type 0

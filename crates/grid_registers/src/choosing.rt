@@ -194,6 +194,13 @@ impl Registers<'_> {
             Op::Length => self.number_of_triple::<Length>(p, row),
             Op::Normalize => self.triple_of_one::<Normalize>(p, row),
             Op::Noise => self.noise(p, row),
+            Op::Transform(from, into) => { self.transformed(op, SlType::Point, from, into, p, row) }
+            Op::VTransform(from, into) => {
+                self.transformed(op, SlType::Vector, from, into, p, row)
+            }
+            Op::NTransform(from, into) => {
+                self.transformed(op, SlType::Normal, from, into, p, row)
+            }
             _ => self.fill(&Work::One(op, p), self.frame.places, row),
         }
     }

@@ -16,6 +16,7 @@ mod planes;
 mod reading;
 mod registers;
 mod room;
+mod spaces;
 
 pub use frame::{Frame, Steps};
 pub use operand::{Operand, Work};

@@ -4,12 +4,13 @@ ghost use Rattle.builtins.specs.declared.shape.Shape.{Shape as AnyShape};
 ghost use Rattle.builtins.specs.Formulas as formulas;
 ghost use Rattle.builtins.specs.Values as spec;
 ghost use Rattle.place_rows.specs.Banks.{size};
-ghost use Rattle.grid_registers.specs.Operands.{operand_at, two_numbers, three_numbers, is_number_at, OperandIn, Fills};
+ghost use Rattle.grid_registers.specs.Operands.{operand_at, two_numbers, three_numbers, is_number_at, AreGrey, OperandIn, Fills};
 
 use crate::operand::Operand;
 use crate::registers::Registers;
 use builtins::Shape;
-use number_rows::{part_row, parts_rows, three_parts_rows};
+use fixed_math::Axis;
+use number_rows::{Plane, copy, part_row, parts_rows, three_parts_rows};
 use place_rows::Bank;
 use sl_ast::ValueOperation as Op;
 
@@ -88,8 +89,8 @@ impl Registers<'_> {
         parts_rows(op, &self.numbers(p), &self.numbers(q), &mut row.numbers);
     }
 
-    // On triples.
-    fn parts_of_triples(&self, op: Op, p: Operand, q: Operand, row: &mut Bank)
+    // On triples, each part of which is worked out.
+    fn all_parts_of_triples(&self, op: Op, p: Operand, q: Operand, row: &mut Bank)
         requires p { OperandIn self.now p }
         requires q { OperandIn self.now q }
         requires others { two_numbers p q ≡ false }
@@ -101,6 +102,56 @@ impl Registers<'_> {
         parts_rows(op, &a.x, &b.x, &mut row.xs);
         parts_rows(op, &a.y, &b.y, &mut row.ys);
         parts_rows(op, &a.z, &b.z, &mut row.zs);
+    }
+
+    // On triples whose three parts are the same, which are worked out once.
+    fn same_parts_of_triples(&self, op: Op, p: Operand, q: Operand, row: &mut Bank)
+        requires p { OperandIn self.now p }
+        requires q { OperandIn self.now q }
+        requires others { two_numbers p q ≡ false }
+        requires same_p { AreGrey self.now p }
+        requires same_q { AreGrey self.now q }
+        requires room { (s : AnyShape) → size row.old s ≡ self.now.frame.now.places }
+        ensures size { (s : AnyShape) → size row.new s ≡ size row.old s }
+        ensures each { Fills self.now row.new (λ i. spec.by_parts (formulas.parts op) (operand_at self.now p i) (operand_at self.now q i)) }
+    {
+        let (a, b) = (self.triples(p), self.triples(q));
+        parts_rows(op, &a.x, &b.x, &mut row.xs);
+        copy(&Plane::Row(&row.xs), &mut row.ys);
+        copy(&Plane::Row(&row.xs), &mut row.zs);
+    }
+
+    // Whether the three parts of an operand's values are the same, as those of numbers are, and of a grey that is the same at all places.
+    fn is_grey(&self, p: Operand) -> bool
+        requires { OperandIn self.now p }
+        ensures { result ≡ true → AreGrey self.now p }
+    {
+        match p {
+            Operand::Row(Shape::Triple, _) => false,
+            Operand::Row(Shape::Number, _) | Operand::Row(Shape::Word, _) => true,
+            Operand::Shared(shape, at) => {
+                let x = self.shared.value(shape, Axis::X, at);
+                let y = self.shared.value(shape, Axis::Y, at);
+                let z = self.shared.value(shape, Axis::Z, at);
+                x.raw() == y.raw() && x.raw() == z.raw()
+            }
+        }
+    }
+
+    // On triples.
+    fn parts_of_triples(&self, op: Op, p: Operand, q: Operand, row: &mut Bank)
+        requires p { OperandIn self.now p }
+        requires q { OperandIn self.now q }
+        requires others { two_numbers p q ≡ false }
+        requires room { (s : AnyShape) → size row.old s ≡ self.now.frame.now.places }
+        ensures size { (s : AnyShape) → size row.new s ≡ size row.old s }
+        ensures each { Fills self.now row.new (λ i. spec.by_parts (formulas.parts op) (operand_at self.now p i) (operand_at self.now q i)) }
+    {
+        if self.is_grey(p) && self.is_grey(q) {
+            self.same_parts_of_triples(op, p, q, row);
+        } else {
+            self.all_parts_of_triples(op, p, q, row);
+        }
     }
 
     /// An operation that goes part by part.

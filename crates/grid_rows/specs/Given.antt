@@ -7,18 +7,19 @@ use Rattle.scene.specs.declared.params.Kind.{Kind}
 use Rattle.scene.specs.declared.params.Kind.TheVariants as kinds
 use Rattle.scene.specs.Scene.{VariableValue}
 use Rattle.sl_ast.specs.declared.typed.Value.{Value}
+use Rattle.sl_ast.specs.declared.typed.Value.TheVariants.{Number}
 use Rattle.sl_ast.specs.Typed.{Local}
 use Rattle.grid_code.specs.declared.slot.Slot.{Slot}
 use Rattle.grid_code.specs.declared.register_set.RegisterSet.{RegisterSet}
 use Rattle.sl_ast.specs.declared.kinds.SlKind.{SlKind}
 use Rattle.sl_ast.specs.declared.kinds.Predefined.{Predefined}
 use Rattle.sl_ast.specs.declared.kinds.Predefined.TheVariants as names
-use Rattle.grid_variables.specs.Points.{Leaf, normal_of, u_at, v_at, dpdu, dpdv}
-use Rattle.grid_variables.specs.Variables.{s_at, t_at, cs_at, os_at, spread, bound_variable}
+use Rattle.grid_variables.specs.Points.{Leaf, lines, normal_of, u_at, v_at, dpdu, dpdv}
+use Rattle.grid_variables.specs.Variables.{s_at, t_at, cs_at, os_at, spread, bound_variable, values_at}
 use Rattle.grid_variables.specs.Places.{point_count, over, normals_of}
 use Rattle.grid_variables.specs.declared.variables.Variables.{Variables}
 use Rattle.grid_rows.specs.Parameters.{ParameterValues}
-use Rattle.grid_rows.specs.Rows.{row_of, triple_rows, value_rows}
+use Rattle.grid_rows.specs.Rows.{row_of, triple_rows, value_rows, values_of}
 use Rattle.grid_rows.specs.Wanted.{given_order, wanted, zero_of_name}
 
 -- a variable's value at all points
@@ -40,6 +41,13 @@ rows_or l (Some x) v = variable_rows l x
 abbrev pub param_rows : Leaf → List Local → List Slot → List Value → List ℤ
 param_rows l (p ∷ ps) (s ∷ ss) (v ∷ vs) = cond s.uniform (param_rows l ps ss vs) (rows_or l (bound_variable p.name l.prim.vars) v ++ param_rows l ps ss vs)
 param_rows l _ _ _ = []
+
+-- the values of the parameters that don't vary, and those with the steps of u and v, as a surface's shader is given them
+abbrev pub steady_values : Leaf → ParameterValues → List Value
+steady_values l ps = values_of true ps.slots (values_at l ps.locals ps.values 0)
+
+abbrev pub surface_values : Leaf → ParameterValues → List Value
+surface_values l ps = steady_values l ps ++ Number (lines l).du ∷ Number (lines l).dv ∷ []
 
 -- a variable at all points
 abbrev pub name_rows : Leaf → Variables → Predefined → List ℤ

@@ -1,11 +1,9 @@
 // The values of a shader's parameters on a leaf: those of its primitive's variables, else those that are bound to them.
-ghost use Rattle.std.specs.Prelude.{◌≡◌, ◌≤◌, ◌++◌, ◌∷◌, [], true, length, map, IfOk};
-ghost use Rattle.sl_ast.specs.declared.typed.Value.TheVariants as values;
+ghost use Rattle.std.specs.Prelude.{◌≡◌, ◌≤◌, ◌++◌, true, length, map, IfOk};
 ghost use Rattle.sl_ast.specs.TypedView.{local_of};
-ghost use Rattle.grid_variables.specs.Points.{lines};
 ghost use Rattle.grid_variables.specs.Variables.{bound_variable as bound_of, values_at};
 ghost use Rattle.grid_rows.specs.Rows.{values_of};
-ghost use Rattle.grid_rows.specs.Given.{rows_by, variable_rows, rows_or, param_rows};
+ghost use Rattle.grid_rows.specs.Given.{rows_by, variable_rows, rows_or, param_rows, steady_values, surface_values};
 
 use crate::parameters::Parameters;
 use crate::rows::{Rows, push_firsts, push_triples, push_value};
@@ -126,7 +124,7 @@ pub fn uniform_values(
     leaf: &Leaf,
     parameters: &Parameters,
 ) -> Result<Vec<Value>, NoMemory>
-    ensures { IfOk result (λ given. given.items ≡ values_of true parameters.now.slots (values_at leaf.now parameters.now.locals parameters.now.values 0)) }
+    ensures { IfOk result (λ given. given.items ≡ steady_values leaf.now parameters.now) }
 {
     values_by(
         alloc,
@@ -143,7 +141,7 @@ pub fn surface_values(
     leaf: &Leaf,
     parameters: &Parameters,
 ) -> Result<Vec<Value>, NoMemory>
-    ensures { IfOk result (λ given. given.items ≡ values_of true parameters.now.slots (values_at leaf.now parameters.now.locals parameters.now.values 0) ++ values.Number (lines leaf.now).du ∷ values.Number (lines leaf.now).dv ∷ []) }
+    ensures { IfOk result (λ given. given.items ≡ surface_values leaf.now parameters.now) }
 {
     let mut given = uniform_values(alloc, leaf, parameters)?;
     given.push(Value::Number(leaf.du()))?;

@@ -83,6 +83,7 @@ pub fn grid_of<'a>(
     ensures points { IfOk result (λ grid. grid.p.now ≡ variables.now.points.now) }
     ensures colours { IfOk result (λ grid. grid.ci.now ≡ variables.now.colours.now) }
     ensures opacities { IfOk result (λ grid. grid.oi.now ≡ map opacity variables.now.opacities.now) }
+    ensures closing { IfOk result (λ grid. grid.closing ≡ None) }
 {
     let p = copied(arena, variables.points)?;
     let ci = copied(arena, variables.colours)?;
@@ -95,5 +96,6 @@ pub fn grid_of<'a>(
         p,
         ci,
         oi,
+        closing: None,
     })
 }

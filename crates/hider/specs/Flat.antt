@@ -1,6 +1,6 @@
 -- Micropolygons of a grid whose points were put on the raster before: those of one colour and opacity, and those whose corners have
 -- their own.
-use Rattle.std.specs.Prelude.{◌≡◌, ℕ, ◌<◌, ℤ, pos, Bool, false, cond, ◌&&◌, int_le, Option, Some, None, List, length, slice_index_or}
+use Rattle.std.specs.Prelude.{◌≡◌, ℕ, ◌<◌, ℤ, pos, Bool, false, cond, ◌&&◌, int_le, Option, Some, None, List, [], ◌∷◌, length, slice_index_or}
 use Rattle.fixed_math.specs.declared.vec3.Vec3.{Vec3}
 use Rattle.fixed_math.specs.Axes.{origin}
 use Rattle.fixed_math.specs.Spots.{Spot}
@@ -15,11 +15,14 @@ use Rattle.hider.specs.declared.quad.Quad.{Quad}
 use Rattle.hider.specs.declared.raster_cell.RasterCell.{RasterCell}
 use Rattle.hider.specs.declared.raster_point.RasterPoint.{RasterPoint}
 use Rattle.hider.specs.declared.sample.Sample.{Sample}
+use Rattle.hider.specs.declared.sample_grid.SampleGrid.{SampleGrid}
 use Rattle.hider.specs.declared.seen_grid.SeenGrid.{SeenGrid}
 use Rattle.hider.specs.Bounding.{bounds_of, holds}
-use Rattle.hider.specs.CellValues.{CellValues, values_of, micropolygons_of}
+use Rattle.hider.specs.CellValues.{CellValues, cell_when, values_of, micropolygons_of}
+use Rattle.hider.specs.Cells.{still}
 use Rattle.hider.specs.Coverage.{covers, covers_facing, covers_triangle}
-use Rattle.hider.specs.Tiles.{TileValue, Shows, with_covering}
+use Rattle.hider.specs.Fragments.{covering}
+use Rattle.hider.specs.Tiles.{TileValue, Shows, HavePut, with_covering}
 
 -- a depth from near to far
 abbrev pub is_seen : View → ℤ → Bool
@@ -73,6 +76,11 @@ pub record IsFlat (v : View) (k : CellValues) (i : ℕ) (f : FlatCell) : Type 0 
   pub placed : IsPlaced v k.corner i f
   pub colour : (j : ℕ) → f.colour ≡ k.colour i j
   pub opacity : (j : ℕ) → f.opacity ≡ k.opacity i j
+
+-- all that f shows has been put in, where b is the box round it: what any camera sees of any cell that f is
+abbrev pub HavePutFlat : SampleGrid → Bool → Bool → Bounds → FlatCell → List (List Fragment) → List (List Fragment) → Type 0
+HavePutFlat g one_sided flip b f old new =
+    (v : View) (k : CellValues) (i : ℕ) → IsFlat v k i f → b ≡ bounds_of (flat_quad f) → HavePut g (covering v (still one_sided flip (cell_when k i 0) ∷ [])) old new
 
 -- the boxes round all cells, in order
 pub record AreBoxes (v : View) (k : CellValues) (boxes : List Bounds) : Type 0 where

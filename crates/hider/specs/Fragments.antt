@@ -1,12 +1,13 @@
 -- What a sample sees: the fragments of the micropolygons that cover it, in order of depth.
-use Rattle.std.specs.Prelude.{ℤ, ◌≤ℤ◌, ◌≡◌, cond, int_le, Option, List, [], ◌∷◌}
-use Rattle.std.specs.List.{fold, filter, filter_map}
+use Rattle.std.specs.Prelude.{ℤ, ◌≤ℤ◌, ◌≡◌, cond, int_le, Bool, Option, List, [], ◌∷◌}
+use Rattle.std.specs.List.{fold, filter, filter_map, cons_option}
 use Rattle.std.specs.Option.{option_and_then}
 use Rattle.std.specs.Ordering.{int_eq}
 use Rattle.transforms.specs.declared.view.View.{View}
-use Rattle.hider.specs.Cells.{Micropolygon, seen_at}
+use Rattle.hider.specs.Cells.{Micropolygon, seen, seen_at}
 use Rattle.hider.specs.Coverage.{covers}
 use Rattle.hider.specs.declared.fragment.Fragment.{Fragment}
+use Rattle.hider.specs.declared.quad.Quad.{Quad}
 use Rattle.hider.specs.declared.sample.Sample.{Sample}
 
 -- what a micropolygon shows at a sample: what the camera sees of it at the sample's time, where that covers the sample's place
@@ -16,6 +17,10 @@ fragment_of v s m = option_and_then (λ q. covers q s.place) (seen_at v s.time m
 -- the fragments of the covering micropolygons, in the order of the scene
 abbrev pub covering : View → List Micropolygon → Sample → List Fragment
 covering v ms s = filter_map (fragment_of v s) ms
+
+-- the fragment of a quad on the raster that covers, where its one side isn't turned away
+abbrev pub quad_covering : Bool → Bool → Quad → Sample → List Fragment
+quad_covering one_sided flip q s = cons_option (option_and_then (λ r. covers r s.place) (seen one_sided flip q)) []
 
 -- f put in by depth, behind those of equal depth
 abbrev pub put_in : Fragment → List Fragment → List Fragment

@@ -1,14 +1,11 @@
 // The cells of a grid that stays where it is, each of one colour and opacity: its points are put on the raster once.
-ghost use Rattle.std.specs.Prelude.{◌≡◌, ◌<◌, ◌≤◌, ◌^◌, ◌+ℤ◌, [], ◌∷◌, false, OnOk, ℕ, length, unsigned_abs};
-ghost use Rattle.std.specs.List.{cons_option};
-ghost use Rattle.std.specs.Option.{option_and_then};
+ghost use Rattle.std.specs.Prelude.{◌≡◌, ◌<◌, ◌≤◌, ◌^◌, ◌+ℤ◌, [], ◌∷◌, false, OnOk, length, unsigned_abs};
 ghost use Rattle.transforms.specs.declared.view.View.{View};
 ghost use Rattle.hider.specs.Bounding.{bounds_of};
-ghost use Rattle.hider.specs.CellValues.{CellValues, micropolygons_of, cell_when, values_of};
-ghost use Rattle.hider.specs.Cells.{still, seen};
-ghost use Rattle.hider.specs.Coverage.{covers};
-ghost use Rattle.hider.specs.Flat.{AreBoxes, AreOnRaster, IsFlat, IsSeenBy, are_all_seen, flat_of, flat_quad, held_covers};
-ghost use Rattle.hider.specs.Fragments.{covering};
+ghost use Rattle.hider.specs.CellValues.{micropolygons_of, cell_when, values_of};
+ghost use Rattle.hider.specs.Cells.{still};
+ghost use Rattle.hider.specs.Flat.{AreBoxes, AreOnRaster, HavePutFlat, IsFlat, IsSeenBy, are_all_seen, flat_of, flat_quad, held_covers};
+ghost use Rattle.hider.specs.Fragments.{covering, quad_covering};
 ghost use Rattle.hider.specs.Searching.{IsPartOf, StaysIn};
 ghost use Rattle.hider.specs.Tiles.{HavePut, sample_count};
 
@@ -91,7 +88,7 @@ fn hide_in(
     requires part { IsPartOf part.now places.now.grid }
     requires beside { StaysIn part.now places.now.grid (λ s. held_covers bounds.now (flat_of cell.now) s.place) }
     ensures { OnOk result (bounds.now ≡ bounds_of (flat_quad (flat_of cell.now)) →
-        HavePut places.now.grid (λ s. cons_option (option_and_then (λ q. covers q s.place) (seen one_sided flip (flat_quad (flat_of cell.now)))) []) lists.old lists.new) }
+        HavePut places.now.grid (quad_covering one_sided flip (flat_quad (flat_of cell.now))) lists.old lists.new) }
 {
     let first = edge_at(cell.a.place, cell.b.place, cell.c.place);
     let second = edge_at(cell.a.place, cell.c.place, cell.d.place);
@@ -118,8 +115,7 @@ fn hide_flat(
     flip: bool,
 ) -> Result<(), NoMemory>
     requires enough { sample_count places.now.grid ≤ length lists.old }
-    ensures { OnOk result ((v : View) (k : CellValues) (i : ℕ) → IsFlat v k i (flat_of cell.now) → bounds.now ≡ bounds_of (flat_quad (flat_of cell.now)) →
-        HavePut places.now.grid (covering v (still one_sided flip (cell_when k i 0) ∷ [])) lists.old lists.new) }
+    ensures { OnOk result (HavePutFlat places.now.grid one_sided flip bounds.now (flat_of cell.now) lists.old lists.new) }
 {
     if !are_all_seen(cell) {
         return Ok(());

@@ -1,14 +1,11 @@
 // The cells of a grid that stays where it is, whose corners have colours and opacities of their own: its points are put on the
 // raster once.
 ghost use Rattle.std.specs.Prelude.{◌≡◌, ◌<◌, ◌≤◌, ◌*◌, [], ◌∷◌, true, OnOk, length};
-ghost use Rattle.std.specs.List.{cons_option};
-ghost use Rattle.std.specs.Option.{option_and_then};
 ghost use Rattle.transforms.specs.declared.view.View.{View};
 ghost use Rattle.hider.specs.CellValues.{cell_when, micropolygons_of, values_of};
-ghost use Rattle.hider.specs.Cells.{projected, still, seen};
-ghost use Rattle.hider.specs.Coverage.{covers};
+ghost use Rattle.hider.specs.Cells.{projected, still};
 ghost use Rattle.hider.specs.Flat.{IsPlaced, IsSeenBy, are_all_seen, flat_of, own_corner};
-ghost use Rattle.hider.specs.Fragments.{covering};
+ghost use Rattle.hider.specs.Fragments.{covering, quad_covering};
 ghost use Rattle.hider.specs.Tiles.{HavePut, sample_count};
 
 use crate::beside::is_beside;
@@ -63,7 +60,7 @@ fn hide_quad(
     flip: bool,
 ) -> Result<(), NoMemory>
     requires enough { sample_count places.now.grid ≤ length lists.old }
-    ensures { OnOk result (HavePut places.now.grid (λ s. cons_option (option_and_then (λ q. covers q s.place) (seen one_sided flip quad)) []) lists.old lists.new) }
+    ensures { OnOk result (HavePut places.now.grid (quad_covering one_sided flip quad) lists.old lists.new) }
 {
     if is_turned_away(one_sided, flip, turn_of(&quad)) {
         return Ok(());

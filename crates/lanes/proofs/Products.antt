@@ -1,5 +1,5 @@
 -- Products of numbers of 32 bits.
-use Rattle.std.proofs.Common.{◌≤◌, ◌<◌, ◌+◌, ◌*◌, ℕ, ℤ, ◌*ℤ◌, arith}
+use Rattle.std.proofs.Common.{◌≡◌, ◌≤◌, ◌<◌, ◌+◌, ◌*◌, ℕ, ℤ, pos, negsuc, ◌*ℤ◌, refl, arith}
 use Rattle.std.specs.Int.RustNames.{unsigned_abs}
 use Rattle.std.proofs.lemmas.Int.{unsigned_abs-mul}
 use Rattle.std.proofs.Math.Nat.{mul-le-mul}
@@ -23,3 +23,7 @@ pub square_small : (c : ℕ) → c < 70368744177664 → c * c < 4951760157141521
 square_small c h =
     let a : c ≤ 70368744177663 = omega arith in
     let le = mul-le-mul a a in omega arith
+
+pub square_is : (c : ℤ) → c *ℤ c ≡ pos (unsigned_abs c * unsigned_abs c)
+square_is (pos n) = refl
+square_is (negsuc n) = refl

@@ -17,12 +17,13 @@ pub struct Direction {
 }
 
 #[inline(always)]
+#[tactic(auto, using(crate::proofs::Products::product_small, crate::proofs::Products::square_is))]
 fn square(c: i32) -> u64
     ensures value { result ≡ square c }
     ensures bound { result ≤ 4611686018427387904 }
 {
-    let magnitude = (c as i64).unsigned_abs();
-    magnitude * magnitude
+    let wide = c as i64;
+    (wide * wide) as u64
 }
 
 #[inline(always)]

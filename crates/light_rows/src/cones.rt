@@ -1,17 +1,18 @@
 // Cones made ready for many directions, and the points of statements over lights. A grid has at most 17 columns of 17 places.
-ghost use Rattle.std.specs.Prelude.{◌≡◌, ℕ, ◌<◌, ◌≤◌, pos, false, length, get_or};
+ghost use Rattle.std.specs.Prelude.{◌≡◌, ℕ, ◌<◌, ◌≤◌, pos, true, false, length, get_or, IfSome};
 ghost use Rattle.fixed_math.specs.Sine.{cos};
 ghost use Rattle.fixed_math.specs.declared.vec3.Vec3.{Vec3 as AnyVec3};
 ghost use Rattle.builtins.specs.Triples.{normalize};
 ghost use Rattle.number_rows.specs.Planes.{plane_at, triple_at, triple_in, IsPlane, ArePlanes};
 ghost use Rattle.light_rows.specs.Seen.{cone_at, IsCone};
-ghost use Rattle.light_rows.specs.Scopes.{cones_at, points_at, scope_at};
+ghost use Rattle.light_rows.specs.Scopes.{one_at, cones_at, points_at, scope_at};
 
 use crate::points::{Numbers, Points};
-use crate::units::{cosine, one_unit};
+use crate::units::{cosine, one_unit, unit_of};
 use crate::viewing::Cone;
+use builtins::dot;
 use fixed_math::Vec3;
-use number_rows::{Dot, Normalize, OfTriples, Plane, Planes, Raw, ToTriple};
+use number_rows::{Normalize, Plane, Planes, Raw, ToTriple};
 use place_rows::Mask;
 
 /// The cone of each place by the unit of its axis and the cosine of its angle; where none is given, all directions lie in it.
@@ -96,12 +97,13 @@ impl Cones {
     }
 
     /// Whether a direction lies in the cone of a place, by its unit.
+    #[inline(always)]
     pub(crate) fn holds(&self, place: usize, unit: Vec3) -> bool
         requires { place < 289 }
         ensures { (l : AnyVec3) → unit ≡ normalize l → result ≡ cones_at self.now place l }
     {
         if self.given {
-            let cosine = Dot::apply(unit, self.axes.at(place));
+            let cosine = dot(unit, self.axes.at(place));
             self.cosines.row[place].raw() <= cosine.raw()
         } else {
             true
@@ -122,7 +124,65 @@ impl Cones {
     }
 }
 
+/// A cone that is the same at all places, by the unit of its axis and the cosine of its angle.
+#[derive(Clone, Copy)]
+pub struct OneCone {
+    pub axis: Vec3,
+    pub cosine: Raw,
+}
+
+impl OneCone {
+    // Whether a direction lies in it, by its unit.
+    #[inline(always)]
+    fn holds(&self, unit: Vec3) -> bool
+        ensures { (l : AnyVec3) → unit ≡ normalize l → result ≡ one_at self.now l }
+    {
+        self.cosine.raw() <= dot(unit, self.axis).raw()
+    }
+
+    // The places of directions that lie in it.
+    fn mask(&self, directions: &Planes, count: usize) -> Mask
+        requires count { count ≤ 289 }
+        requires directions { ArePlanes count directions.now }
+        ensures { (i : ℕ) → i < count → get_or result.places i false ≡ one_at self.now (triple_at directions.now i) }
+    {
+        let mut mask = Mask::none();
+        for place in 0..count {
+            mask.places[place] = self.holds(Normalize::apply(directions.at(place)));
+        }
+        mask
+    }
+}
+
 impl Cone<'_> {
+    // The cone of all places, where it is the same at all.
+    fn one(&self) -> Option<OneCone>
+        requires given { self.now.given ≡ true }
+        ensures { IfSome result (λ one. (i : ℕ) (l : AnyVec3) → one_at one l ≡ cone_at self.now i l) }
+    {
+        match (&self.axis.x, &self.axis.y, &self.axis.z, &self.angle) {
+            (Plane::Value(x), Plane::Value(y), Plane::Value(z), Plane::Value(angle)) => {
+                Some(OneCone {
+                    axis: unit_of(*x, *y, *z),
+                    cosine: cosine(*angle),
+                })
+            }
+            _ => None,
+        }
+    }
+
+    // The places of directions that lie in the cone of each. Not inlined, so that the rows of cones take no time where there is only one.
+    #[inline(never)]
+    fn mask_each(&self, directions: &Planes, count: usize) -> Mask
+        requires count { count ≤ 289 }
+        requires cone { IsCone count self.now }
+        requires directions { ArePlanes count directions.now }
+        ensures { (i : ℕ) → i < count → get_or result.places i false ≡ cone_at self.now i (triple_at directions.now i) }
+    {
+        let cones = Cones::of(self, count);
+        cones.mask(directions, count)
+    }
+
     /// The places of directions that lie in it.
     pub fn mask(&self, directions: &Planes, count: usize) -> Mask
         requires count { count ≤ 289 }
@@ -130,11 +190,12 @@ impl Cone<'_> {
         requires directions { ArePlanes count directions.now }
         ensures { (i : ℕ) → i < count → get_or result.places i false ≡ cone_at self.now i (triple_at directions.now i) }
     {
-        if self.given {
-            let cones = Cones::of(self, count);
-            cones.mask(directions, count)
-        } else {
-            Mask::full()
+        if !self.given {
+            return Mask::full();
+        }
+        match self.one() {
+            Some(one) => one.mask(directions, count),
+            None => self.mask_each(directions, count),
         }
     }
 }

@@ -5,13 +5,13 @@ ghost use Rattle.fixed_math.specs.Power.{pow};
 ghost use Rattle.builtins.specs.Numbers.{max};
 ghost use Rattle.builtins.specs.Triples.{each_two, dot};
 ghost use Rattle.builtins.specs.Values.{is_nonzero};
-ghost use Rattle.number_rows.specs.Planes.{triple_at, ArePlanes};
+ghost use Rattle.number_rows.specs.Planes.{ArePlanes};
 ghost use Rattle.number_rows.specs.Truths as truths;
-ghost use Rattle.light_rows.specs.Loops.{half_way, weight, is_before, with_share, shown_highlight};
+ghost use Rattle.light_rows.specs.Loops.{half_way, weight, is_before, with_share, shown_highlight, highlight_at};
 ghost use Rattle.light_rows.specs.Seen.{size, at_place};
 
 use crate::triples::Triples;
-use builtins::max;
+use builtins::{dot, max};
 use fixed_math::{Num, Vec3};
 use number_rows::{
     Add, Dot, Multiply, Normalize, OfTriples, Planes, Power, Raw, ToTriple, ToTriples, Two,
@@ -56,7 +56,7 @@ fn positive(x: Num) -> Num
 fn weight_of(a: Vec3, b: Vec3) -> Raw
     ensures { result ≡ weight a b }
 {
-    Raw::of(positive(Dot::apply(a, b)))
+    Raw::of(positive(dot(a, b)))
 }
 
 // The same of triples in rows.
@@ -240,7 +240,7 @@ pub fn shine(
     requires v { ArePlanes (length out.old) v.now }
     requires exponents { length exponents.now ≡ length out.old }
     ensures long { length out.new ≡ length out.old }
-    ensures each { (i : ℕ) → i < length out.old → get_or out.new i (pos 0) ≡ shown_highlight (get_or shown.now i (pos 0)) (at_place normals.now i) (at_place units.now i) (triple_at v.now i) (get_or exponents.now i (pos 0)) }
+    ensures each { (i : ℕ) → i < length out.old → get_or out.new i (pos 0) ≡ highlight_at shown.now normals.now units.now v.now exponents.now i }
 {
     for i in 0..out.len() {
         out[i] = shown_highlight(shown[i], normals.at(i), units.at(i), v.at(i), exponents[i]);

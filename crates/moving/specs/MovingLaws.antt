@@ -15,6 +15,12 @@ use Rattle.moving.specs.WayLaws.{between-held, way-within}
 use Rattle.moving.specs.Closing.{closing_place, IsNear, IsNearBox}
 use Rattle.moving.specs.MovingBoxes.{both, moving_box}
 
+-- a point at u and v that displacement moved to another place stays near its surface on the whole way from there to its closing place:
+-- where the displacement is at most a bound, it is at most that bound from the box over each part that has u and v
+abbrev pub StaysNear : (Rect → Box) → ℕ → ℕ → Vec3 → Vec3 → Vec3 → Type 0
+StaysNear box u v before after closing =
+    (bound : ℤ) (r : Rect) (n : ℕ) → IsNear bound before after → IsRect r → IsAt r u v → n ≤ 65536 → IsNearBox bound (box r) (place_on_way n after closing)
+
 -- ---- two boxes in one
 low-first : (x y z h k : ℤ) → (x ≤ℤ z) × (z ≤ℤ h) → (int_min x y ≤ℤ z) × (z ≤ℤ int_max h k)
 low-first x y z h k i =

@@ -1,10 +1,8 @@
 // A surface that moves, as a surface.
-ghost use Rattle.std.specs.Prelude.{◌≡◌, ◌≤◌, ℕ, ℤ};
-ghost use Rattle.patches.specs.Rects.{Rect, IsRect, IsAt};
-ghost use Rattle.moving.specs.Closing.{closing_place as place_of, IsNear, IsNearBox};
-ghost use Rattle.moving.specs.Ways.{place_on_way};
+ghost use Rattle.std.specs.Prelude.{◌≡◌};
+ghost use Rattle.moving.specs.Closing.{closing_place as place_of};
 ghost use Rattle.moving.specs.MovingBoxes.{moving_box};
-ghost use Rattle.moving.specs.MovingLaws.{moving_inside, moving_parts};
+ghost use Rattle.moving.specs.MovingLaws.{moving_inside, moving_parts, StaysNear};
 
 use crate::boxes::both_boxes;
 use crate::closing::closing_place;
@@ -25,8 +23,7 @@ impl<'s, S: Surface> Moving<'s, S> {
     /// it moves that by at most a bound, the point is at all times in the boxes over these parameters, or at most the bound from them.
     pub fn closing_at(&self, u: Dyadic, v: Dyadic, after: Vec3) -> Vec3
         ensures value { result ≡ place_of (S.point_of self.now.last.now u v) (S.point_of self.now.first.now u v) after }
-        ensures stays { (bound : ℤ) (r : Rect) (n : ℕ) → IsNear bound (S.point_of self.now.first.now u v) after → IsRect r → IsAt r u v → n ≤ 65536 →
-            IsNearBox bound (moving_box S.box_in self.now.first.now self.now.last.now r) (place_on_way n after result) }
+        ensures stays { StaysNear (moving_box S.box_in self.now.first.now self.now.last.now) u v (S.point_of self.now.first.now u v) after result }
     {
         closing_place(self.last.point(u, v), self.first.point(u, v), after)
     }

@@ -1,8 +1,7 @@
 // The micropolygons of a grid whose points move.
 ghost use Rattle.std.specs.Prelude.{◌≡◌, ◌*◌, length};
-ghost use Rattle.std.specs.Option.{ForSome};
 ghost use Rattle.hider.specs.CellValues.{values_of, grid_values};
-ghost use Rattle.moving_cells.specs.MovingGrids.{moving_values, moving-between};
+ghost use Rattle.moving_cells.specs.MovingGrids.{values_when, moving-between};
 
 use dice::GridRef;
 use fixed_math::Vec3;
@@ -14,9 +13,7 @@ use moving::place_on_way;
 #[derive(Clone, Copy)]
 pub struct MovingCells<'a> {
     pub grid: GridRef<'a>,
-    pub closing: Option<&'a [Vec3]>,
     pub smooth: bool,
-    pub ghost places: { ForSome closing (λ q. length q.now ≡ grid.columns * grid.rows) },
 }
 
 /// The cells of a grid at other places.
@@ -31,6 +28,7 @@ fn cells_at<'a>(grid: &GridRef<'a>, places: &'a [Vec3], smooth: bool) -> GridCel
             p: places,
             ci: grid.ci,
             oi: grid.oi,
+            closing: None,
         },
         smooth,
     }
@@ -50,7 +48,7 @@ impl<'a> MovingCells<'a> {
 }
 
 impl<'a> Cells for MovingCells<'a> {
-    ghost values = { λ c. moving_values c.smooth c.grid c.closing };
+    ghost values = { λ c. values_when c.smooth c.grid };
 
     fn count(&self) -> usize {
         self.opening_cells().count()
@@ -58,7 +56,7 @@ impl<'a> Cells for MovingCells<'a> {
 
     fn corner(&self, cell: usize, k: usize, time: u16) -> Vec3 {
         let opening = self.opening_cells().corner(cell, k, time);
-        match self.closing {
+        match self.grid.closing {
             None => opening,
             Some(places) => {
                 let closing = cells_at(&self.grid, places, self.smooth);
@@ -76,11 +74,11 @@ impl<'a> Cells for MovingCells<'a> {
     }
 
     fn still_grid(&self) -> Option<GridCells<'_>> {
-        match self.closing {
+        match self.grid.closing {
             None => Some(self.opening_cells()),
             Some(_) => None,
         }
     }
 
-    ghost between = { λ c. moving-between c.smooth c.grid c.closing };
+    ghost between = { λ c. moving-between c.smooth c.grid };
 }

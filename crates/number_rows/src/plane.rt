@@ -1,5 +1,5 @@
 // Numbers at the places of a grid.
-ghost use Rattle.std.specs.Prelude.{◌≡◌, ◌+◌, ◌<◌, pos, length, get_or, IfSome};
+ghost use Rattle.std.specs.Prelude.{◌≡◌, ℕ, ◌+◌, ◌<◌, pos, length, get_or, IfSome};
 ghost use Rattle.number_rows.specs.Planes.{plane_at, triple_at, rows_at, IsPlane, ArePlanes, IsRow, AreLonger, IsInRows};
 
 use crate::raw::Raw;
@@ -100,6 +100,21 @@ impl Planes<'_> {
     {
         match (self.x.row(), self.y.row(), self.z.row()) {
             (Some(x), Some(y), Some(z)) => Some(TripleRows { x, y, z }),
+            _ => None,
+        }
+    }
+
+    /// The triple of all places, where all parts are the same at all places.
+    #[inline(always)]
+    pub(crate) fn value(&self) -> Option<Vec3>
+        ensures { IfSome result (λ t. (i : ℕ) → triple_at self.now i ≡ t) }
+    {
+        match (&self.x, &self.y, &self.z) {
+            (Plane::Value(x), Plane::Value(y), Plane::Value(z)) => Some(Vec3 {
+                x: x.number(),
+                y: y.number(),
+                z: z.number(),
+            }),
             _ => None,
         }
     }

@@ -241,6 +241,30 @@ fn number_of_planes<K: OfTriples>(a: &Planes, b: &Planes, out: &mut [Raw])
     }
 }
 
+// The same of triples in rows and one that is the same at all places.
+fn number_of_rows_by<K: OfTriples>(a: TripleRows, b: &Vec3, out: &mut [Raw])
+    requires a { (i : ℕ) → i < length out.old → AreLonger i a }
+    ensures long { length out.new ≡ length out.old }
+    ensures each { (i : ℕ) → i < length out.old → get_or out.new i (pos 0) ≡ K.formula (rows_at a.entry i) b.now }
+{
+    for i in 0..out.len() {
+        out[i] = Raw::of(K::apply(a.at(i), *b));
+    }
+}
+
+// The same of triples that aren't both in rows: mostly the second is the same at all places.
+fn number_of_others<K: OfTriples>(a: &Planes, b: &Planes, out: &mut [Raw])
+    requires a { ArePlanes (length out.old) a.now }
+    requires b { ArePlanes (length out.old) b.now }
+    ensures long { length out.new ≡ length out.old }
+    ensures each { (i : ℕ) → i < length out.old → get_or out.new i (pos 0) ≡ K.formula (triple_at a.now i) (triple_at b.now i) }
+{
+    match (a.rows(), b.value()) {
+        (Some(p), Some(t)) => number_of_rows_by::<K>(p, &t, out),
+        _ => number_of_planes::<K>(a, b, out),
+    }
+}
+
 /// A row takes the numbers of two triples.
 pub fn number_of_triples<K: OfTriples>(a: &Planes, b: &Planes, out: &mut [Raw])
     requires a { ArePlanes (length out.old) a.now }
@@ -250,7 +274,7 @@ pub fn number_of_triples<K: OfTriples>(a: &Planes, b: &Planes, out: &mut [Raw])
 {
     match (a.rows(), b.rows()) {
         (Some(p), Some(q)) => number_of_rows::<K>(p, q, out),
-        _ => number_of_planes::<K>(a, b, out),
+        _ => number_of_others::<K>(a, b, out),
     }
 }
 

@@ -13,7 +13,7 @@ use Rattle.parts.specs.Formats.{Bucket, Part, no_part, IsIn, bucket_numbers, IsP
 use Rattle.parts.specs.Pictures.{buckets_of, pixels_of, pixel_in, place_in, ppm_header, picture, joined}
 use Rattle.parts.specs.Placing.{width_at}
 use Rattle.parts.specs.Joining.{header_at, Has, AreParsed, IsNotAPart, IsForeign, IsDoubledIn, IsMissingIn, IsJoined, IsFault}
-use Rattle.parts.specs.Division.{Table, IsTable, IsDivision, table_pixel, bucket_pixels, bucket_of, part_of, table_picture}
+use Rattle.parts.specs.Division.{Table, IsTable, IsDivision, table_pixel, bucket_pixels, bucket_of, part_of, texts_of, table_picture}
 use Rattle.parts.proofs.Bucketry.{parsed_same}
 use Rattle.parts.proofs.Divided.{part_of_is, long_pixel}
 use Rattle.parts.proofs.Joins.{is_it, is_other}
@@ -24,10 +24,6 @@ map_at : {A B : Type 0} (f : A → B) (xs : List A) (i : ℕ) (d : B) (e : A) �
 map_at f [] i d e l = absurd (omega (arith, l))
 map_at f (x ∷ xs) zero d e l = refl
 map_at f (x ∷ xs) (suc i) d e l = map_at f xs i d e (omega (arith, l))
-
--- the texts of a table's parts
-abbrev pub texts_of : Table → List (List ℕ) → List (List ℕ)
-texts_of t numbers = map (λ ns. part_text (part_of t ns)) numbers
 
 pub text_is : (t : Table) (numbers : List (List ℕ)) (i : ℕ) → IsTable t → IsDivision t numbers → i < length numbers → IsParsed (get_or (texts_of t numbers) i []) (part_of t (get_or numbers i []))
 text_is t numbers i k d l =

@@ -3,7 +3,7 @@ use Rattle.std.specs.Prelude.{ℕ, ◌+◌, ◌/◌, ◌%◌, ◌<◌, ◌≤◌
 use Rattle.fixed_math.specs.Spots.{pixel_x, pixel_y}
 use Rattle.fixed_math.specs.Buckets.{bucket}
 use Rattle.parts.specs.declared.header.Header.{Header}
-use Rattle.parts.specs.Formats.{Bucket, Part, IsIn, frame, area, bucket_total, IsHeader}
+use Rattle.parts.specs.Formats.{Bucket, Part, IsIn, frame, area, bucket_total, IsHeader, part_text}
 use Rattle.parts.specs.Pictures.{run, picture}
 
 -- what a part says of a picture, and the numbers of its pixels, by column, row and channel
@@ -35,6 +35,10 @@ bucket_of t n = record { number = n; pixels = bucket_pixels t n }
 
 abbrev pub part_of : Table → List ℕ → Part
 part_of t ns = record { header = t.header; buckets = map (bucket_of t) ns }
+
+-- the texts of the parts that have the buckets of these numbers
+abbrev pub texts_of : Table → List (List ℕ) → List (List ℕ)
+texts_of t numbers = map (λ ns. part_text (part_of t ns)) numbers
 
 -- the whole picture
 abbrev pub table_picture : Table → List ℕ

@@ -1,8 +1,8 @@
 // Parts joined.
-ghost use Rattle.std.specs.Prelude.{◌≡◌, ◌≤◌, ◌<◌, ℕ, List, length, map, MatchResult};
-ghost use Rattle.parts.specs.Formats.{Part as PartValue, part_text};
+ghost use Rattle.std.specs.Prelude.{◌≡◌, ◌≤◌, ◌<◌, ℕ, List, length, MatchResult};
+ghost use Rattle.parts.specs.Formats.{Part as PartValue};
 ghost use Rattle.parts.specs.Joining.{IsJoined, IsFault};
-ghost use Rattle.parts.specs.Division.{Table, IsTable, IsDivision, part_of, table_picture};
+ghost use Rattle.parts.specs.Division.{Table, IsTable, IsDivision, texts_of, table_picture};
 ghost use Rattle.parts.specs.declared.fault.JoinFault.TheVariants as faults;
 
 use crate::fault::JoinFault;
@@ -20,8 +20,8 @@ pub fn join(alloc: Global, parts: &[List<u8>]) -> Result<Vec<u8>, JoinFault>
     requires some { 1 ≤ length parts.now }
     requires most { length parts.now ≤ 256 }
     ensures joined { MatchResult result (λ bytes. (ps : List PartValue) × IsJoined parts.now ps bytes.items) (λ fault. IsFault parts.now fault) }
-    ensures division { (t : Table) (numbers : List (List ℕ)) → IsTable t → IsDivision t numbers → parts.now ≡ map (λ ns. part_text (part_of t ns)) numbers →
-        MatchResult result (λ bytes. bytes.items ≡ table_picture t) (λ fault. fault ≡ faults.NoMemory) }
+    ensures division { (t : Table) (numbers : List (List ℕ)) → IsTable t → IsDivision t numbers → parts.now ≡ texts_of t numbers →
+        MatchResult result (λ b. b.items ≡ table_picture t) (λ f. f ≡ faults.NoMemory) }
 {
     joined(alloc, parts)
 }

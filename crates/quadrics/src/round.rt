@@ -3,11 +3,10 @@ ghost use Rattle.std.specs.Prelude.{◌≡◌, ◌≤◌, ◌<◌, ◌*◌, ◌+
 ghost use Rattle.fixed_math.specs.declared.vec3.Vec3.{Vec3};
 ghost use Rattle.fixed_math.specs.Axes.{AreWithin};
 ghost use Rattle.fixed_math.specs.Tensor.{blossom_net, weighted_net, weights_1};
-ghost use Rattle.fixed_math.specs.Whole.{floor_by as floor_of};
 ghost use Rattle.patches.specs.Boxes.{IsWithin};
 ghost use Rattle.patches.specs.Nets.{control, all_ends};
 ghost use Rattle.patches.specs.Slopes.{AreBelow, weights_2, steps_u, steps_v};
-ghost use Rattle.quadrics.specs.Rational.{quarter, heavy, spread, rational_blossom, round_point, round_net};
+ghost use Rattle.quadrics.specs.Rational.{quarter, heavy, spread, rational_coordinate, rational_blossom, round_point, round_net};
 ghost use Rattle.quadrics.specs.RationalLaws.{round_box, round_inside, round_parts, round_rows};
 ghost use Rattle.quadrics.specs.QuadricSlopes.{round_slope_u, round_slope_v, round_du, round_dv};
 
@@ -62,8 +61,7 @@ fn coordinate_at(points: &[Vec3; 9], axis: Axis, us: Pair, vs: Pair, denominator
     requires small { AreWithin (2 ^ 30) points.now }
     requires under { denominator ≡ spread (us.first ∷ us.second ∷ []) quarter 0 * spread (vs.first ∷ vs.second ∷ []) quarter 0 }
     requires within { denominator ≤ 2 ^ 75 }
-    ensures { result ≡ floor_of (blossom_net (us.first ∷ us.second ∷ []) (vs.first ∷ vs.second ∷ []) (heavy quarter quarter (control 3 points.now axis)))
-        (spread (us.first ∷ us.second ∷ []) quarter 0 * spread (vs.first ∷ vs.second ∷ []) quarter 0) }
+    ensures { result ≡ rational_coordinate quarter quarter points.now (us.first ∷ us.second ∷ []) (vs.first ∷ vs.second ∷ []) axis }
 {
     Num::sat(floor_by(numerator(points, axis, us, vs), denominator))
 }

@@ -26,7 +26,8 @@ use Rattle.acceptance.specs.declared.refusal.Refusal.{Refusal}
 use Rattle.acceptance.specs.declared.refusal.Refusal.TheVariants as refusals
 use Rattle.render.specs.declared.program.Answer.{Answer}
 use Rattle.render.specs.declared.program.Answer.TheVariants as answers
-use Rattle.render.specs.Pictures.{picture_of, frames_of}
+use Rattle.buckets.specs.Pictures.{picture_of}
+use Rattle.render.specs.Pictures.{frames_of}
 use Rattle.render.specs.Summary.{summary_of}
 use Rattle.part_files.specs.Parts.{status_of_join_code, first_parts, MakePicture}
 use Rattle.part_files.specs.declared.cause.JoinCause.{JoinCause}

@@ -21,7 +21,7 @@ use Rattle.render.specs.Lines.{first_summaries, summaries_of, scene_of}
 use Rattle.render.specs.Course.{Ends}
 use Rattle.buckets.specs.declared.limits.DrawFault.{DrawFault}
 use Rattle.buckets.specs.declared.limits.DrawFault.TheVariants as drawing
-use Rattle.command_line.specs.Command.{SceneTask, Command}
+use Rattle.command_line.specs.Command.{SceneTask, Command, OnScene}
 use Rattle.command_line.specs.declared.command.RunOptions.{RunOptions}
 use Rattle.acceptance.specs.Answers.{Because, status_of_refusal}
 use Rattle.render.specs.declared.load.Loaded.{Loaded}
@@ -136,6 +136,10 @@ pub record Obeys (command : Option Command) (held : Option Files) (answer : Answ
   pub told : ℕ
   pub behind : (told ≡ ended) ⊎ ((answer ≡ NoMemory) × (told + 1 ≡ ended))
   pub says : Says (summaries_of command verdict told) lines lines_then faults faults_then
+
+-- the same of a task on a scene
+abbrev pub ObeysTask : SceneTask → Option Files → Answer → Option (List Written) → Option (List Written) → Option (List (List ℕ)) → Option (List (List ℕ)) → ℕ → ℕ → Type 0
+ObeysTask t held answer old new lines lines_then faults faults_then = Obeys (Some (OnScene t)) held answer old new lines lines_then faults faults_then
 
 -- how the frames of an accepted scene are drawn: some first ones, and the summaries of those
 pub record Draws (o : RunOptions) (a : AcceptedValue) (ended told : ℕ) (old new : Option (List Written)) (lines lines_then : Option (List (List ℕ))) (faults faults_then : ℕ) : Type 0 where

@@ -9,7 +9,7 @@ ghost use Rattle.command_line.specs.Command.{OnScene, Join, command_of, command_
 ghost use Rattle.render.specs.Verdict.{asked_for_command};
 ghost use Rattle.outside.specs.NoteLines.{Says};
 ghost use Rattle.render.specs.Notes.{name_in_notes, fault_line, join_note};
-ghost use Rattle.render.specs.Answers.{ComesBefore, Obeys, IsFaultAt, number_of, answer_lines, lines_in, note_lines};
+ghost use Rattle.render.specs.Answers.{ComesBefore, Obeys, ObeysTask, IsFaultAt, number_of, answer_lines, lines_in, note_lines};
 ghost use Rattle.render.specs.Lines.{scene_of};
 ghost use Rattle.render.specs.Course.{Course};
 ghost use Rattle.render.specs.declared.program.Answer.TheVariants.{Usage, Refused, WriteFault, NoMemory as OutOfMemory};
@@ -63,7 +63,7 @@ fn obeyed<L: Library, O: FrameSink, N: Notes>(
     ensures sink_later { O.faults frames.old ≤ O.faults frames.new }
     ensures read { result ≡ Refused ReadFault → Rose (L.faults library.old) (L.faults library.new) }
     ensures write { result ≡ WriteFault → Rose (O.faults frames.old) (O.faults frames.new) }
-    ensures course { Obeys (Some (OnScene (scene_view command.now))) (L.held library.old) result (O.written frames.old) (O.written frames.new) (N.lines notes.old) (N.lines notes.new) (N.faults notes.old) (N.faults notes.new) }
+    ensures course { ObeysTask (scene_view command.now) (L.held library.old) result (O.written frames.old) (O.written frames.new) (N.lines notes.old) (N.lines notes.new) (N.faults notes.old) (N.faults notes.new) }
 {
     let loaded = match load(alloc, library, command) {
         Ok(Some(loaded)) => loaded,

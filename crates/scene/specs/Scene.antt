@@ -29,12 +29,14 @@ pub record IsVariable (v : VariableValue) : Type 0 where
   pub kind : is_of_kind v.kind v.values ≡ true
   pub counted : count v.values ≡ width v.kind * corners v.varying
 
--- A primitive: its patch in camera space; the flat normal of a polygon; colour and opacity; the places of its shaders among the
--- scene's uses; how far displacement may move it, and the shading rate; whether it is seen from one side alone, and whether that
--- is turned; whether colour and opacity vary over its micropolygons; its variables; the map from its object space to camera space;
--- the column c of m and row d of n that the patch has in its mesh, as c, m, d, n; and the line of its request.
+-- A primitive: its patch in camera space, and where it moves, its patch when the shutter closes; the flat normal of a polygon; colour and
+-- opacity; the places of its shaders among the scene's uses; how far displacement may move it, and the shading rate; whether it is seen
+-- from one side alone, and whether that is turned; whether colour and opacity vary over its micropolygons; its variables; the map from
+-- its object space to camera space; the column c of m and row d of n that the patch has in its mesh, as c, m, d, n; and the line of its
+-- request.
 pub record PrimValue : Type 0 where
   pub patch : AnyPatch
+  pub closing : Option AnyPatch
   pub flat : Option Vec3
   pub cs : Vec3
   pub os : Vec3

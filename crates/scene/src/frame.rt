@@ -13,15 +13,17 @@ use transforms::{Affine, Camera};
 
 /// A primitive (RenderMan Interface 3.2, section 5).
 ///
-/// The patch's control points are in camera space. `flat` is the normal of a flat polygon; `cs` and `os` are colour and
-/// opacity. `surface`, `displacement`, `atmosphere` and `lights` are places among the scene's uses, of those kinds. Displacement
-/// moves a point by at most `bound` in camera space, raw 0 to 2^29. `rate` is the shading rate in square pixels. Where it is
-/// `one_sided`, `flip` turns the side that is seen. Where it is `smooth`, colour and opacity vary over a micropolygon. `object` maps
-/// object space to camera space. `place` is the column c of m and the row d of n that the patch has in its mesh, as [c, m, d, n],
-/// with m and n at most 65,536. `line` is that of its request.
+/// The patch's control points are in camera space. Where it moves while the shutter is open, `closing` is the patch when that
+/// closes. `flat` is the normal of a flat polygon; `cs` and `os` are colour and opacity. `surface`, `displacement`, `atmosphere`
+/// and `lights` are places among the scene's uses, of those kinds. Displacement moves a point by at most `bound` in camera space,
+/// raw 0 to 2^29. `rate` is the shading rate in square pixels. Where it is `one_sided`, `flip` turns the side that is seen. Where
+/// it is `smooth`, colour and opacity vary over a micropolygon. `object` maps object space to camera space. `place` is the column
+/// c of m and the row d of n that the patch has in its mesh, as [c, m, d, n], with m and n at most 65,536. `line` is that of its
+/// request.
 #[derive(Drop)]
 pub struct Primitive {
     pub patch: AnyPatch,
+    pub closing: Option<AnyPatch>,
     pub flat: Option<Vec3>,
     pub cs: Vec3,
     pub os: Vec3,
@@ -43,9 +45,9 @@ pub struct Primitive {
 impl Model for Primitive {
     ghost Value = { PrimValue };
 
-    ghost view = { λ p. record { patch = p.patch; flat = p.flat; cs = p.cs; os = p.os; surface = p.surface; displacement = p.displacement; atmosphere = p.atmosphere; lights = p.lights; bound = p.bound; rate = p.rate; one_sided = p.one_sided; flip = p.flip; smooth = p.smooth; vars = p.vars; object = p.object; place = p.place; line = p.line } };
+    ghost view = { λ p. record { patch = p.patch; closing = p.closing; flat = p.flat; cs = p.cs; os = p.os; surface = p.surface; displacement = p.displacement; atmosphere = p.atmosphere; lights = p.lights; bound = p.bound; rate = p.rate; one_sided = p.one_sided; flip = p.flip; smooth = p.smooth; vars = p.vars; object = p.object; place = p.place; line = p.line } };
 
-    ghost invariant = { λ p. IsPrim (record { patch = p.patch; flat = p.flat; cs = p.cs; os = p.os; surface = p.surface; displacement = p.displacement; atmosphere = p.atmosphere; lights = p.lights; bound = p.bound; rate = p.rate; one_sided = p.one_sided; flip = p.flip; smooth = p.smooth; vars = p.vars; object = p.object; place = p.place; line = p.line }) };
+    ghost invariant = { λ p. IsPrim (record { patch = p.patch; closing = p.closing; flat = p.flat; cs = p.cs; os = p.os; surface = p.surface; displacement = p.displacement; atmosphere = p.atmosphere; lights = p.lights; bound = p.bound; rate = p.rate; one_sided = p.one_sided; flip = p.flip; smooth = p.smooth; vars = p.vars; object = p.object; place = p.place; line = p.line }) };
 }
 
 /// A frame: the name of its picture, its options, its camera, the map from world space to camera space, and at most

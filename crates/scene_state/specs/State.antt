@@ -236,6 +236,7 @@ light_named None handles = None
 abbrev pub prim_of : Read → Map → LookValues → Worn → PatchValue → PrimValue
 prim_of r object l w p = record {
   patch = p.patch;
+  closing = None;
   flat = p.flat;
   cs = l.cs;
   os = l.os;

@@ -34,6 +34,7 @@ fn primitive(
     let place = patch.place;
     Ok(Prim {
         patch: patch.patch,
+        closing: None,
         flat: patch.flat,
         cs: look.cs,
         os: look.os,

@@ -1,14 +1,11 @@
-//! Tests of what only a call shows of shaders and pictures: operations on values, shaders at the points of grids, the numbers of
-//! docs/TOUR.md, and the top call over a library or a sink that fails. What a text or a command's words can show is a case of
-//! `conformance`.
+//! Tests of what only a call shows of shaders: operations on values, shaders at the points of grids, and the numbers of
+//! docs/TOUR.md. What a text or a command's words can show is a case of `conformance`.
 #![tactic(auto)]
 
 #[cfg(test)]
 mod compiled;
 #[cfg(test)]
 mod differences;
-#[cfg(test)]
-mod farm;
 #[cfg(test)]
 mod operations;
 #[cfg(test)]
@@ -17,8 +14,6 @@ mod operations_in_spaces;
 mod operations_on_numbers;
 #[cfg(test)]
 mod operations_on_triples;
-#[cfg(test)]
-mod program;
 #[cfg(test)]
 mod shading;
 #[cfg(test)]

@@ -6,7 +6,7 @@ use Rattle.sl_expressions.specs.Found.{Found, refuses}
 use Rattle.sl_expressions.specs.Scope as S
 use Rattle.sl_expressions.specs.Typed as T
 use Rattle.sl_expressions.specs.TypedView.{typed_of, tstmt_of}
-use Rattle.sl_expressions.specs.Views.{Gives, local_of, callee_of}
+use Rattle.sl_expressions.specs.Views.{Gives, GivesAll, local_of, callee_of}
 use Rattle.sl_expressions.specs.declared.faults.TypeCode.TheVariants.{T2}
 use Rattle.sl_expressions.specs.declared.faults.TypeFault.{TypeFault}
 use Rattle.sl_expressions.specs.declared.faults.TypeFault.TheVariants.{At, NoMemory}
@@ -14,7 +14,7 @@ use Rattle.sl_expressions.specs.declared.places.Local.{Local}
 use Rattle.sl_expressions.specs.declared.typed.TypedExpr.{TypedExpr}
 use Rattle.sl_expressions.specs.declared.typed.TypedStmt.{TypedStmt}
 use Rattle.sl_typing.specs.Functions as F
-use Rattle.sl_typing.specs.Stmts.{no_test}
+use Rattle.sl_typing.specs.Stmts.{Head, no_test, tested_else, for_of}
 use Rattle.sl_typing.specs.declared.file.Param.{Param}
 use Rattle.sl_typing.specs.declared.file.Program.{Program}
 
@@ -40,6 +40,16 @@ head_of h = (map tstmt_of h.0.items, typed_of h.1)
 
 abbrev pub boxed_of : Box TypedStmt Global → T.Stmt
 boxed_of b = tstmt_of b.value
+
+-- what an `if` with its `else` gives, whatever was found of its condition and its two statements
+abbrev pub GivesIfElse : Result TypedExpr TypeFault → Result (Box TypedStmt Global) TypeFault → Result (Box TypedStmt Global) TypeFault → ℕ → Result TypedStmt TypeFault → Type 0
+GivesIfElse test then otherwise line result =
+    (ls : List S.Local) (t : Found T.Expr) (r : Found T.Stmt) (q : Found T.Stmt) → Gives typed_of test t → Gives boxed_of then r → Gives boxed_of otherwise q → GivesOne result ls (tested_else ls line t r q)
+
+-- what a `for` gives, whatever was found of its head, its step and its body
+abbrev pub GivesFor : Result (Vec TypedStmt Global × TypedExpr) TypeFault → Result (Vec TypedStmt Global) TypeFault → Result (Box TypedStmt Global) TypeFault → ℕ → Result TypedStmt TypeFault → Type 0
+GivesFor head step body line result =
+    (ls : List S.Local) (h : Found Head) (b : Found (List T.Stmt)) (r : Found T.Stmt) → Gives head_of head h → GivesAll tstmt_of step b → Gives boxed_of body r → GivesOne result ls (for_of ls line h b r)
 
 -- a scope with others behind it
 abbrev pub Extends : List Local → List Local → Type 0

@@ -6,7 +6,7 @@ ghost use Rattle.sl_expressions.specs.Typed as T;
 ghost use Rattle.sl_expressions.specs.TypedView.{typed_of, tstmt_of};
 ghost use Rattle.sl_expressions.specs.Views.{Gives, GivesAll};
 ghost use Rattle.sl_typing.specs.Stmts as spec;
-ghost use Rattle.sl_typing.specs.Views.{GivesOne, GivesTested, boxed_of, head_of};
+ghost use Rattle.sl_typing.specs.Views.{GivesOne, GivesTested, GivesIfElse, GivesFor, boxed_of, head_of};
 
 use crate::sets::is_test;
 use fixed_math::List;
@@ -81,7 +81,7 @@ pub fn if_else_node(
     otherwise: Result<Box<TypedStmt>, TypeFault>,
     line: u32,
 ) -> Result<TypedStmt, TypeFault>
-    ensures { (ls : List Local) (t : Found T.Expr) (r : Found T.Stmt) (q : Found T.Stmt) → Gives typed_of test t → Gives boxed_of then r → Gives boxed_of otherwise q → GivesOne result ls (spec.tested_else ls line t r q) }
+    ensures { GivesIfElse test then otherwise line result }
 {
     match test {
         Err(fault) => left((then, otherwise), fault),
@@ -170,7 +170,7 @@ pub fn for_node(
     body: Result<Box<TypedStmt>, TypeFault>,
     line: u32,
 ) -> Result<TypedStmt, TypeFault>
-    ensures { (ls : List Local) (h : Found spec.Head) (b : Found (List T.Stmt)) (r : Found T.Stmt) → Gives head_of head h → GivesAll tstmt_of step b → Gives boxed_of body r → GivesOne result ls (spec.for_of ls line h b r) }
+    ensures { GivesFor head step body line result }
 {
     match head {
         Err(fault) => left((step, body), fault),

@@ -18,6 +18,5 @@ pub use classes::{Classes, control, param_classes};
 pub use counted::rows;
 pub use fault::ControlFault;
 pub use leaving::{in_branch, is_uniform_loop};
-pub use scope::{class_of, enter, enter_all, formal_classes};
+pub use scope::{enter, enter_all, formal_classes};
 pub use settled::first_fault;
-pub use uniform::is_uniform;

@@ -1,5 +1,5 @@
 use Rattle.buckets.specs.Shopped.{shaded_by}
-use Rattle.render.specs.Pictures.{picture_of}
+use Rattle.buckets.specs.Pictures.{picture_of}
 use Rattle.render.proofs.Courses.{part-left, whole-left}
 use Rattle.render.proofs.write.finished.Goals as goal
 

@@ -13,7 +13,7 @@ use Rattle.shader_binding.specs.Bindings.{FitsPrim}
 use Rattle.displace_shade.specs.Shop.{set_value}
 use Rattle.displace_shade.specs.declared.set.ShaderSet.{ShaderSet}
 use Rattle.acceptance.specs.PrimFit.{FitPrims}
-use Rattle.render.specs.Pictures.{picture_of}
+use Rattle.buckets.specs.Pictures.{picture_of}
 use Rattle.buckets.specs.Shopped.{shaded_by}
 use Rattle.render.proofs.write.write_frames.Goals as goal
 

@@ -3,7 +3,7 @@ use Rattle.std.specs.Prelude.{filter_map}
 use Rattle.outside.specs.Frames.{whole, Adds}
 use Rattle.outside.specs.NoteLines.{Says}
 use Rattle.render.specs.Summary.{summary_of}
-use Rattle.render.specs.Pictures.{picture_of}
+use Rattle.buckets.specs.Pictures.{picture_of}
 use Rattle.buckets.specs.Shopped.{shaded_by}
 use Rattle.render.proofs.write.write_frames.Given as goal
 

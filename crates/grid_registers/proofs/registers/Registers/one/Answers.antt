@@ -1,4 +1,4 @@
-use Rattle.std.proofs.Common.{sym, subst}
+use Rattle.std.proofs.Common.{refl, sym, subst}
 use Rattle.sl_ast.specs.declared.operations.ValueOperation.{ValueOperation}
 use Rattle.sl_ast.specs.declared.typed.Value.TheVariants as values
 use Rattle.builtins.specs.Formulas as formulas
@@ -177,3 +177,15 @@ returns-in-Noise-clause-each c =
     let r = c.args.self.now in
     let P : ValueOperation → Type 0 = λ o. HoldsEach (texts_of r) c.noise.new.row r.frame.now.places (work_at r (works.One o c.args.p)) in
     subst P (sym c.in-Noise.is) c.noise.ensures.each
+
+pub transformed-requires-clause-op : goal.transformed-requires-clause-op
+unfolding of_one
+transformed-requires-clause-op c i = refl
+
+pub transformed-requires-in-VTransform-clause-op : goal.transformed-requires-in-VTransform-clause-op
+unfolding of_one
+transformed-requires-in-VTransform-clause-op c i = refl
+
+pub transformed-requires-in-NTransform-clause-op : goal.transformed-requires-in-NTransform-clause-op
+unfolding of_one
+transformed-requires-in-NTransform-clause-op c i = refl

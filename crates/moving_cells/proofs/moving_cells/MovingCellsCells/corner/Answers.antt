@@ -1,5 +1,5 @@
 use Rattle.std.proofs.Common.{◌≡◌, ◌∙◌, ap, sym, Option, List}
-use Rattle.std.specs.Prelude.{slice_index_or}
+use Rattle.std.specs.Prelude.{slice_index_or, option_map}
 use Rattle.std.specs.Borrow.{Bor}
 use Rattle.fixed_math.specs.declared.vec3.Vec3.{Vec3}
 use Rattle.fixed_math.specs.Axes.{origin}
@@ -21,4 +21,4 @@ returns-in-Some c =
     c.place_on_way.ensures.value
     ∙ ap (λ (p : Vec3). place_on_way c.args.time p c.corner.result) opening
     ∙ ap (λ (p : Vec3). place_on_way c.args.time (slice_index_or g.p.now n origin) p) closing
-    ∙ sym (ap (λ (o : Option (Bor (List Vec3))). point_when o g.p.now n c.args.time) c.in-Some.is)
+    ∙ sym (ap (λ (o : Option (Bor (List Vec3))). point_when (option_map (λ (q : Bor (List Vec3)). q.now) o) g.p.now n c.args.time) c.in-Some.is)

@@ -1,7 +1,7 @@
 // The top call's actions `part` and `join` over a library or a sink that fails.
 ghost use Rattle.std.specs.Prelude.{◌≡◌, ◌≤◌};
 
-use crate::program::{RED, RED_PICTURE, SinkForm, answered, scene};
+use crate::drawing::{RED, RED_PICTURE, SinkForm, answered, scene};
 use std::alloc::Global;
 use std::test::Fail;
 

@@ -10,7 +10,7 @@ use Rattle.number_rows.specs.Planes.{plane_at}
 use Rattle.grid_registers.specs.Operands.{operand_at}
 use Rattle.grid_registers.specs.Held.{texts_of}
 use Rattle.grid_registers.proofs.Parts.{as_many, holds_triples, triple_by, two_of_triples}
-use Rattle.grid_registers.proofs.registers.Registers.parts_of_triples.Goals as goal
+use Rattle.grid_registers.proofs.registers.Registers.all_parts_of_triples.Goals as goal
 
 pub parts_rows-requires-clause-a : goal.parts_rows-requires-clause-a
 parts_rows-requires-clause-a c = as_many c.triples-a.result.x c.args.self.now.frame.now.places _ c.triples-a.ensures.planes.x (ap length c.deref_mut.ensures.value ∙ c.requires.room shapes.Triple)

@@ -1,0 +1,8 @@
+//! Tests of what only a call shows of the program: the top call over a library or a sink that fails, as it draws a picture or a part
+//! of one or joins parts, and over texts too long for a case of `conformance`.
+#![tactic(auto)]
+
+#[cfg(test)]
+mod drawing;
+#[cfg(test)]
+mod farm;
