@@ -9,6 +9,7 @@ use Rattle.outside.specs.Library.{Files, held_as, Fetches, IsHeldAs, IsOfSize}
 use Rattle.outside.specs.declared.library.Fetch.{Fetch}
 use Rattle.outside.specs.declared.library.Fetch.TheVariants.{Whole, Missing, TooLong}
 use Rattle.acceptance.specs.declared.refusal.Refusal.{Refusal}
+use Rattle.acceptance.specs.declared.refusal.Refusal.TheVariants.{NoMemory}
 use Rattle.acceptance.specs.declared.refusal.FileId.TheVariants.{Shader}
 use Rattle.acceptance.specs.declared.code.FaultCode.TheVariants.{M10}
 use Rattle.acceptance.specs.Causes.{At, cause_in}
@@ -90,3 +91,8 @@ told_pushed None old new s read is = tt
 told_pushed (Some files) old new s read is = λ all.
     subst (λ xs. All (IsReadOf files) xs) (sym is)
     (All-append (IsReadOf files) old (s ∷ []) all (All-cons (IsReadOf files) s [] read (λ k d low. absurd (omega (arith, low)))))
+
+-- want of memory is no cause
+pub no_memory : (held : Option Files) (name : List ℕ) → Told held (λ files. Because NoMemory (cause_in (shader_tree files name)))
+no_memory None name = tt
+no_memory (Some files) name = tt

@@ -12,7 +12,9 @@ use Rattle.sl_ast.specs.declared.kinds.SlType.{SlType}
 use Rattle.sl_ast.specs.declared.kinds.SlType.TheVariants as types
 use Rattle.sl_ast.specs.declared.typed.Value.{Value}
 use Rattle.sl_ast.specs.Typed.{Local, Tree}
-use Rattle.shader_binding.specs.Sets.{SetValue, FitUses, Fits, Bound, bound_with}
+use Rattle.texture.specs.Images.{Image}
+use Rattle.sl_look_ups.specs.Naming.{binding_params}
+use Rattle.shader_binding.specs.Sets.{SetValue, FitUses, FitLooks, Fits, Bound, bound_with}
 use Rattle.shader_binding.specs.Predefined.{sets_predefined}
 use Rattle.shader_binding.specs.Bindings.{kind_of, Binds, FitVariables, FitUseVariables, FitSomeVariables, FitsPrim}
 use Rattle.acceptance.specs.Causes.{Cause}
@@ -77,29 +79,32 @@ fits_tree : (ps : List Local) (xs : List VariableValue) → list_any (binds_unfi
 fits_tree ps xs h = all_fit ps xs (none_passes (binds_unfit ps) xs h)
 
 -- ---- the shader of a use
-tree_of_bound : (o : Option Tree) (p : Option (List Value)) (q : Option ShaderUse) (b : Bound) → bound_with o p q ≡ Some b → o ≡ Some b.tree
-tree_of_bound (Some t) (Some vs) (Some u) b h = ap (option_map (λ (c : Bound). c.tree)) h
-tree_of_bound None p q b h = absurd (cc h)
-tree_of_bound (Some t) None q b h = absurd (cc h)
-tree_of_bound (Some t) (Some vs) None b h = absurd (cc h)
+tree_of_bound : (images : List Image) (o : Option Tree) (p : Option (List Value)) (r : Option (List (Option ℕ))) (q : Option ShaderUse) (b : Bound) → bound_with images o p r q ≡ Some b → o ≡ Some b.tree
+tree_of_bound images (Some t) (Some vs) (Some es) (Some u) b h = ap (option_map (λ (c : Bound). c.tree)) h
+tree_of_bound images None p r q b h = absurd (cc h)
+tree_of_bound images (Some t) None r q b h = absurd (cc h)
+tree_of_bound images (Some t) (Some vs) None q b h = absurd (cc h)
+tree_of_bound images (Some t) (Some vs) (Some es) None b h = absurd (cc h)
 
-no_use : (o : Option Tree) (p : Option (List Value)) → bound_with o p None ≡ None
-no_use None p = refl
-no_use (Some t) None = refl
-no_use (Some t) (Some vs) = refl
+no_use : (images : List Image) (o : Option Tree) (p : Option (List Value)) (r : Option (List (Option ℕ))) → bound_with images o p r None ≡ None
+no_use images None p r = refl
+no_use images (Some t) None r = refl
+no_use images (Some t) (Some vs) None = refl
+no_use images (Some t) (Some vs) (Some es) = refl
 
 -- in a set that fits, each bound shader's tree stands at its use's place
-use_tree : (trees : List Tree) (us : List ShaderUse) (ns : List ℕ) (vss : List (List Value)) (n : ℕ) (b : Bound) → FitUses trees us ns vss
-    → bound_with (slice_get trees (slice_index_or ns n 0)) (slice_get vss n) (slice_get us n) ≡ Some b → tree_at trees ns n ≡ Some b.tree
-use_tree trees [] ns vss n b fits h = absurd (cc (sym (no_use (slice_get trees (slice_index_or ns n 0)) (slice_get vss n)) ∙ h))
-use_tree trees (u ∷ us) [] vss n b fits h = absurd fits
-use_tree trees (u ∷ us) (k ∷ ns) [] n b fits h = absurd fits
-use_tree trees (u ∷ us) (k ∷ ns) (vs ∷ vss) zero b fits h = tree_of_bound (slice_get trees k) (Some vs) (Some u) b h
-use_tree trees (u ∷ us) (k ∷ ns) (vs ∷ vss) (suc n) b fits h = use_tree trees us ns vss n b fits.1 h
+use_tree : (images : List Image) (trees : List Tree) (us : List ShaderUse) (ns : List ℕ) (vss : List (List Value)) (ess : List (List (Option ℕ))) (n : ℕ) (b : Bound) → FitUses trees us ns vss
+    → bound_with images (slice_get trees (slice_index_or ns n 0)) (slice_get vss n) (slice_get ess n) (slice_get us n) ≡ Some b → tree_at trees ns n ≡ Some b.tree
+use_tree images trees [] ns vss ess n b fits h = absurd (cc (sym (no_use images (slice_get trees (slice_index_or ns n 0)) (slice_get vss n) (slice_get ess n)) ∙ h))
+use_tree images trees (u ∷ us) [] vss ess n b fits h = absurd fits
+use_tree images trees (u ∷ us) (k ∷ ns) [] ess n b fits h = absurd fits
+use_tree images trees (u ∷ us) (k ∷ ns) (vs ∷ vss) ess zero b fits h = tree_of_bound images (slice_get trees k) (Some vs) (slice_get ess 0) (Some u) b h
+use_tree images trees (u ∷ us) (k ∷ ns) (vs ∷ vss) (es ∷ ess) (suc n) b fits h = use_tree images trees us ns vss ess n b fits.1 h
+use_tree images trees (u ∷ us) (k ∷ ns) (vs ∷ vss) [] (suc n) b fits h = use_tree images trees us ns vss [] n b fits.1 h
 
 use_fits : (s : SetValue) (uses : List ShaderUse) (n : ℕ) (xs : List VariableValue) → Fits s uses → unfit_at s.trees s.of_use (Some n) xs ≡ false → FitUseVariables s uses n xs
 use_fits s uses n xs fits h b bound =
-    fits_tree b.tree.params xs (sym (ap (λ o. unfit_for o xs) (use_tree s.trees uses s.of_use s.bound n b fits bound)) ∙ h)
+    fits_tree (binding_params b.tree) xs (sym (ap (λ o. unfit_for o xs) (use_tree s.textures s.trees uses s.of_use s.bound s.look_ups n b fits.uses bound)) ∙ h)
 
 some_fits : (s : SetValue) (uses : List ShaderUse) (o : Option ℕ) (xs : List VariableValue) → Fits s uses → unfit_at s.trees s.of_use o xs ≡ false → FitSomeVariables s uses o xs
 some_fits s uses None xs fits h = tt
@@ -125,7 +130,12 @@ fits_frame s uses fits f h =
     All-weaker (λ p. prim_refused s.trees s.of_use p ≡ None) (FitsPrim s uses) (λ p none. fits_prim s uses p fits (not_refused (is_unfit_prim s.trees s.of_use p) _ none))
     f.prims (none_of (prim_refused s.trees s.of_use) f.prims h)
 
-pub fit_prims : (s : SetValue) (uses : List ShaderUse) (fs : List FrameValue) → Fits s uses → prims_refused s fs ≡ None → FitPrims s uses fs
+fit_prims : (s : SetValue) (uses : List ShaderUse) (fs : List FrameValue) → Fits s uses → prims_refused s fs ≡ None → FitPrims s uses fs
 fit_prims s uses fs fits h =
     All-weaker (λ f. frame_refused s.trees s.of_use f ≡ None) (λ f. All (FitsPrim s uses) f.prims) (fits_frame s uses fits) fs
     (none_of (frame_refused s.trees s.of_use) fs h)
+
+-- the same by the parts of what fits
+pub fit_by_parts : (s : SetValue) (uses : List ShaderUse) (fs : List FrameValue) → FitUses s.trees uses s.of_use s.bound → FitLooks s.trees s.of_use s.look_ups → prims_refused s fs ≡ None
+    → FitPrims s uses fs
+fit_by_parts s uses fs bound looks h = fit_prims s uses fs (record { uses = bound; look_ups = looks }) h

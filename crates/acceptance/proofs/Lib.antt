@@ -14,3 +14,7 @@ pub mod SoFar
 pub mod Judged
 pub mod BoundUses
 pub mod SetSame
+pub mod ImageReads
+pub mod Listing
+pub mod Images
+pub mod Textured

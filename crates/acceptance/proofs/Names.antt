@@ -23,6 +23,10 @@ itself a = grind (arith, bytes_eq-Decides a a)
 abbrev pub left : List (List ℕ) → List (List ℕ) → List (List ℕ)
 left done names = filter (λ n. not (is_among n done)) names
 
+pub left_none : (names : List (List ℕ)) → left [] names ≡ names
+left_none [] = refl
+left_none (n ∷ ns) = ap (λ xs. n ∷ xs) (left_none ns)
+
 -- a name that is read is left out anyway
 absorbed : (done : List (List ℕ)) (name : List ℕ) → is_among name done ≡ true → (names : List (List ℕ)) → left done (without name names) ≡ left done names
 absorbed done name h [] = refl

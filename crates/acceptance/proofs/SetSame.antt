@@ -5,6 +5,9 @@ use Rattle.std.specs.List.{cons_option}
 use Rattle.std.specs.Option.{option_map, option_or}
 use Rattle.std.specs.Str.{bytes_eq}
 use Rattle.std.proofs.lemmas.List.Elements.{All-head, All-tail}
+use Rattle.std.proofs.lemmas.Option.{slice_get-map}
+use Rattle.texture.specs.Images.{Image}
+use Rattle.acceptance.specs.Textures.{names_at, names_with, all_names, texture_names, entries_in}
 use Rattle.outside.specs.Library.{Files}
 use Rattle.scene.specs.declared.uses.ShaderUse.{ShaderUse}
 use Rattle.sl_ast.specs.declared.typed.Value.{Value}
@@ -14,8 +17,9 @@ use Rattle.shader_binding.specs.Sets.{SetValue}
 use Rattle.acceptance.specs.declared.read.ReadShader.{ReadShader}
 use Rattle.acceptance.specs.declared.shaders.UsedShaders.{UsedShaders}
 use Rattle.acceptance.specs.Shaders.{shader_tree, without, distinct, use_name, shader_names}
-use Rattle.acceptance.specs.Set.{tree_in, trees_of, place_or, place_in, values_in, set_of}
-use Rattle.acceptance.specs.Reading.{name_of, tree_read, named_use, is_among, IsReadOf, ArePlaced, values_with, values_at, all_values, set_read}
+use Rattle.acceptance.specs.Places.{place_or, place_in}
+use Rattle.acceptance.specs.Set.{tree_in, trees_of, values_in, names_in, names_of_uses, textures_named, set_of}
+use Rattle.acceptance.specs.Reading.{name_of, tree_read, named_use, is_among, IsReadOf, ArePlaced, values_with, values_at, all_values, names_read, set_read}
 use Rattle.acceptance.proofs.Names.{itself}
 use Rattle.acceptance.proofs.Places.{among_placed}
 
@@ -72,7 +76,7 @@ unplaced name ns h = by (last_place name ns) refl
     by (Some k) e = absurd (cc (sym h ∙ among_placed name ns k e))
 
 -- such a name is found at its place
-placed_once : (ns : List (List ℕ)) (k : ℕ) (name : List ℕ) → Once ns → slice_get ns k ≡ Some name → last_place name ns ≡ Some k
+pub placed_once : (ns : List (List ℕ)) (k : ℕ) (name : List ℕ) → Once ns → slice_get ns k ≡ Some name → last_place name ns ≡ Some k
 placed_once [] k name h e = absurd (cc e)
 placed_once (n ∷ ns) zero name h e =
     let same : n ≡ name = cc e in
@@ -129,17 +133,48 @@ values_same files read (u ∷ us) (p ∷ ps) all h =
     let rest : map (slice_get (map name_of read)) ps ≡ map named_use us = cc h in
     ap (λ v. v ∷ all_values read us ps) (value_same files read u p all here) ∙ ap (λ l. values_in (shader_tree files u.name) u ∷ l) (values_same files read us ps all rest)
 
+-- ---- names of textures
+name_same : (files : Files) (read : List ReadShader) (u : ShaderUse) (k : ℕ) → All (IsReadOf files) read → slice_get (map name_of read) k ≡ Some u.name
+    → names_at (slice_get (map tree_read read) k) (values_at read u k) ≡ names_in (shader_tree files u.name) u
+name_same files read u k all e =
+    let t = there read k u.name e in
+    let is : IsReadOf files t.0 = each_there (IsReadOf files) read k t.0 all t.1 in
+    let tree : shader_tree files u.name ≡ Ok (tree_read t.0) = ap (shader_tree files) (sym t.2) ∙ is.tree in
+    let at : slice_get (map tree_read read) k ≡ Some (tree_read t.0) = slice_get-map tree_read read k ∙ ap (λ o. option_map tree_read o) t.1 in
+    ap (λ o. names_at o (values_at read u k)) at ∙ ap (λ o. names_with (tree_read t.0) (values_with o u)) t.1 ∙ sym (ap (λ r. names_in r u) tree)
+
+names_same : (files : Files) (read : List ReadShader) (uses : List ShaderUse) (places : List ℕ) → All (IsReadOf files) read → map (slice_get (map name_of read)) places ≡ map named_use uses
+    → all_names (map tree_read read) places (all_values read uses places) ≡ names_of_uses files uses
+names_same files read [] [] all h = refl
+names_same files read [] (p ∷ ps) all h = absurd (cc h)
+names_same files read (u ∷ us) [] all h = absurd (cc h)
+names_same files read (u ∷ us) (p ∷ ps) all h =
+    let here : slice_get (map name_of read) p ≡ Some u.name = cc h in
+    let rest : map (slice_get (map name_of read)) ps ≡ map named_use us = cc h in
+    ap (λ ns. ns ∷ all_names (map tree_read read) ps (all_values read us ps)) (name_same files read u p all here)
+    ∙ ap (λ l. names_in (shader_tree files u.name) u ∷ l) (names_same files read us ps all rest)
+
+-- what is named over what is read
+pub named_same : (files : Files) (uses : List ShaderUse) (shaders : UsedShaders) (bound : List (List Value)) → All (IsReadOf files) shaders.read → ArePlaced uses shaders
+    → bound ≡ all_values shaders.read uses shaders.of_use → names_read shaders bound ≡ names_of_uses files uses
+named_same files uses shaders bound all placed is =
+    ap (λ vss. all_names (map tree_read shaders.read) shaders.of_use vss) is ∙ names_same files shaders.read uses shaders.of_use all placed
+
 -- ---- the set
-pub set_same : (files : Files) (uses : List ShaderUse) (shaders : UsedShaders) → All (IsReadOf files) shaders.read → map name_of shaders.read ≡ shader_names uses
-    → ArePlaced uses shaders → set_read shaders uses ≡ set_of files uses
-set_same files uses shaders all names placed =
+pub set_same : (files : Files) (uses : List ShaderUse) (shaders : UsedShaders) (images : List Image) → All (IsReadOf files) shaders.read → map name_of shaders.read ≡ shader_names uses
+    → ArePlaced uses shaders → set_read shaders uses images ≡ set_of files uses images
+set_same files uses shaders images all names placed =
     let trees : map tree_read shaders.read ≡ trees_of files (shader_names uses) = sym (trees_read files shaders.read all) ∙ ap (trees_of files) names in
     let once : Once (map name_of shaders.read) = subst Once (sym names) (once_distinct (map use_name uses)) in
     let places : shaders.of_use ≡ map (λ u. place_in (shader_names uses) u.name) uses =
     places_same (map name_of shaders.read) uses shaders.of_use once placed ∙ ap (λ ns. map (λ u. place_in ns u.name) uses) names in
+    let bound : List (List Value) = all_values shaders.read uses shaders.of_use in
     let values = values_same files shaders.read uses shaders.of_use all placed in
-    let set : List Tree → List ℕ → List (List Value) → SetValue = λ ts ns vss. record { trees = ts; of_use = ns; bound = vss } in
+    let looks = named_same files uses shaders bound all placed refl in
+    let set : List Tree → List ℕ → List (List Value) → List (List (List ℕ)) → SetValue = λ ts ns vss nss.
+    record { trees = ts; of_use = ns; bound = vss; look_ups = entries_in (texture_names nss) nss; textures = images } in
     let named : List ℕ = map (λ u. place_in (shader_names uses) u.name) uses in
-    ap (λ (ts : List Tree). set ts shaders.of_use (all_values shaders.read uses shaders.of_use)) trees
-    ∙ ap (λ (ns : List ℕ). set (trees_of files (shader_names uses)) ns (all_values shaders.read uses shaders.of_use)) places
-    ∙ ap (λ (vss : List (List Value)). set (trees_of files (shader_names uses)) named vss) values
+    ap (λ (ts : List Tree). set ts shaders.of_use bound (names_read shaders bound)) trees
+    ∙ ap (λ (ns : List ℕ). set (trees_of files (shader_names uses)) ns bound (names_read shaders bound)) places
+    ∙ ap (λ (vss : List (List Value)). set (trees_of files (shader_names uses)) named vss (names_read shaders bound)) values
+    ∙ ap (λ (nss : List (List (List ℕ))). set (trees_of files (shader_names uses)) named (map (λ u. values_in (shader_tree files u.name) u) uses) nss) looks

@@ -13,8 +13,8 @@ use Rattle.acceptance.specs.Causes.{cause_in}
 use Rattle.acceptance.specs.Shaders.{file_of, shader_tree, distinct, use_name, shader_names, shaders_refused, shaders_asked}
 use Rattle.acceptance.specs.Reading.{name_of, is_among, with_once, file_once, IsReadOf, ReadsNext}
 use Rattle.acceptance.specs.Answers.{Because}
-use Rattle.acceptance.proofs.Names.{left, left_in, left_out}
-use Rattle.acceptance.proofs.ReadAll.{Parted, files_of, one_refused, one_asked, all_asked}
+use Rattle.acceptance.proofs.Names.{left, left_none, left_in, left_out}
+use Rattle.acceptance.proofs.ReadAll.{Parted, files_of, asked_behind_read, one_refused, one_asked, all_asked}
 
 -- these shaders are read and their files asked for, the others are left
 pub record SoFar (uses : List ShaderUse) (i : ℕ) (shaders : List ReadShader) (held_first held : Option Files) (asked_first asked_now : Option (List (List ℕ)))
@@ -24,10 +24,6 @@ pub record SoFar (uses : List ShaderUse) (i : ℕ) (shaders : List ReadShader) (
   pub read : Told held_first (λ files. All (IsReadOf files) shaders)
   pub asked : AsksAll (files_of shaders) asked_first asked_now
   pub later : faults_first ≤ faults
-
-left_none : (names : List (List ℕ)) → left [] names ≡ names
-left_none [] = refl
-left_none (n ∷ ns) = ap (λ xs. n ∷ xs) (left_none ns)
 
 none_read : (held : Option Files) → Told held (λ files. All (IsReadOf files) [])
 none_read None = tt
@@ -152,3 +148,13 @@ so_far-behind uses i shaders None held asked_first asked faults_first faults s =
 so_far-behind uses i shaders (Some files) held asked_first asked faults_first faults s =
     let rest = left (map name_of shaders) (distinct (map use_name (drop i uses))) in
     all_asked files (shader_names uses) shaders rest asked_first asked s.parts s.read s.asked
+
+-- all uses are looked at: the files of all shaders are asked for
+pub so_far-all_asked : (uses : List ShaderUse) (i : ℕ) (shaders : List ReadShader) (held_first held : Option Files) (asked_first asked : Option (List (List ℕ))) (faults_first faults : ℕ)
+    → SoFar uses i shaders held_first held asked_first asked faults_first faults → length uses ≤ i → Told held_first (λ files. AsksAll (shaders_asked files (shader_names uses)) asked_first asked)
+so_far-all_asked uses i shaders None held asked_first asked faults_first faults s end = tt
+so_far-all_asked uses i shaders (Some files) held asked_first asked faults_first faults s end =
+    let names = so_far-names uses i shaders (Some files) held asked_first asked faults_first faults s end in
+    let all : shaders_asked files (shader_names uses) ≡ files_of shaders =
+    ap (shaders_asked files) (sym names ∙ sym (append-nil (map name_of shaders))) ∙ asked_behind_read files shaders [] s.read ∙ append-nil (files_of shaders) in
+    subst (λ fs. AsksAll fs asked_first asked) (sym all) s.asked

@@ -11,7 +11,7 @@ use Rattle.sl_expression_grammar.specs.declared.fault.SlCode.TheVariants as gram
 use Rattle.sl_expressions.specs.declared.faults.TypeCode.{TypeCode}
 use Rattle.sl_expressions.specs.declared.faults.TypeCode.TheVariants as types
 use Rattle.acceptance.specs.declared.code.FaultCode.{FaultCode}
-use Rattle.acceptance.specs.declared.code.FaultCode.TheVariants.{L1, L2, L3, L4, S1, S2, S3, S4, S5, N1, N2, N3, N4, N5, P1, P2, P3, T1, T2, T3, T4, T5, T6, T7, T8, T9, T10, T11, B1, B2, B3, G1, G2, G3, G4, G5, M1, M2, M3, M4, M5, M6, M7, M8, M9, M10}
+use Rattle.acceptance.specs.declared.code.FaultCode.TheVariants.{L1, L2, L3, L4, S1, S2, S3, S4, S5, N1, N2, N3, N4, N5, P1, P2, P3, T1, T2, T3, T4, T5, T6, T7, T8, T9, T10, T11, B1, B2, B3, G1, G2, G3, G4, G5, M1, M2, M3, M4, M5, M6, M7, M8, M9, M10, M11, M12, X1}
 
 abbrev pub code_text : FaultCode → List ℕ
 code_text L1 = codes "L1"
@@ -60,6 +60,9 @@ code_text M7 = codes "M7"
 code_text M8 = codes "M8"
 code_text M9 = codes "M9"
 code_text M10 = codes "M10"
+code_text M11 = codes "M11"
+code_text M12 = codes "M12"
+code_text X1 = codes "X1"
 
 -- 3 for syntax, nesting and what isn't built yet, 4 for types and bindings, and 5 for geometry and limits
 abbrev pub status_of_code : FaultCode → ℕ
@@ -109,6 +112,9 @@ status_of_code M7 = 5
 status_of_code M8 = 5
 status_of_code M9 = 5
 status_of_code M10 = 5
+status_of_code M11 = 5
+status_of_code M12 = 5
+status_of_code X1 = 3
 
 abbrev pub of_lex : LexCode → FaultCode
 of_lex lex.L1 = L1

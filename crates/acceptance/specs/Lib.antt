@@ -6,6 +6,10 @@ pub mod Answers
 pub mod Shaders
 pub mod UseFit
 pub mod PrimFit
+pub mod Places
+pub mod ImageFiles
+pub mod Textures
 pub mod Set
 pub mod Accepting
 pub mod Reading
+pub mod Listed

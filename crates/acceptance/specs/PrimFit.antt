@@ -10,6 +10,7 @@ use Rattle.scene.specs.Scene.{VariableValue, PrimValue, FrameValue}
 use Rattle.scene.specs.declared.uses.ShaderUse.{ShaderUse}
 use Rattle.sl_ast.specs.declared.kinds.SlType.TheVariants as types
 use Rattle.sl_ast.specs.Typed.{Local, Tree}
+use Rattle.sl_look_ups.specs.Naming.{binding_params}
 use Rattle.shader_binding.specs.Sets.{SetValue}
 use Rattle.shader_binding.specs.Predefined.{sets_predefined}
 use Rattle.shader_binding.specs.Bindings.{FitsPrim}
@@ -37,7 +38,7 @@ tree_at trees of_use n = tree_placed trees (slice_get of_use n)
 -- some of these variables doesn't fit a shader, where there is one
 abbrev pub unfit_for : Option Tree → List VariableValue → Bool
 unfit_for None xs = false
-unfit_for (Some tree) xs = list_any (binds_unfit tree.params) xs
+unfit_for (Some tree) xs = list_any (binds_unfit (binding_params tree)) xs
 
 abbrev pub unfit_at : List Tree → List ℕ → Option ℕ → List VariableValue → Bool
 unfit_at trees of_use None xs = false

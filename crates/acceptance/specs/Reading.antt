@@ -12,6 +12,9 @@ use Rattle.shader_binding.specs.Sets.{SetValue, AcceptedValue}
 use Rattle.acceptance.specs.declared.refusal.Refusal.{Refusal}
 use Rattle.acceptance.specs.declared.read.ReadShader.{ReadShader}
 use Rattle.acceptance.specs.declared.shaders.UsedShaders.{UsedShaders}
+use Rattle.acceptance.specs.declared.textures.UsedTextures.{UsedTextures}
+use Rattle.texture.specs.Images.{Image}
+use Rattle.acceptance.specs.Textures.{all_names, texture_names, entries_in}
 use Rattle.acceptance.specs.declared.accepted_scene.AcceptedScene.{AcceptedScene}
 use Rattle.acceptance.specs.Causes.{cause_in}
 use Rattle.acceptance.specs.Shaders.{file_of, text_with, tree_of_text, shader_tree, shaders_refused}
@@ -82,13 +85,28 @@ abbrev pub all_values : List ReadShader → List ShaderUse → List ℕ → List
 all_values read (u ∷ us) (n ∷ ns) = values_at read u n ∷ all_values read us ns
 all_values read _ _ = []
 
--- the set that is made of them
-abbrev pub set_read : UsedShaders → List ShaderUse → SetValue
-set_read s uses = record { trees = map tree_read s.read; of_use = s.of_use; bound = all_values s.read uses s.of_use }
+-- what the look-ups of these uses name, over what their parameters are bound to
+abbrev pub names_read : UsedShaders → List (List Value) → List (List (List ℕ))
+names_read s bound = all_names (map tree_read s.read) s.of_use bound
+
+-- the set that is made of them with these textures
+abbrev pub set_read : UsedShaders → List ShaderUse → List Image → SetValue
+set_read s uses images =
+    let bound = all_values s.read uses s.of_use in
+    record {
+      trees = map tree_read s.read;
+      of_use = s.of_use;
+      bound = bound;
+      look_ups = entries_in (texture_names (names_read s bound)) (names_read s bound);
+      textures = images;
+    }
 
 -- the set of an accepted scene's shaders, and the scene with it
 abbrev pub set_in : AcceptedScene → SetValue
-set_in a = record { trees = map tree_read a.shaders.read; of_use = a.shaders.of_use; bound = a.bound }
+set_in a = record { trees = map tree_read a.shaders.read; of_use = a.shaders.of_use; bound = a.bound; look_ups = a.textures.look_ups; textures = a.textures.read }
+
+abbrev pub images_read : UsedTextures → List Image
+images_read t = t.read
 
 abbrev pub accepted_in : AcceptedScene → AcceptedValue
 accepted_in a = record { scene = a.scene; set = set_in a }

@@ -1,7 +1,7 @@
 // The accepted scene of a text, with its shaders.
-ghost use Rattle.std.specs.Prelude.{◌≡◌, ◌≤◌, IsErrOf, IfOk, All, length, map};
+ghost use Rattle.std.specs.Prelude.{◌≡◌, ◌≤◌, IsErrOf, IfOk, OnOk, All, length, map};
 ghost use Rattle.outside.specs.Causes.{Rose, Told};
-ghost use Rattle.outside.specs.Asked.{AsksFront};
+ghost use Rattle.outside.specs.Asked.{AsksAll, AsksFront};
 ghost use Rattle.rib_lex.specs.Tokens.{tokens_of};
 ghost use Rattle.rib_reader.specs.Reading.{plain, requests_of};
 ghost use Rattle.scene_state.specs.Steps.{scene_of};
@@ -18,6 +18,7 @@ ghost use Rattle.acceptance.specs.declared.refusal.Refusal.TheVariants.{ReadFaul
 
 use crate::accepted_scene::AcceptedScene;
 use crate::shaders::{UsedShaders, read_shaders};
+use crate::textures::fetch_used;
 use crate::use_fit::bind_all;
 use crate::variables::check_variables;
 use crate::{Refusal, in_scene, of_lex, of_request, of_state};
@@ -79,6 +80,7 @@ fn read_used<L: Library>(
 ) -> Result<UsedShaders, Refusal>
     ensures held { L.held library.new ≡ L.held library.old }
     ensures asked { Told (L.held library.old) (λ files. AsksFront (shaders_asked files (shader_names scene.now.uses)) (L.asked library.old) (L.asked library.new)) }
+    ensures asked_all { OnOk result (Told (L.held library.old) (λ files. AsksAll (shaders_asked files (shader_names scene.now.uses)) (L.asked library.old) (L.asked library.new))) }
     ensures names { IfOk result (λ s. map name_of s.read ≡ shader_names scene.now.uses) }
     ensures placed { IfOk result (λ s. ArePlaced scene.now.uses s) }
     ensures reads { Told (L.held library.old) (λ files. ReadsShaders files (shader_names scene.now.uses) result) }
@@ -103,10 +105,11 @@ fn bind_used(
     bind_all(alloc, scene.uses.as_slice(), shaders)
 }
 
-/// The accepted scene of a text of at most 16,777,216 bytes with its shaders, which are asked of the library by first use, each
-/// once: the file `x.sl` of the shader x, or the stock's text where there is no such file. Or the first fault: of the scene, of its
-/// shaders by first use, then of the parameters of its shader requests (RenderMan Interface 3.2, section 11.3.3), then of the
-/// variables of its primitives. The set of shaders fits the scene, which has at most 1,000 frames, and so do the variables fit it.
+/// The accepted scene of a text of at most 16,777,216 bytes with its shaders and textures. The shaders are asked of the library by first
+/// use, each once: the file `x.sl` of the shader x, or the stock's text where there is no such file; then the textures that their look-ups
+/// name. Or the first fault: of the scene, of its shaders by first use, then of the parameters of its shader requests (RenderMan Interface
+/// 3.2, section 11.3.3), then of the variables of its primitives, then of its textures by first use. The set of shaders fits the scene,
+/// which has at most 1,000 frames, and so do the variables fit it.
 pub fn accept<L: Library>(
     alloc: Global,
     text: &[u8],
@@ -126,9 +129,11 @@ pub fn accept<L: Library>(
     let shaders = read_used(alloc, library, &scene)?;
     let bound = bind_used(alloc, &scene, &shaders)?;
     check_variables(alloc, &shaders, &scene)?;
+    let textures = fetch_used(alloc, library, &shaders, &bound)?;
     Ok(AcceptedScene {
         scene,
         shaders,
         bound: List(bound),
+        textures,
     })
 }

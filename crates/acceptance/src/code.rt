@@ -55,7 +55,7 @@ pub enum FaultCode {
     T3,
     /// An assignment to a uniform variable under varying control.
     T4,
-    /// A difference over the surface under varying control.
+    /// A difference over the surface, or a look-up of a texture, under varying control.
     T5,
     /// What isn't for this kind of shader, or a predefined variable outside its place.
     T6,
@@ -103,8 +103,14 @@ pub enum FaultCode {
     M8,
     /// A shader whose code takes more than 4,096 rows of registers.
     M9,
-    /// The scene file is longer than 16,777,216 bytes, or a shader's file than 1,048,576.
+    /// The scene file or a texture's is longer than 16,777,216 bytes, or a shader's file than 1,048,576.
     M10,
+    /// A texture with a side past 2,048.
+    M11,
+    /// The 65th texture, or one with which the samples of all textures so far pass 268,435,456 bytes.
+    M12,
+    /// A file that isn't a texture.
+    X1,
 }
 
 impl FaultCode {
@@ -159,6 +165,9 @@ impl FaultCode {
             FaultCode::M8 => "M8",
             FaultCode::M9 => "M9",
             FaultCode::M10 => "M10",
+            FaultCode::M11 => "M11",
+            FaultCode::M12 => "M12",
+            FaultCode::X1 => "X1",
         }
     }
 
@@ -189,7 +198,8 @@ impl FaultCode {
             | FaultCode::M5
             | FaultCode::M6
             | FaultCode::M7 => 5,
-            FaultCode::M8 | FaultCode::M9 | FaultCode::M10 => 5,
+            FaultCode::M8 | FaultCode::M9 | FaultCode::M10 | FaultCode::M11 | FaultCode::M12 => 5,
+            FaultCode::X1 => 3,
         }
     }
 }

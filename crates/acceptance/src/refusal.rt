@@ -2,7 +2,7 @@
 ghost use Rattle.std.specs.Prelude.{◌≡◌, ◌≢◌, ◌≤◌, Some};
 ghost use Rattle.acceptance.specs.Answers.{Because, status_of_refusal};
 ghost use Rattle.acceptance.specs.Causes as causes;
-ghost use Rattle.acceptance.specs.declared.refusal.FileId.TheVariants.{Scene, Shader};
+ghost use Rattle.acceptance.specs.declared.refusal.FileId.TheVariants.{Scene, Shader, Texture};
 ghost use Rattle.acceptance.specs.declared.refusal.Refusal.TheVariants.{ReadFault, NoMemory as OutOfMemory};
 
 use crate::code::FaultCode;
@@ -18,6 +18,8 @@ pub enum FileId {
     Scene,
     /// The text of the shader of this name: `x.sl`, or the stock's.
     Shader(Text),
+    /// The texture of this name.
+    Texture(Text),
 }
 
 impl fmt::Display for FileId {
@@ -27,6 +29,10 @@ impl fmt::Display for FileId {
             FileId::Shader(name) => {
                 let name = name.as_str();
                 write!(f, "{name}.sl")
+            }
+            FileId::Texture(name) => {
+                let name = name.as_str();
+                write!(f, "{name}")
             }
         }
     }
@@ -41,7 +47,7 @@ pub enum Refusal {
         line: u32,
         code: FaultCode,
     },
-    /// The library lacks this file of a shader, and the stock lacks the shader.
+    /// The library lacks this file of a texture; or of a shader that the stock lacks too.
     Missing(Text),
     /// The library failed.
     ReadFault,
@@ -131,6 +137,21 @@ pub fn in_shader(alloc: Global, name: &Text, code: FaultCode, line: u32) -> Refu
         Ok(name) => Refusal::At {
             file: FileId::Shader(name),
             line,
+            code,
+        },
+        Err(_) => Refusal::NoMemory,
+    }
+}
+
+/// The refusal by a code of a texture's file.
+pub fn in_texture(alloc: Global, name: &Text, code: FaultCode) -> Refusal
+    ensures because { Because result (Some (causes.At (Texture name.now) 1 code)) }
+    ensures held { result ≢ ReadFault }
+{
+    match name.copied(alloc) {
+        Ok(name) => Refusal::At {
+            file: FileId::Texture(name),
+            line: 1,
             code,
         },
         Err(_) => Refusal::NoMemory,

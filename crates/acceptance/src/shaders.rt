@@ -22,6 +22,7 @@ use fixed_math::{List, Names, NoMemory, Text};
 use outside::{Fetch, Library};
 use scene_state::ShaderUse;
 use sl_ast::Tree;
+use sl_look_ups::binding_params;
 use sl_parser::{SlFault, parse};
 use sl_types::check;
 use sl_typing::TypeFault;
@@ -164,7 +165,12 @@ fn read_shader<L: Library>(
     let named = name.copied(alloc)?;
     let text = fetch_text(alloc, library, name)?;
     let tree = of_bytes(alloc, name, &text)?;
-    Ok(ReadShader { name: named, tree })
+    let binding = binding_params(alloc, &tree)?;
+    Ok(ReadShader {
+        name: named,
+        tree,
+        binding: List(binding),
+    })
 }
 
 // Reads the shader of a name behind those that are read, whose names are in the table too.
@@ -222,7 +228,7 @@ fn read_once<'a, L: Library>(
 }
 
 // A place as a set of shaders holds it. Where there is none of so great a number, want of memory.
-fn numbered(place: usize) -> Result<u32, NoMemory>
+pub(crate) fn numbered(place: usize) -> Result<u32, NoMemory>
     ensures { IfOk result (λ n. n ≡ place) }
 {
     match u32::try_from(place) {
@@ -248,6 +254,7 @@ pub(crate) fn read_shaders<L: Library>(
 ) -> Result<UsedShaders, Refusal>
     ensures held { L.held library.new ≡ L.held library.old }
     ensures asked { Told (L.held library.old) (λ files. AsksFront (shaders_asked files (shader_names uses.now)) (L.asked library.old) (L.asked library.new)) }
+    ensures asked_all { OnOk result (Told (L.held library.old) (λ files. AsksAll (shaders_asked files (shader_names uses.now)) (L.asked library.old) (L.asked library.new))) }
     ensures names { IfOk result (λ s. map name_of s.read ≡ shader_names uses.now) }
     ensures placed { IfOk result (λ s. ArePlaced uses.now s) }
     ensures reads { Told (L.held library.old) (λ files. ReadsShaders files (shader_names uses.now) result) }

@@ -1,9 +1,9 @@
 // How the variables of primitives fit the parameters of their shaders.
-ghost use Rattle.std.specs.Prelude.{◌≡◌, ◌&&◌, not, IsErrOf, map, option_map, slice_get};
+ghost use Rattle.std.specs.Prelude.{◌≡◌, ◌&&◌, not, false, IsErrOf, map, option_map, slice_get};
 ghost use Rattle.std.specs.List.{list_any};
 ghost use Rattle.shader_binding.specs.Predefined.{sets_predefined as sets_of};
 ghost use Rattle.sl_ast.specs.TypedView.{local_of};
-ghost use Rattle.sl_ast.specs.TreeView.{tree_of};
+ghost use Rattle.sl_look_ups.specs.Naming.{binding_params};
 ghost use Rattle.acceptance.specs.PrimFit as spec;
 ghost use Rattle.acceptance.specs.Reading.{tree_read, declared_by};
 ghost use Rattle.acceptance.specs.Answers.{Clears};
@@ -16,7 +16,7 @@ use crate::{FaultCode, Refusal, in_scene, is_of_type};
 use fixed_math::Names;
 use scene_state::{Frame, Prim, PrimitiveVariables, Scene, Variable};
 use shader_binding::sets_predefined;
-use sl_ast::{ParamDecl, Tree};
+use sl_ast::ParamDecl;
 use std::alloc::Global;
 
 // Whether a variable has the name of a parameter and can't give it its value.
@@ -29,22 +29,23 @@ fn is_unfit(variable: &Variable, param: &ParamDecl) -> bool
     named && (other_kind || varies)
 }
 
-// The parameter at that place, where there is one.
-fn declared_at(tree: &Tree, place: usize) -> Option<&ParamDecl>
-    ensures { option_map (λ p. local_of p.now) result ≡ slice_get (tree_of tree.now).params place }
+// The parameter at that place as variables bind to it, where there is one.
+fn bound_at(shader: &ReadShader, place: usize) -> Option<&ParamDecl>
+    ensures { option_map (λ p. local_of p.now) result ≡ slice_get (binding_params (tree_read shader.now)) place }
 {
-    tree.params().get(place)
+    shader.binding.as_slice().get(place)
 }
 
 // Whether a variable doesn't fit the parameter of its name, where the shader declares one.
 fn is_unfit_named(shader: &ReadShader, names: &Names<'_>, variable: &Variable) -> bool
-    requires { names.now ≡ declared_by shader.now }
-    ensures { result ≡ list_any (spec.is_unfit variable.now) (tree_read shader.now).params }
+    requires names { names.now ≡ declared_by shader.now }
+    requires binds { sets_of variable.now.name ≡ false }
+    ensures { result ≡ list_any (spec.is_unfit variable.now) (binding_params (tree_read shader.now)) }
 {
     let Some(place) = names.place_of(variable.name()) else {
         return false;
     };
-    match declared_at(&shader.tree, place) {
+    match bound_at(shader, place) {
         Some(param) => is_unfit(variable, param),
         None => false,
     }
@@ -53,7 +54,7 @@ fn is_unfit_named(shader: &ReadShader, names: &Names<'_>, variable: &Variable) -
 // Whether a variable that binds doesn't fit the shader.
 fn binds_unfit(shader: &ReadShader, names: &Names<'_>, variable: &Variable) -> bool
     requires { names.now ≡ declared_by shader.now }
-    ensures { result ≡ spec.binds_unfit (tree_read shader.now).params variable.now }
+    ensures { result ≡ spec.binds_unfit (binding_params (tree_read shader.now)) variable.now }
 {
     !sets_predefined(variable.name()) && is_unfit_named(shader, names, variable)
 }
@@ -65,7 +66,7 @@ fn unfit_by_variables(
     variables: &PrimitiveVariables,
 ) -> bool
     requires { names.now ≡ declared_by shader.now }
-    ensures { result ≡ list_any (spec.binds_unfit (tree_read shader.now).params) variables.now }
+    ensures { result ≡ list_any (spec.binds_unfit (binding_params (tree_read shader.now))) variables.now }
 {
     for k in 0..variables.len() {
         if binds_unfit(shader, names, &variables.at(k)) {
@@ -105,9 +106,9 @@ fn unfit_by_params(params: &[ParamDecl], variables: &PrimitiveVariables) -> bool
 // share them, or a shader very many parameters: the fewer ones are looked for among the others.
 fn unfit_for(shader: &ReadShader, names: &Names<'_>, variables: &PrimitiveVariables) -> bool
     requires { names.now ≡ declared_by shader.now }
-    ensures { result ≡ list_any (spec.binds_unfit (tree_read shader.now).params) variables.now }
+    ensures { result ≡ list_any (spec.binds_unfit (binding_params (tree_read shader.now))) variables.now }
 {
-    let params = shader.tree.params();
+    let params = shader.binding.as_slice();
     if variables.len() <= params.len() {
         unfit_by_variables(shader, names, variables)
     } else {

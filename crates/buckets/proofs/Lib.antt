@@ -1,3 +1,4 @@
+pub mod Stock
 pub mod LeafParts
 pub mod ShadedPlaces
 pub mod Culling

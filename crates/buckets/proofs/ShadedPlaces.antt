@@ -30,6 +30,7 @@ use Rattle.sl_ast.specs.Typed.{Tree}
 use Rattle.builtins.specs.Lights.{Light}
 use Rattle.builtins.specs.Values.{triple_of}
 use Rattle.sl_meaning.specs.Runs.{Names}
+use Rattle.texture.specs.Images.{Image}
 use Rattle.shader_binding.specs.Sets.{SetValue, AcceptedValue, Bound, Fits, FitsUse, FitUses, is_of_kind, bound_with, bound_at, bound_for}
 use Rattle.grid_variables.specs.Kept.{kept_near, moved}
 use Rattle.grid_variables.specs.Points.{Leaf, columns, rows, own_u, own_v, point_at}
@@ -57,21 +58,23 @@ kind_keeps written.Displacement requested.Surface h m = absurd (false≢true h)
 kind_keeps written.Displacement requested.Volume h m = absurd (false≢true h)
 kind_keeps written.Displacement requested.Light h m = absurd (false≢true h)
 
-tree_keeps : (o : Option Tree) (u : ShaderUse) (vs : List Value) (kind : ShaderKind) → FitsUse u vs o → moves_none kind ≡ true → u.kind ≡ kind → KeepsPlaces (bound_with o (Some vs) (Some u))
-tree_keeps None u vs kind h m e = absurd h
-tree_keeps (Some t) u vs kind h m e = kind_keeps t.kind u.kind h.0 (ap moves_none e ∙ m)
+tree_keeps : (images : List Image) (o : Option Tree) (u : ShaderUse) (vs : List Value) (es : Option (List (Option ℕ))) (kind : ShaderKind) → FitsUse u vs o → moves_none kind ≡ true → u.kind ≡ kind → KeepsPlaces (bound_with images o (Some vs) es (Some u))
+tree_keeps images None u vs es kind h m e = absurd h
+tree_keeps images (Some t) u vs None kind h m e = tt
+tree_keeps images (Some t) u vs (Some es) kind h m e = kind_keeps t.kind u.kind h.0 (ap moves_none e ∙ m)
 
-use_keeps : (trees : List Tree) (uses : List ShaderUse) (ofs : List ℕ) (bounds : List (List Value)) (n : ℕ) (kind : ShaderKind) → FitUses trees uses ofs bounds → moves_none kind ≡ true → IsUse uses kind n →
-    KeepsPlaces (bound_with (slice_get trees (get_or ofs n 0)) (slice_get bounds n) (slice_get uses n))
-use_keeps trees [] ofs bounds n kind h m is = absurd is
-use_keeps trees (u ∷ uses) (o ∷ ofs) (vs ∷ bounds) zero kind h m is = tree_keeps (slice_get trees o) u vs kind h.0 m is
-use_keeps trees (u ∷ uses) (o ∷ ofs) (vs ∷ bounds) (suc n) kind h m is = use_keeps trees uses ofs bounds n kind h.1 m is
-use_keeps trees (u ∷ uses) [] bounds n kind h m is = absurd h
-use_keeps trees (u ∷ uses) (o ∷ ofs) [] n kind h m is = absurd h
+use_keeps : (images : List Image) (trees : List Tree) (uses : List ShaderUse) (ofs : List ℕ) (bounds : List (List Value)) (ess : List (List (Option ℕ))) (n : ℕ) (kind : ShaderKind) → FitUses trees uses ofs bounds → moves_none kind ≡ true → IsUse uses kind n →
+    KeepsPlaces (bound_with images (slice_get trees (get_or ofs n 0)) (slice_get bounds n) (slice_get ess n) (slice_get uses n))
+use_keeps images trees [] ofs bounds ess n kind h m is = absurd is
+use_keeps images trees (u ∷ uses) (o ∷ ofs) (vs ∷ bounds) ess zero kind h m is = tree_keeps images (slice_get trees o) u vs (slice_get ess 0) kind h.0 m is
+use_keeps images trees (u ∷ uses) (o ∷ ofs) (vs ∷ bounds) (es ∷ ess) (suc n) kind h m is = use_keeps images trees uses ofs bounds ess n kind h.1 m is
+use_keeps images trees (u ∷ uses) (o ∷ ofs) (vs ∷ bounds) [] (suc n) kind h m is = use_keeps images trees uses ofs bounds [] n kind h.1 m is
+use_keeps images trees (u ∷ uses) [] bounds ess n kind h m is = absurd h
+use_keeps images trees (u ∷ uses) (o ∷ ofs) [] ess n kind h m is = absurd h
 
 some_keeps : (s : SetValue) (uses : List ShaderUse) (n : Option ℕ) (kind : ShaderKind) → Fits s uses → moves_none kind ≡ true → IsSomeUse uses kind n → KeepsPlaces (bound_for s uses n)
 some_keeps s uses None kind h m is = tt
-some_keeps s uses (Some n) kind h m is = use_keeps s.trees uses s.of_use s.bound n kind h m is
+some_keeps s uses (Some n) kind h m is = use_keeps s.textures s.trees uses s.of_use s.bound s.look_ups n kind h.uses m is
 
 kept_where : (b : Bool) (x y : Value) → b ≡ false → cond b x y ≡ y
 kept_where b x y e = ap (λ c. cond c x y) e
@@ -128,7 +131,7 @@ unfolding shaded
 shaded_in a f prim part p q is part_is hp hq i h =
     let l = leaf_of f prim part p q in
     let b = patch_box prim.patch (rect_of part) in
-    let surface = use_keeps a.set.trees a.scene.uses a.set.of_use a.set.bound prim.surface requested.Surface is.fits refl is.uses.surface in
+    let surface = use_keeps a.set.textures a.set.trees a.scene.uses a.set.of_use a.set.bound a.set.look_ups prim.surface requested.Surface is.fits.uses refl is.uses.surface in
     let volume = some_keeps a.set a.scene.uses prim.atmosphere requested.Volume is.fits refl is.uses.atmosphere in
     let there = get_or-map-range_with_len (λ j. triple_of (shaded_names l a.set a.scene.uses j names.P)) 0 (columns l * rows l) i i origin h (omega arith) in
     subst (Holds (widened prim.bound b)) (sym (there ∙ place_moved l a.set a.scene.uses i surface volume))

@@ -11,7 +11,7 @@ ghost use Rattle.scene.specs.Settings.{AreOptions};
 ghost use Rattle.fixed_math.specs.Buckets.{bucket_count};
 ghost use Rattle.transforms.specs.Field.{IsView};
 ghost use Rattle.filter_ppm.specs.Sampled.{IsFormat};
-ghost use Rattle.displace_shade.specs.Shop.{set_value};
+ghost use Rattle.displace_shade.specs.Shop.{shop_set};
 ghost use Rattle.hider.specs.Tiles.{Shows, IsSampleGrid};
 ghost use Rattle.filter_ppm.specs.Bands.{rect_with};
 ghost use Rattle.grid_epoch.specs.Kept.{points_in};
@@ -133,7 +133,7 @@ fn go_on<'a, O: FrameSink>(
 ) -> Result<(), DrawFault>
     ghost at_epoch: { InEpoch }
     requires drawn { IsDrawn at_epoch.begun shown.now }
-    requires set { set_value shop.old.set ≡ at_epoch.begun.drawing.accepted.set }
+    requires set { shop_set shop.old ≡ at_epoch.begun.drawing.accepted.set }
     requires limit { epoch.old.limit ≡ at_epoch.begun.drawing.limit }
     requires stands { Stands at_epoch progress.old epoch.old.kept shop.old.count }
     requires open { O.is_open sink.old ≡ true }
@@ -144,6 +144,7 @@ fn go_on<'a, O: FrameSink>(
     ensures ended { OnOk result (progress.new.drawing.at ≡ tile_count at_epoch.begun.drawing → Before at_epoch progress.new.drawing.at epoch.new.kept shop.new.count) }
     ensures shaded { OnErr result (ShadesInPart at_epoch.begun shop.new.count) }
     ensures set { shop.new.set ≡ shop.old.set }
+    ensures textures { shop.new.cache.textures ≡ shop.old.cache.textures }
     ensures epochs { report.new.epochs ≡ report.old.epochs }
     ensures points { report.new.most_points ≡ report.old.most_points }
     ensures samples { OnOk result (TellsSamples at_epoch.begun progress.new.drawing.at report.new.most_samples) }
@@ -174,7 +175,7 @@ fn run_epoch<O: FrameSink>(
 ) -> Result<(), DrawFault>
     ghost begun: { Begun }
     requires drawn { IsDrawn begun shown.now }
-    requires set { set_value shop.old.set ≡ begun.drawing.accepted.set }
+    requires set { shop_set shop.old ≡ begun.drawing.accepted.set }
     requires epochs { report.old.epochs + 1 < 2 ^ 64 }
     requires stands { Stands (next_of begun report.old) progress.old [] shop.old.count }
     requires open { O.is_open sink.old ≡ true }
@@ -186,6 +187,7 @@ fn run_epoch<O: FrameSink>(
     ensures ended { OnOk result (progress.new.drawing.at ≡ tile_count begun.drawing → Done begun.drawing begun.count shop.new.count (report_before begun) report.new) }
     ensures shaded { OnErr result (ShadesInPart begun shop.new.count) }
     ensures set { shop.new.set ≡ shop.old.set }
+    ensures textures { shop.new.cache.textures ≡ shop.old.cache.textures }
     ensures samples { OnOk result (TellsSamples begun progress.new.drawing.at report.new.most_samples) }
     ensures open { O.is_open sink.new ≡ true }
     ensures put { OnOk result (PutsTo begun progress.new.drawing.at (O.written sink.new)) }
@@ -254,7 +256,7 @@ pub(crate) fn draw_tiles<O: FrameSink>(
     requires drawn { IsDrawn begun shown.now }
     requires first { IsFirstDrawn begun.drawing 0 first }
     requires some { first < tile_count begun.drawing }
-    requires set { set_value shop.old.set ≡ begun.drawing.accepted.set }
+    requires set { shop_set shop.old ≡ begun.drawing.accepted.set }
     requires count { shop.old.count ≡ begun.count }
     requires report { report.old ≡ report_before begun }
     requires written { O.written sink.old ≡ begun.written }
@@ -264,6 +266,7 @@ pub(crate) fn draw_tiles<O: FrameSink>(
     ensures few_shadings { OnOk result (shop.new.count ≤ shop.old.count + 2 ^ 52) }
     ensures few_epochs { OnOk result (report.new.epochs ≤ report.old.epochs + 2 ^ 52 + 1) }
     ensures set { shop.new.set ≡ shop.old.set }
+    ensures textures { shop.new.cache.textures ≡ shop.old.cache.textures }
     ensures open { O.is_open sink.new ≡ true }
     ensures put { OnOk result (PutsAll (all_by begun.drawing.share begun.drawing) begun.written (O.written sink.new)) }
     ensures part { OnErr result (PutsInPart begun (O.written sink.new)) }
@@ -385,8 +388,8 @@ pub fn render_frame<O: FrameSink>(
     sink: &mut O,
 ) -> Result<(), DrawFault>
     requires frame { frame < length scene.now.frames }
-    requires fits { Fits (set_value shop.old.set) scene.now.uses }
-    requires variables { (f : FrameValue) → HasFrame scene.now frame f → All (FitsPrim (set_value shop.old.set) scene.now.uses) f.prims }
+    requires fits { Fits (shop_set shop.old) scene.now.uses }
+    requires variables { (f : FrameValue) → HasFrame scene.now frame f → All (FitsPrim (shop_set shop.old) scene.now.uses) f.prims }
     requires closed { O.is_open sink.old ≡ false }
     requires bucket_low { 4 ≤ limits.bucket }
     requires bucket_high { limits.bucket ≤ 64 }
@@ -397,11 +400,12 @@ pub fn render_frame<O: FrameSink>(
     ensures closed { OnOk result (O.is_open sink.new ≡ false) }
     ensures ok { OnOk result ((f : FrameValue) → HasFrame scene.now frame f → Adds (whole (picture_of (shaded_by scene.now shop.old) f) ∷ []) (O.written sink.old) (O.written sink.new)) }
     ensures err { OnErr result ((f : FrameValue) → HasFrame scene.now frame f → AddsPart (picture_of (shaded_by scene.now shop.old) f) (O.written sink.old) (O.written sink.new)) }
-    ensures drawn { OnOk result ((f : FrameValue) → HasFrame scene.now frame f → Done (drawing_of scene.now (set_value shop.old.set) f limits) shop.old.count shop.new.count report.old report.new) }
-    ensures drawn_part { OnErr result ((f : FrameValue) → HasFrame scene.now frame f → DoneInPart (drawing_of scene.now (set_value shop.old.set) f limits) shop.old.count shop.new.count report.old report.new) }
+    ensures drawn { OnOk result ((f : FrameValue) → HasFrame scene.now frame f → Done (drawing_of scene.now (shop_set shop.old) f limits) shop.old.count shop.new.count report.old report.new) }
+    ensures drawn_part { OnErr result ((f : FrameValue) → HasFrame scene.now frame f → DoneInPart (drawing_of scene.now (shop_set shop.old) f limits) shop.old.count shop.new.count report.old report.new) }
     ensures few_shadings { OnOk result (shop.new.count ≤ shop.old.count + 2 ^ 52) }
     ensures few_epochs { OnOk result (report.new.epochs ≤ report.old.epochs + 2 ^ 52 + 1) }
     ensures set { shop.new.set ≡ shop.old.set }
+    ensures textures { shop.new.cache.textures ≡ shop.old.cache.textures }
     ensures later { O.faults sink.old ≤ O.faults sink.new }
     ensures failed { IsErrOf result WriteFault → Rose (O.faults sink.old) (O.faults sink.new) }
 {

@@ -5,7 +5,7 @@ ghost use Rattle.outside.specs.Frames.{Adds, AddsPart, PutsAll, PutsFront, whole
 ghost use Rattle.shader_binding.specs.Sets.{Fits};
 ghost use Rattle.shader_binding.specs.Bindings.{FitsPrim};
 ghost use Rattle.scene.specs.Scene.{FrameValue, HasUses};
-ghost use Rattle.displace_shade.specs.Shop.{set_value};
+ghost use Rattle.displace_shade.specs.Shop.{shop_set};
 ghost use Rattle.buckets.specs.Shopped.{shaded_by};
 ghost use Rattle.buckets.specs.Pictures.{HasFrame};
 ghost use Rattle.buckets.specs.FrameParts.{IsPartText, entry_of, share_header};
@@ -75,7 +75,7 @@ fn put_buckets<O: FrameSink>(
 ) -> Result<(), DrawFault>
     ghost begun: { Begun }
     requires drawn { IsDrawn begun shown.now }
-    requires set { set_value shop.old.set ≡ begun.drawing.accepted.set }
+    requires set { shop_set shop.old ≡ begun.drawing.accepted.set }
     requires count { shop.old.count ≡ begun.count }
     requires report { report_before begun ≡ record { epochs = 0; most_points = 0; most_samples = 0 } }
     requires written { O.written sink.old ≡ begun.written }
@@ -83,6 +83,7 @@ fn put_buckets<O: FrameSink>(
     ensures shaded { ShadesAtMost begun.drawing shop.old.count shop.new.count }
     ensures few_shadings { OnOk result (shop.new.count ≤ shop.old.count + 2 ^ 52) }
     ensures set { shop.new.set ≡ shop.old.set }
+    ensures textures { shop.new.cache.textures ≡ shop.old.cache.textures }
     ensures open { O.is_open sink.new ≡ true }
     ensures put { OnOk result (PutsAll (all_by begun.drawing.share begun.drawing) begun.written (O.written sink.new)) }
     ensures part { OnErr result (PutsInPart begun (O.written sink.new)) }
@@ -112,13 +113,14 @@ fn put_part<O: FrameSink>(
 ) -> Result<(), DrawFault>
     ghost begun: { Begun }
     requires drawn { IsDrawn begun shown.now }
-    requires set { set_value shop.old.set ≡ begun.drawing.accepted.set }
+    requires set { shop_set shop.old ≡ begun.drawing.accepted.set }
     requires count { shop.old.count ≡ begun.count }
     requires report { report_before begun ≡ record { epochs = 0; most_points = 0; most_samples = 0 } }
     requires open { O.is_open sink.old ≡ true }
     ensures shaded { ShadesAtMost begun.drawing shop.old.count shop.new.count }
     ensures few_shadings { OnOk result (shop.new.count ≤ shop.old.count + 2 ^ 52) }
     ensures set { shop.new.set ≡ shop.old.set }
+    ensures textures { shop.new.cache.textures ≡ shop.old.cache.textures }
     ensures open { O.is_open sink.new ≡ true }
     ensures text { IsPartText begun.drawing tag (share_header begun.drawing tag ++ all_by begun.drawing.share begun.drawing) }
     ensures ok { OnOk result (PutsAll (share_header begun.drawing tag ++ all_by begun.drawing.share begun.drawing) (O.written sink.old) (O.written sink.new)) }
@@ -150,8 +152,8 @@ pub fn render_part<O: FrameSink>(
     sink: &mut O,
 ) -> Result<(), DrawFault>
     requires frame { frame < length scene.now.frames }
-    requires fits { Fits (set_value shop.old.set) scene.now.uses }
-    requires variables { (f : FrameValue) → HasFrame scene.now frame f → All (FitsPrim (set_value shop.old.set) scene.now.uses) f.prims }
+    requires fits { Fits (shop_set shop.old) scene.now.uses }
+    requires variables { (f : FrameValue) → HasFrame scene.now frame f → All (FitsPrim (shop_set shop.old) scene.now.uses) f.prims }
     requires closed { O.is_open sink.old ≡ false }
     requires bucket_low { 4 ≤ limits.bucket }
     requires bucket_high { limits.bucket ≤ 64 }
@@ -162,9 +164,10 @@ pub fn render_part<O: FrameSink>(
     ensures closed { OnOk result (O.is_open sink.new ≡ false) }
     ensures ok { OnOk result ((f : FrameValue) → HasFrame scene.now frame f → Adds (whole (entry_of (shaded_by scene.now shop.old) f limits.bucket tag part name.now) ∷ []) (O.written sink.old) (O.written sink.new)) }
     ensures err { OnErr result ((f : FrameValue) → HasFrame scene.now frame f → AddsPart (entry_of (shaded_by scene.now shop.old) f limits.bucket tag part name.now) (O.written sink.old) (O.written sink.new)) }
-    ensures shaded { (f : FrameValue) → HasFrame scene.now frame f → ShadesAtMost (part_drawing scene.now (set_value shop.old.set) f limits part) shop.old.count shop.new.count }
+    ensures shaded { (f : FrameValue) → HasFrame scene.now frame f → ShadesAtMost (part_drawing scene.now (shop_set shop.old) f limits part) shop.old.count shop.new.count }
     ensures few_shadings { OnOk result (shop.new.count ≤ shop.old.count + 2 ^ 52) }
     ensures set { shop.new.set ≡ shop.old.set }
+    ensures textures { shop.new.cache.textures ≡ shop.old.cache.textures }
     ensures later { O.faults sink.old ≤ O.faults sink.new }
     ensures failed { IsErrOf result WriteFault → Rose (O.faults sink.old) (O.faults sink.new) }
 {

@@ -6,7 +6,7 @@ ghost use Rattle.bound_split.specs.declared.splits.Decision.TheVariants.{Dice};
 ghost use Rattle.dice.specs.Grids.{line_count};
 ghost use Rattle.shader_binding.specs.Sets.{Fits};
 ghost use Rattle.shader_binding.specs.Bindings.{FitsPrim};
-ghost use Rattle.displace_shade.specs.Shop.{set_value};
+ghost use Rattle.displace_shade.specs.Shop.{shop_set};
 ghost use Rattle.displace_shade.specs.Diced.{grid_value};
 ghost use Rattle.hider.specs.declared.fragment.Fragment.{Fragment};
 ghost use Rattle.hider.specs.declared.sample.Sample.{Sample};
@@ -71,7 +71,7 @@ fn shade_grid<'a>(
 ) -> Result<GridRef<'a>, NoMemory>
     ghost begun: { Begun }
     requires drawn { IsDrawn begun shown.now }
-    requires set { set_value shop.old.set ≡ begun.drawing.accepted.set }
+    requires set { shop_set shop.old ≡ begun.drawing.accepted.set }
     requires there { slice_get begun.drawing.frame.prims leaf.now.piece.prim ≡ Some prim.now }
     requires sizes { decide begun.drawing.frame.camera prim.now leaf.now.piece ≡ Dice leaf.now.p leaf.now.q }
     requires p { leaf.now.p ≤ 4 }
@@ -80,6 +80,7 @@ fn shade_grid<'a>(
     ensures grid { IfOk result (IsShadedOf begun.drawing leaf.now.piece) }
     ensures points { IfOk result (λ g. g.columns * g.rows ≡ line_count leaf.now.p * line_count leaf.now.q) }
     ensures set { shop.new.set ≡ shop.old.set }
+    ensures textures { shop.new.cache.textures ≡ shop.old.cache.textures }
     ensures least { shop.old.count ≤ shop.new.count }
     ensures most { shop.new.count ≤ shop.old.count + 1 }
     ensures count { OnOk result (shop.new.count ≡ shop.old.count + 1) }
@@ -99,7 +100,7 @@ fn shade_leaf<'a>(
 ) -> Result<SeenGrid<'a>, NoMemory>
     ghost begun: { Begun }
     requires drawn { IsDrawn begun shown.now }
-    requires set { set_value shop.old.set ≡ begun.drawing.accepted.set }
+    requires set { shop_set shop.old ≡ begun.drawing.accepted.set }
     requires there { slice_get begun.drawing.frame.prims leaf.now.piece.prim ≡ Some prim.now }
     requires sizes { decide begun.drawing.frame.camera prim.now leaf.now.piece ≡ Dice leaf.now.p leaf.now.q }
     requires p { leaf.now.p ≤ 4 }
@@ -112,6 +113,7 @@ fn shade_leaf<'a>(
     ensures points { IfOk result (λ s. s.grid.columns * s.grid.rows ≡ line_count leaf.now.p * line_count leaf.now.q) }
     ensures kept { IfOk result (λ s. epoch.new.kept ≡ epoch.old.kept ++ (leaf.now.piece, s) ∷ []) }
     ensures set { shop.new.set ≡ shop.old.set }
+    ensures textures { shop.new.cache.textures ≡ shop.old.cache.textures }
     ensures least { shop.old.count ≤ shop.new.count }
     ensures most { shop.new.count ≤ shop.old.count + 1 }
     ensures count { OnOk result (shop.new.count ≡ shop.old.count + 1) }
@@ -136,7 +138,7 @@ fn use_leaf<'a>(
 ) -> Result<bool, NoMemory>
     ghost begun: { Begun }
     requires drawn { IsDrawn begun shown.now }
-    requires set { set_value shop.old.set ≡ begun.drawing.accepted.set }
+    requires set { shop_set shop.old ≡ begun.drawing.accepted.set }
     requires there { slice_get begun.drawing.frame.prims leaf.now.piece.prim ≡ Some prim.now }
     requires sizes { decide begun.drawing.frame.camera prim.now leaf.now.piece ≡ Dice leaf.now.p leaf.now.q }
     requires p { leaf.now.p ≤ 4 }
@@ -147,6 +149,7 @@ fn use_leaf<'a>(
     ensures limit { epoch.new.limit ≡ epoch.old.limit }
     ensures grid { tile.new.grid ≡ tile.old.grid }
     ensures set { shop.new.set ≡ shop.old.set }
+    ensures textures { shop.new.cache.textures ≡ shop.old.cache.textures }
     ensures used { IfOk result (λ b. Uses b begun.drawing (leaf_in prim.now leaf.now.piece) epoch.old.kept shop.old.count tile.old epoch.new.kept shop.new.count tile.new) }
     ensures part { OnErr result (UsesInPart begun.drawing (leaf_in prim.now leaf.now.piece) epoch.old.kept shop.old.count shop.new.count) }
 {
@@ -186,7 +189,7 @@ pub(crate) fn pass_leaf<'a>(
 ) -> Result<bool, NoMemory>
     ghost at_epoch: { InEpoch }
     requires drawn { IsDrawn at_epoch.begun shown.now }
-    requires set { set_value shop.old.set ≡ at_epoch.begun.drawing.accepted.set }
+    requires set { shop_set shop.old ≡ at_epoch.begun.drawing.accepted.set }
     requires there { slice_get at_epoch.begun.drawing.frame.prims leaf.now.piece.prim ≡ Some prim.now }
     requires sizes { decide at_epoch.begun.drawing.frame.camera prim.now leaf.now.piece ≡ Dice leaf.now.p leaf.now.q }
     requires p { leaf.now.p ≤ 4 }
@@ -198,6 +201,7 @@ pub(crate) fn pass_leaf<'a>(
     ensures sights { sights.new ≡ sights.old }
     ensures limit { epoch.new.limit ≡ epoch.old.limit }
     ensures set { shop.new.set ≡ shop.old.set }
+    ensures textures { shop.new.cache.textures ≡ shop.old.cache.textures }
     ensures passed { IfOk result (λ b. PassesLeaf b at_epoch (leaf_in prim.now leaf.now.piece) tile.old epoch.old.kept shop.old.count tile.new epoch.new.kept shop.new.count) }
     ensures part { OnErr result (PassesInPart at_epoch (leaf_in prim.now leaf.now.piece) tile.old epoch.old.kept shop.old.count shop.new.count) }
 {

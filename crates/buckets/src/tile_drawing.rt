@@ -1,6 +1,6 @@
 // One tile of a frame, leaf after leaf.
 ghost use Rattle.std.specs.Prelude.{◌≡◌, ◌≢◌, ◌≤◌, ◌<◌, [], None, Some, ℕ, ℤ, Bool, List, OnOk, OnErr, IfOk, slice_get};
-ghost use Rattle.displace_shade.specs.Shop.{set_value};
+ghost use Rattle.displace_shade.specs.Shop.{shop_set};
 ghost use Rattle.grid_epoch.specs.Kept.{points_in};
 ghost use Rattle.filter_ppm.specs.Bands.{rect_with};
 ghost use Rattle.scene.specs.Scene.{FrameValue, PrimValue};
@@ -52,7 +52,7 @@ impl<'s> TileDrawing<'s> {
     ) -> Result<(), NoMemory>
         ghost at_epoch: { InEpoch }
         requires drawn { IsDrawn at_epoch.begun shown.now }
-        requires set { set_value shop.old.set ≡ at_epoch.begun.drawing.accepted.set }
+        requires set { shop_set shop.old ≡ at_epoch.begun.drawing.accepted.set }
         requires limit { epoch.old.limit ≡ at_epoch.begun.drawing.limit }
         requires rect { rect_with self.old.rect ≡ tile_rect at_epoch.begun.drawing self.old.at }
         requires going { Going at_epoch self.old.at self.old.tile self.old.next (to_come shown.now.frame.now self.old.leaves.number self.old.leaves.pieces) epoch.old.kept shop.old.count }
@@ -62,6 +62,7 @@ impl<'s> TileDrawing<'s> {
         ensures leaves { self.new.leaves.sights ≡ shown.now.frame.now }
         ensures limit { epoch.new.limit ≡ epoch.old.limit }
         ensures set { shop.new.set ≡ shop.old.set }
+        ensures textures { shop.new.cache.textures ≡ shop.old.cache.textures }
         ensures ended { OnOk result (self.new.next ≡ None → Goes at_epoch self.new.at self.new.tile [] epoch.new.kept shop.new.count) }
         ensures full { OnOk result (Waits at_epoch epoch.new.kept self.new.at self.new.tile self.new.next (to_come shown.now.frame.now self.new.leaves.number self.new.leaves.pieces) shop.new.count) }
         ensures part { OnErr result (ShadesInPart at_epoch.begun shop.new.count) }

@@ -1,3 +1,4 @@
 pub mod Shaped
 pub mod Texts
+pub mod Places
 mod Noises

@@ -6,5 +6,6 @@ pub mod Formulas
 pub mod Table
 pub mod Shapes
 pub mod Differences
+pub mod Textures
 pub mod Lights
 pub mod Names

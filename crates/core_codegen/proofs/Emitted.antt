@@ -21,7 +21,7 @@ use Rattle.sl_meaning.specs.Core.{Slot, formals, after_all, is_uniform, are_unif
 use Rattle.core_codegen.specs.Compile.{at, all_at, into, expr_code, exprs_code, args_code, behind, stmt_code, all_code, shader_code}
 use Rattle.core_codegen.specs.Variables.{variable}
 use Rattle.grid_code.specs.Shapes.{register_class, register_shape, are_uniform_registers, register_shapes, difference_shape}
-use Rattle.core_codegen.specs.Registers.{like, applied_at, differed_at}
+use Rattle.core_codegen.specs.Registers.{like, applied_at, differed_at, looked_at}
 use Rattle.core_codegen.proofs.ValueRegisters.{class_at, shape_at, classes_at, shapes_at, variable_class, variable_shape, difference_shape_in}
 use Rattle.core_codegen.proofs.Emitting.{passed_uniform, and_assoc}
 
@@ -63,6 +63,17 @@ module _ (ss : List Slot) (base next : ℕ) where
   sum_code s args qs o m n hm hs h =
       let z = c.sum (at (C.sum s args) ss next) s (all_at args ss next) c.end in
       h ∙ ap (λ l. m then c.sum (at (C.sum s args) ss next) s l c.end) hs ∙ ap (λ y. y then z) hm ∙ then_assoc o (exprs_code args ss base next) z
+
+module _ (ss : List Slot) (base next : ℕ) where
+  pub look_at : (k : ℕ) (args : C.Exprs) (qs : List Register) (q : Register) → qs ≡ all_at args ss next → q ≡ looked_at qs next → q ≡ at (C.texture k args) ss next
+  look_at k args qs q hs hq = hq ∙ ap (λ l. looked_at l next) hs ∙ ap (λ u. reg u shapes.Triple next) (classes_at args ss next)
+
+  pub look_code : (k : ℕ) (args : C.Exprs) (qs : List Register) (o m n : Block) → m ≡ o then exprs_code args ss base next → qs ≡ all_at args ss next →
+      n ≡ m then c.texture (looked_at qs next) k qs c.end → n ≡ o then expr_code (C.texture k args) ss base next
+  look_code k args qs o m n hm hs h =
+      let z = c.texture (at (C.texture k args) ss next) k (all_at args ss next) c.end in
+      h ∙ ap (λ q. m then c.texture q k qs c.end) (look_at k args qs (looked_at qs next) hs refl) ∙ ap (λ l. m then c.texture (at (C.texture k args) ss next) k l c.end) hs ∙
+      ap (λ y. y then z) hm ∙ then_assoc o (exprs_code args ss base next) z
 
 -- a call: the variables of its frame before its body and behind it, and where they end
 module _ (a : C.Arguments) (body : C.Stmts) (kind : SlType) (x : C.Expr) (ss ss1 ss2 : List Slot) (base next end : ℕ) (from to : Register)

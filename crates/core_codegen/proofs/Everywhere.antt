@@ -10,6 +10,8 @@ use Rattle.builtins.specs.declared.shape.Shape.{Shape}
 use Rattle.builtins.specs.Table.{applied}
 use Rattle.builtins.specs.Lights.{sum_of}
 use Rattle.builtins.specs.Differences.{difference}
+use Rattle.builtins.specs.Textures.{textured}
+use Rattle.builtins.proofs.Places.{same_textured, textured_steady}
 use Rattle.grid_code.specs.declared.code.Register.{Register}
 use Rattle.grid_code.specs.declared.code.Source.TheVariants.{Constant, Copy, Apply}
 use Rattle.grid_code.specs.Names.{reg, name_at, first_free}
@@ -145,4 +147,20 @@ module _ (c : ℕ) (ss : List Slot) (b : ℕ) (free : first_free ≤ b) where
               all_write r false s f (va es).1 (difference d a.lines a.spaces.flip (va es).0) g g1 fit x.ready x.staying (λ i l h. cc)
               (λ i l. ap (λ n. difference d n g0.spaces.flip (read g1 (reg u t r)) i) ground.lines ∙ ap (λ sp. difference d a.lines sp.flip (read g1 (reg u t r)) i) ground.spaces
               ∙ same_difference a.lines wide tall d a.spaces.flip (read g1 (reg u t r)) (va es).0 agree i (subst (λ n. i < n) size l));
+        }
+
+    pub all_texture : (size : c ≡ a.lines.columns * a.lines.rows) → 2 ≤ a.lines.columns → 2 ≤ a.lines.rows → (k : ℕ) (args : Exprs) (r : ℕ) (s : Shape) (va : GivesAll (List Value)) (g g1 : State) → b + length ss ≤ r → AllExprs c ss b r (all_at args ss r) va g g1 → AllExpr c ss b r (reg (are_uniform args ss) s r) (λ es. let x = va es in (textured a.lines (a.images k) x.0, x.1)) g (write c (reg (are_uniform args ss) s r) (textured g0.lines (g0.images k) (reads g1 (all_at args ss r))) g1)
+    all_texture size wide tall k args r s va g g1 fit sa =
+        let u = are_uniform args ss in
+        let vs = reads g1 (all_at args ss r) in
+        let f = textured g0.lines (g0.images k) vs in
+        record {
+          low = all_low_on c r r r g g1 _ (omega arith) (omega arith) sa.low (all_wrote_low c r g1 _ (λ i. wrote c i r u s f g1));
+          runs = λ es ready.
+              let x = sa.runs es ready in
+              let agree : (i : ℕ) → i < a.lines.columns * a.lines.rows → vs i ≡ (va es).0 i = λ i l. x.values i (subst (λ n. i < n) (sym size) l) in
+              all_write r u s f (va es).1 (textured a.lines (a.images k) (va es).0) g g1 fit x.ready x.staying
+              (λ i l h. textured_steady g0.lines (g0.images k) vs (λ j. reads_steady args ss r j g1 h) i)
+              (λ i l. ap (λ n. textured n (g0.images k) vs i) ground.lines ∙ ap (λ p. textured a.lines p vs i) (ground.images k)
+              ∙ same_textured a.lines wide tall (a.images k) vs (va es).0 agree i (subst (λ n. i < n) size l));
         }

@@ -2,7 +2,7 @@
 use Rattle.std.proofs.Common.{◌≡◌, Bool, List, [], ◌∷◌, ◌++◌, refl, sym, ap, ◌∙◌}
 use Rattle.sl_ast.specs.declared.kinds.LightStmt.{LightStmt}
 use Rattle.grid_code.specs.declared.code.Register.{Register}
-use Rattle.grid_code.specs.declared.code.Node.{Node, Put, Differ, Sum, If, If', Loop, Loop', Lights, Lights', Break, Continue, Row_of-Node, end_of-Node, more_of-Node, items-the_row-Node}
+use Rattle.grid_code.specs.declared.code.Node.{Node, Put, Differ, Sum, Texture, If, If', Loop, Loop', Lights, Lights', Break, Continue, Row_of-Node, end_of-Node, more_of-Node, items-the_row-Node}
 use Rattle.grid_code.specs.declared.code.Node.TheBlock.{hidden-the_row-Node-0, items_hidden-the_row-Node-0}
 use Rattle.grid_code.specs.Code as c
 use Rattle.grid_code.specs.Code.{Block, ◌then◌}
@@ -12,6 +12,7 @@ with_node_then : (n : Node) (x y : Block) → with_node n x then y ≡ with_node
 with_node_then (Put to source) x y = refl
 with_node_then (Differ to d q) x y = refl
 with_node_then (Sum to s qs) x y = refl
+with_node_then (Texture to k qs) x y = refl
 with_node_then (If' t k a m b) x y = refl
 with_node_then (Loop' u k a t m s p b) x y = refl
 with_node_then (Lights' w qs k b) x y = refl

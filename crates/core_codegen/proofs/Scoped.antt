@@ -1,6 +1,6 @@
 -- In a settled tree each variable is in scope.
 use Rattle.std.specs.Prelude.{Bool, true, false, List}
-use Rattle.sl_meaning.specs.Core.{Slot, Expr, literal, read, apply, differ, sum, call, Exprs, none, more, Arguments, no_arguments, argument, Stmt, declare, assign, block, test, repeat, lights, leave, again, Stmts, done, first, formals, after, after_all, is_uniform}
+use Rattle.sl_meaning.specs.Core.{Slot, Expr, literal, read, apply, differ, sum, texture, call, Exprs, none, more, Arguments, no_arguments, argument, Stmt, declare, assign, block, test, repeat, lights, leave, again, Stmts, done, first, formals, after, after_all, is_uniform}
 use Rattle.core_codegen.specs.Fine.{StaysAll, IsStep, FineExpr, FineExprs, FineArgs, FineStmt, FineAll, When, GridExpr, GridExprs, GridArgs, GridStmt, GridAll}
 use Rattle.core_codegen.specs.Sizes.{ScopedExpr, ScopedExprs, ScopedArgs, ScopedStmt, ScopedAll}
 use Rattle.std.specs.Prelude.{◌≡◌}
@@ -12,6 +12,7 @@ mutual
   fine_expr (apply op args) ss f = fine_exprs args ss f
   fine_expr (differ d e) ss f = absurd f
   fine_expr (sum s args) ss f = fine_exprs args ss f
+  fine_expr (texture k args) ss f = absurd f
   fine_expr (call args body kind e) ss f = (fine_args args ss f.0, (fine_all body (formals args) f.1.0, fine_expr e (after_all body (formals args)) f.1.1.1))
 
   fine_exprs : (es : Exprs) (ss : List Slot) → FineExprs es ss → ScopedExprs es ss
@@ -47,6 +48,7 @@ mutual
   grid_expr (apply op args) ss f = grid_exprs args ss f
   grid_expr (differ d e) ss f = grid_expr e ss f
   grid_expr (sum s args) ss f = grid_exprs args ss f
+  grid_expr (texture k args) ss f = grid_exprs args ss f
   grid_expr (call args body kind e) ss f = (grid_args args ss f.0, (grid_all body (formals args) f.1.0, grid_expr e (after_all body (formals args)) f.1.1.1))
 
   grid_exprs : (es : Exprs) (ss : List Slot) → GridExprs es ss → ScopedExprs es ss

@@ -9,7 +9,7 @@ use Rattle.builtins.specs.Shapes.{shape}
 use Rattle.grid_code.specs.Names.{reg, first_free}
 use Rattle.grid_code.specs.Code as k
 use Rattle.grid_code.specs.Masked.{Ground, State, masked}
-use Rattle.sl_meaning.specs.Core.{Slot, slot, Expr, literal, read, apply, differ, sum, call, Exprs, none, more, Arguments, no_arguments, argument, Stmt, declare, assign, block, test, repeat, lights, leave, again, Stmts, done, first, formals, after, after_all, is_uniform}
+use Rattle.sl_meaning.specs.Core.{Slot, slot, Expr, literal, read, apply, differ, sum, texture, call, Exprs, none, more, Arguments, no_arguments, argument, Stmt, declare, assign, block, test, repeat, lights, leave, again, Stmts, done, first, formals, after, after_all, is_uniform}
 use Rattle.sl_meaning.specs.Environment.{Around, Signal, Next, Break, Continue, spend}
 use Rattle.sl_meaning.specs.Alone.{Runs, inside, value, run, run_all}
 use Rattle.sl_meaning.specs.Grid.{Envs, GivesAll, RunsAll, next_all, inside_all, choice_all, round_all, loop_all, loops_all, values, all_of, args_of, grid, grid_all}
@@ -24,7 +24,7 @@ use Rattle.core_codegen.proofs.Relation.{rel_masks}
 use Rattle.core_codegen.proofs.Scopes.{after_long, extends_stmt, extends_all, StmtStep, BodyStep, inside_step}
 use Rattle.core_codegen.proofs.Loops.{loop_step}
 use Rattle.core_codegen.proofs.Varying.{loop_next, over_next, stays_all, call_uniform, expr_ok, all_ok}
-use Rattle.core_codegen.proofs.Everywhere.{AllExpr, AllExprs, all_low_self, all_literal, all_read, all_none, all_more, all_apply, all_sum, all_differ}
+use Rattle.core_codegen.proofs.Everywhere.{AllExpr, AllExprs, all_low_self, all_literal, all_read, all_none, all_more, all_apply, all_sum, all_differ, all_texture}
 use Rattle.core_codegen.proofs.Lands.{AllStmt, AllBody, AllArgs, all_seq, all_inside, all_block, all_no_args, all_arg, all_call, all_declare}
 use Rattle.core_codegen.proofs.Everyone.{all_assign, all_one, all_parts, all_lights, all_each}
 use Rattle.core_codegen.proofs.Rounds.{all_loop}
@@ -136,6 +136,9 @@ module _ (c n : ℕ) (g0 : Ground) (a : Around) (ground : IsGround c g0 a) (size
     expr_all (sum w args) ss b r g h free fit =
         subst (λ s. AllExpr c ss b r (at (sum w args) ss r) (values (sum w args) a n) g s) (sym (then_runs (exprs_code args ss b r) _ g0 c n g))
         (all_sum c ss b free g0 a ground w (all_at args ss r) r (shape_in (sum w args) ss) (all_of args a n) g _ fit (exprs_all args ss b r g h free fit))
+    expr_all (texture m args) ss b r g h free fit =
+        subst (λ s. AllExpr c ss b r (at (texture m args) ss r) (values (texture m args) a n) g s) (sym (then_runs (exprs_code args ss b r) _ g0 c n g))
+        (all_texture c ss b free g0 a ground size wide tall m args r (shape_in (texture m args) ss) (all_of args a n) g _ fit (exprs_all args ss b r g h free fit))
     expr_all (call args body kind e) ss b r g h free fit =
         let fs = formals args in
         let ss2 = after_all body fs in

@@ -16,7 +16,7 @@ use Rattle.builtins.specs.Shapes.{shape}
 use Rattle.grid_code.specs.Names.{reg, first_free}
 use Rattle.grid_code.specs.Code as k
 use Rattle.grid_code.specs.Masked.{Ground, State, masked}
-use Rattle.sl_meaning.specs.Core.{Slot, slot, Expr, literal, read, apply, differ, sum, call, Exprs, none, more, Arguments, no_arguments, argument, Stmt, declare, assign, block, test, repeat, lights, leave, again, Stmts, done, first, formals, after, after_all, all_uniform, is_uniform, args_uniform, stmts_uniform}
+use Rattle.sl_meaning.specs.Core.{Slot, slot, Expr, literal, read, apply, differ, sum, texture, call, Exprs, none, more, Arguments, no_arguments, argument, Stmt, declare, assign, block, test, repeat, lights, leave, again, Stmts, done, first, formals, after, after_all, all_uniform, is_uniform, args_uniform, stmts_uniform}
 use Rattle.sl_meaning.specs.Environment.{Env, Around, Signal, Next, Break, Continue, budget, spend}
 use Rattle.sl_meaning.specs.Alone.{Gives, Runs, on_next, inside, round, loop, under_light, each_light, seen_from, lighting, over_lights, value, all_values, arg_values, run, run_all}
 use Rattle.core_codegen.specs.Compile.{at, all_at, shape_in, into, expr_code, exprs_code, args_code, locals, all_locals, behind, stmt_code, all_code}
@@ -126,6 +126,7 @@ module _ (c n i : ℕ) (lt : i < c) (g0 : Ground) (a : Around) (ground : IsGroun
         subst (λ s. ExprStep i ss b r (at (apply op args) ss r) (value (apply op args) a n) g s) (sym (then_runs (exprs_code args ss b r) _ g0 c n g))
         (apply_step c i lt ss b free g0 a ground op args r (shape_in (apply op args) ss) (all_values args a n) g _ fit (exprs_ok args ss b r g h free fit))
     expr_ok (differ d e) ss b r g h free fit = absurd h
+    expr_ok (texture k args) ss b r g h free fit = absurd h
     expr_ok (sum w args) ss b r g h free fit =
         subst (λ s. ExprStep i ss b r (at (sum w args) ss r) (value (sum w args) a n) g s) (sym (then_runs (exprs_code args ss b r) _ g0 c n g))
         (sum_step c i lt ss b free g0 a ground w (all_at args ss r) r (shape_in (sum w args) ss) (all_values args a n) g _ fit (exprs_ok args ss b r g h free fit))

@@ -14,7 +14,7 @@ use Rattle.grid_code.specs.Names.{reg, first_free}
 use Rattle.grid_code.specs.Code as c
 use Rattle.grid_code.specs.Code.{Block, ◌then◌}
 use Rattle.core_codegen.specs.Variables.{variable}
-use Rattle.sl_meaning.specs.Core.{Slot, Expr, literal, read, apply, differ, sum, call, Exprs, none, more, Arguments, no_arguments, argument, Stmt, declare, assign, block, test, repeat, lights, leave, again, Stmts, done, first, formals, after, after_all, is_uniform, kind_in}
+use Rattle.sl_meaning.specs.Core.{Slot, Expr, literal, read, apply, differ, sum, texture, call, Exprs, none, more, Arguments, no_arguments, argument, Stmt, declare, assign, block, test, repeat, lights, leave, again, Stmts, done, first, formals, after, after_all, is_uniform, kind_in}
 
 -- the shape of an expression's value
 abbrev mutual
@@ -25,6 +25,7 @@ abbrev mutual
   shape_in (differ differences.CalculateNormal e) ss = shapes.Triple
   shape_in (differ d e) ss = part_shape (shape_in e ss)
   shape_in (sum s args) ss = shapes.Triple
+  shape_in (texture k args) ss = shapes.Triple
   shape_in (call args body kind e) ss = shape_of kind
 
   pub shapes_in : Exprs → List Slot → List Shape
@@ -74,6 +75,7 @@ abbrev mutual
   expr_code (apply op args) ss b r = exprs_code args ss b r then c.put (at (apply op args) ss r) (Apply op (all_at args ss r)) c.end
   expr_code (differ d e) ss b r = expr_code e ss b r then c.differ (at (differ d e) ss r) d (at e ss r) c.end
   expr_code (sum s args) ss b r = exprs_code args ss b r then c.sum (at (sum s args) ss r) s (all_at args ss r) c.end
+  expr_code (texture k args) ss b r = exprs_code args ss b r then c.texture (at (texture k args) ss r) k (all_at args ss r) c.end
   expr_code (call args body kind e) ss b r =
       args_code args ss b r then (all_code body (formals args) r (behind (formals args) r body) then
       (expr_code e (after_all body (formals args)) r (r + length (after_all body (formals args))) then

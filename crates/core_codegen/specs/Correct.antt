@@ -33,6 +33,7 @@ pub record IsGround (c : ℕ) (g : Ground) (a : Around) : Type 0 where
   pub lines : g.lines ≡ a.lines
   pub spaces : g.spaces ≡ a.spaces
   pub lights : Answers c g.lights a.lights
+  pub images : (k : ℕ) → g.images k ≡ a.images k
 
 -- a grid of two or more columns and rows, each place live and holding its point's environment
 pub record Begins (ss : List Slot) (a : Around) (es : Envs) (s : State) : Type 0 where

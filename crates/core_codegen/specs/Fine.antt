@@ -1,10 +1,10 @@
 -- For contracts and laws of the code alone, not the picture's definition: what a settled core tree keeps. Variables are in scope, uniform variables
--- take uniform values in uniform control alone, differences stand in uniform control alone, loops are marked as their control is, and no break or
+-- take uniform values in uniform control alone, differences and look-ups stand in uniform control alone, loops are marked as their control is, and no break or
 -- continue leaves what it can't leave.
 use Rattle.std.specs.Prelude.{◌<◌, Bool, true, false, List, length, ◌≡◌}
 use Rattle.sl_ast.specs.declared.typed.Variable.{Variable}
 use Rattle.sl_ast.specs.declared.typed.Variable.TheVariants as variables
-use Rattle.sl_meaning.specs.Core.{Slot, Expr, literal, read, apply, differ, sum, call, Exprs, none, more, Arguments, no_arguments, argument, Stmt, declare, assign, block, test, repeat, lights, leave, again, Stmts, done, first, formals, after, after_all, is_uniform, class_in}
+use Rattle.sl_meaning.specs.Core.{Slot, Expr, literal, read, apply, differ, sum, texture, call, Exprs, none, more, Arguments, no_arguments, argument, Stmt, declare, assign, block, test, repeat, lights, leave, again, Stmts, done, first, formals, after, after_all, is_uniform, class_in}
 
 -- no break or continue leaves the statement
 abbrev mutual
@@ -42,6 +42,7 @@ abbrev mutual
   FineExpr (apply op args) ss = FineExprs args ss
   FineExpr (differ d e) ss = ⊥
   FineExpr (sum s args) ss = FineExprs args ss
+  FineExpr (texture k args) ss = ⊥
   FineExpr (call args body kind e) ss = FineArgs args ss × (FineAll body (formals args) × (StaysAll body × FineExpr e (after_all body (formals args))))
 
   pub FineExprs : Exprs → List Slot → Type 0
@@ -78,6 +79,7 @@ abbrev mutual
   GridExpr (apply op args) ss = GridExprs args ss
   GridExpr (differ d e) ss = GridExpr e ss
   GridExpr (sum s args) ss = GridExprs args ss
+  GridExpr (texture k args) ss = GridExprs args ss
   GridExpr (call args body kind e) ss = GridArgs args ss × (GridAll body (formals args) × (StaysAll body × GridExpr e (after_all body (formals args))))
 
   pub GridExprs : Exprs → List Slot → Type 0

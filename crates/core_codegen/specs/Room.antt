@@ -1,6 +1,6 @@
 -- For contracts of the emission alone: how many registers the code of a core tree takes at most, beside those of the variables in scope.
 use Rattle.std.specs.Prelude.{ℕ, ◌+◌}
-use Rattle.sl_meaning.specs.Core.{Expr, literal, read, apply, differ, sum, call, Exprs, none, more, Arguments, no_arguments, argument, Stmt, declare, assign, block, test, repeat, lights, leave, again, Stmts, done, first}
+use Rattle.sl_meaning.specs.Core.{Expr, literal, read, apply, differ, sum, texture, call, Exprs, none, more, Arguments, no_arguments, argument, Stmt, declare, assign, block, test, repeat, lights, leave, again, Stmts, done, first}
 
 -- a block takes what its statements take
 abbrev mutual
@@ -10,6 +10,7 @@ abbrev mutual
   expr_room (apply op args) = 1 + exprs_room args
   expr_room (differ d e) = 1 + expr_room e
   expr_room (sum s args) = 1 + exprs_room args
+  expr_room (texture k args) = 1 + exprs_room args
   expr_room (call args body kind e) = 1 + args_room args + all_room body + expr_room e
 
   pub exprs_room : Exprs → ℕ

@@ -1,6 +1,6 @@
 -- For contracts of the emission alone: scopes and sizes of a core tree.
 use Rattle.std.specs.Prelude.{ℕ, ◌+◌, List}
-use Rattle.sl_meaning.specs.Core.{Slot, Expr, literal, read, apply, differ, sum, call, Exprs, none, more, Arguments, no_arguments, argument, Stmt, declare, assign, block, test, repeat, lights, leave, again, Stmts, done, first, formals, after, after_all}
+use Rattle.sl_meaning.specs.Core.{Slot, Expr, literal, read, apply, differ, sum, texture, call, Exprs, none, more, Arguments, no_arguments, argument, Stmt, declare, assign, block, test, repeat, lights, leave, again, Stmts, done, first, formals, after, after_all}
 use Rattle.core_codegen.specs.Fine.{InScope}
 
 -- each variable is in scope
@@ -11,6 +11,7 @@ abbrev mutual
   ScopedExpr (apply op args) ss = ScopedExprs args ss
   ScopedExpr (differ d e) ss = ScopedExpr e ss
   ScopedExpr (sum s args) ss = ScopedExprs args ss
+  ScopedExpr (texture k args) ss = ScopedExprs args ss
   ScopedExpr (call args body kind e) ss = ScopedArgs args ss × (ScopedAll body (formals args) × ScopedExpr e (after_all body (formals args)))
 
   pub ScopedExprs : Exprs → List Slot → Type 0
@@ -43,6 +44,7 @@ abbrev mutual
   expr_size (apply op args) = 1 + exprs_size args
   expr_size (differ d e) = 1 + expr_size e
   expr_size (sum s args) = 1 + exprs_size args
+  expr_size (texture k args) = 1 + exprs_size args
   expr_size (call args body kind e) = 1 + args_size args + all_size body + expr_size e
 
   pub exprs_size : Exprs → ℕ

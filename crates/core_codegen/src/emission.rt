@@ -14,7 +14,7 @@ ghost use Rattle.core_codegen.specs.Slots.{slots_of, scope_of};
 
 use crate::ends::{assigned, begun, both, branched, lit, looped, returned};
 use crate::locals::all_declared;
-use crate::nodes::{again, apply, differ, leave, literal, read, sum};
+use crate::nodes::{again, apply, differ, leave, literal, read, sum, texture};
 use crate::registers::is_uniform;
 use crate::slot::Scope;
 use builtins::shape_of;
@@ -86,6 +86,10 @@ fn expression(
         CoreExpr::Sum(over, args) => {
             let operands = expressions(args.as_slice(), alloc, code, scope, base, next)?;
             sum(code, *over, operands, next)
+        }
+        CoreExpr::Texture(node, args) => {
+            let operands = expressions(args.as_slice(), alloc, code, scope, base, next)?;
+            texture(code, *node, operands, next)
         }
         CoreExpr::Call(args, body, kind, value) => {
             let mut inner = Scope::new(alloc);

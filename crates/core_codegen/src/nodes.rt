@@ -8,9 +8,9 @@ ghost use Rattle.grid_code.specs.Code as c;
 ghost use Rattle.grid_code.specs.Code.{◌then◌};
 ghost use Rattle.grid_code.specs.View.{block_of};
 ghost use Rattle.core_codegen.specs.Compile as spec;
-ghost use Rattle.core_codegen.specs.Registers.{like as like_at, applied_at, differed_at};
+ghost use Rattle.core_codegen.specs.Registers.{like as like_at, applied_at, differed_at, looked_at};
 
-use crate::registers::{applied, differed, like};
+use crate::registers::{applied, differed, like, looked};
 use builtins::{Shape, copied, shape_of};
 use fixed_math::{List, NoMemory};
 use grid_code::{Node, Register, Source, register};
@@ -101,6 +101,25 @@ pub(crate) fn sum(
     code.push(Node::Sum {
         to,
         sum,
+        args: List(args),
+    })?;
+    Ok(to)
+}
+
+// A look-up, by the number of its node.
+pub(crate) fn texture(
+    code: &mut Vec<Node>,
+    node: u32,
+    args: Vec<Register>,
+    next: u32,
+) -> Result<Register, NoMemory>
+    ensures at { IfOk result (λ q. q ≡ looked_at args.items next) }
+    ensures code { OnOk result (block_of code.new.items ≡ block_of code.old.items then c.texture (looked_at args.items next) node args.items c.end) }
+{
+    let to = looked(&args, next);
+    code.push(Node::Texture {
+        to,
+        node,
         args: List(args),
     })?;
     Ok(to)

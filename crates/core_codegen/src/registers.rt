@@ -61,6 +61,13 @@ pub(crate) fn applied(op: ValueOperation, operands: &[Register], number: u32) ->
     register(are_uniform(operands), applied_shape(op, operands), number)
 }
 
+// The register of a look-up's colour.
+pub(crate) fn looked(operands: &[Register], number: u32) -> Register
+    ensures { result ≡ spec.looked_at operands.now number }
+{
+    register(are_uniform(operands), Shape::Triple, number)
+}
+
 // The register of a difference.
 pub(crate) fn differed(difference: Difference, of: Register, number: u32) -> Register
     ensures { result ≡ spec.differed_at difference of number }

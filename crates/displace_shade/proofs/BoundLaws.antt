@@ -1,6 +1,6 @@
 -- The laws of runs, for a shader that is bound; and the shader of a use in its set.
 use Rattle.std.proofs.Common.{◌≡◌, ℕ, zero, suc, ◌*◌, ◌<◌, Bool, true, false, ℤ, List, [], ◌∷◌, length, map, get_or, refl, sym, ap, ◌∙◌, subst, arith}
-use Rattle.std.specs.Prelude.{not, ◌&&◌, Some, slice_get, option_map, unwrap_or, Result, Ok, Err, OnOk}
+use Rattle.std.specs.Prelude.{not, ◌&&◌, Option, Some, slice_get, option_map, unwrap_or, Result, Ok, Err, OnOk}
 use Rattle.std.specs.List.{list_all}
 use Rattle.std.proofs.lemmas.Bool.{and_parts, false≢true}
 use Rattle.std.proofs.lemmas.List.{length-map, get_or-map}
@@ -26,16 +26,19 @@ use Rattle.builtins.specs.Values.{shape_of}
 use Rattle.grid_code.specs.declared.shader_code.Code.{Code}
 use Rattle.grid_code.specs.View.{block_of}
 use Rattle.grid_code.specs.declared.slot.Slot.{Slot}
-use Rattle.grid_code.specs.Masked.{masked}
+use Rattle.grid_code.specs.Masked.{Ground, masked}
 use Rattle.sl_meaning.specs.Core as core
 use Rattle.sl_meaning.specs.Environment.{zero_value}
-use Rattle.shader_binding.specs.Sets.{AreValuesOf, FitsUse, FitUses, is_of_kind}
+use Rattle.shader_binding.specs.Sets.{AreValuesOf, FitsUse, FitUses, FitLooks, is_of_kind}
 use Rattle.mask_codegen.specs.Compiled.{Seen}
 use Rattle.mask_codegen.proofs.ParamTexts.{is_rowable, params_rowable}
 use Rattle.shader_binding.specs.Sets.{bound_with}
 use Rattle.grid_variables.specs.Points.{Leaf}
 use Rattle.grid_variables.specs.Variables.{values_at}
 use Rattle.shader_binding.specs.Bindings.{FitVariables}
+use Rattle.sl_look_ups.specs.Naming.{binding_params}
+use Rattle.displace_shade.proofs.BindingParams.{binding_slots, binding_values, values_taken}
+use Rattle.texture.specs.Images.{Image}
 use Rattle.place_rows.specs.Layout.{row_length}
 use Rattle.grid_machine.specs.Run.{begun, lines_given, Leaves}
 use Rattle.grid_rows.specs.Rows.{AreRows, AreRowable, values_of}
@@ -97,33 +100,46 @@ module _ (b : BoundShader) (r : Runs b) where
       (λ m. values_shaped (tree_of b.compiled.now.tree).params vs h k m) (subst (λ n. k < n) (sym (length-map b.compiled.now.code.params slot_of)) l))
       (ap (list_all is_rowable) r.code.params ∙ params_rowable (tree_of b.compiled.now.tree) b.compiled.now.tree.typed r.code.settled)
 
-  names_count : length (tree_of b.compiled.now.tree).params ≡ length b.compiled.now.code.params
-  names_count = sym (slots_count (tree_of b.compiled.now.tree).params) ∙ ap (λ xs. length xs) (sym r.code.params) ∙ length-map b.compiled.now.code.params slot_of
+  names_count : length (binding_params (tree_of b.compiled.now.tree)) ≡ length b.compiled.now.code.params
+  names_count =
+      sym (slots_count (binding_params (tree_of b.compiled.now.tree))) ∙ ap (λ xs. length xs) (binding_slots (tree_of b.compiled.now.tree) ∙ sym r.code.params)
+      ∙ length-map b.compiled.now.code.params slot_of
+
+  bound_slots : map slot_of b.compiled.now.code.params ≡ slots (binding_params (tree_of b.compiled.now.tree))
+  bound_slots = r.code.params ∙ sym (binding_slots (tree_of b.compiled.now.tree))
+
+  abbrev values_on : Leaf → ℕ → List Value
+  values_on l = values_at l (binding_params (tree_of b.compiled.now.tree)) b.values.now
+
+  fit_on : (l : Leaf) (i : ℕ) → FitVariables (binding_params (tree_of b.compiled.now.tree)) l.prim.vars → AreValuesOf (tree_of b.compiled.now.tree).params (values_on l i)
+  fit_on l i fit =
+      values_taken (tree_of b.compiled.now.tree) (values_on l i)
+      (values_fit l (binding_params (tree_of b.compiled.now.tree)) b.values.now i fit (binding_values (tree_of b.compiled.now.tree) b.values.now r.values))
 
   -- the values of its parameters on a leaf whose variables fit
-  pub bound_values : (l : Leaf) → FitVariables (tree_of b.compiled.now.tree).params l.prim.vars → AreValues b.compiled.now.code.params (tree_of b.compiled.now.tree).params (values_at l (tree_of b.compiled.now.tree).params b.values.now)
+  pub bound_values : (l : Leaf) → FitVariables (binding_params (tree_of b.compiled.now.tree)) l.prim.vars → AreValues b.compiled.now.code.params (tree_of b.compiled.now.tree).params (values_on l)
   bound_values l fit =
       record {
-        params = λ i. record { slots = r.code.params; values = values_fit l (tree_of b.compiled.now.tree).params b.values.now i fit r.values };
-        steady = λ i. values_steady l b.compiled.now.code.params (tree_of b.compiled.now.tree).params b.values.now i r.code.params fit r.values;
+        params = λ i. record { slots = r.code.params; values = fit_on l i fit };
+        steady = λ i. values_steady l b.compiled.now.code.params (binding_params (tree_of b.compiled.now.tree)) b.values.now i bound_slots fit (binding_values (tree_of b.compiled.now.tree) b.values.now r.values);
       }
 
-  pub bound_rows : (l : Leaf) → FitVariables (tree_of b.compiled.now.tree).params l.prim.vars →
-      AreRows (point_count l) (λ i. values_of false b.compiled.now.code.params (values_at l (tree_of b.compiled.now.tree).params b.values.now i)) (param_rows l (tree_of b.compiled.now.tree).params b.compiled.now.code.params b.values.now)
+  pub bound_rows : (l : Leaf) → FitVariables (binding_params (tree_of b.compiled.now.tree)) l.prim.vars →
+      AreRows (point_count l) (λ i. values_of false b.compiled.now.code.params (values_on l i)) (param_rows l (binding_params (tree_of b.compiled.now.tree)) b.compiled.now.code.params b.values.now)
   bound_rows l fit =
-      params_rows l (λ i. []) [] (tree_of b.compiled.now.tree).params b.compiled.now.code.params b.values.now (sym names_count) (bound_count ∙ sym names_count)
-      (rowable (values_at l (tree_of b.compiled.now.tree).params b.values.now 0) (values_fit l (tree_of b.compiled.now.tree).params b.values.now 0 fit r.values)) (no_rows (point_count l))
+      params_rows l (λ i. []) [] (binding_params (tree_of b.compiled.now.tree)) b.compiled.now.code.params b.values.now (sym names_count) (bound_count ∙ sym names_count)
+      (rowable (values_on l 0) (fit_on l 0 fit)) (no_rows (point_count l))
 
   -- its parameters' names are as many as those of its code
-  pub bound_names : length (tree_of b.compiled.now.tree).params ≡ length b.compiled.now.code.params
+  pub bound_names : length (binding_params (tree_of b.compiled.now.tree)) ≡ length b.compiled.now.code.params
   bound_names = names_count
 
 -- what its parameters give a run
 module _ (l : Leaf) (b : BoundShader) (p : ParameterValues) (e : p ≡ parameters_of b) where
-  pub rows_given : param_rows l p.locals p.slots p.values ≡ param_rows l (tree_of b.compiled.now.tree).params b.compiled.now.code.params b.values.now
+  pub rows_given : param_rows l p.locals p.slots p.values ≡ param_rows l (binding_params (tree_of b.compiled.now.tree)) b.compiled.now.code.params b.values.now
   rows_given = ap (λ q. param_rows l q.locals q.slots q.values) e
 
-  pub uniforms_given : values_of true p.slots (values_at l p.locals p.values 0) ≡ values_of true b.compiled.now.code.params (values_at l (tree_of b.compiled.now.tree).params b.values.now 0)
+  pub uniforms_given : values_of true p.slots (values_at l p.locals p.values 0) ≡ values_of true b.compiled.now.code.params (values_at l (binding_params (tree_of b.compiled.now.tree)) b.values.now 0)
   uniforms_given = ap (λ q. values_of true q.slots (values_at l q.locals q.values 0)) e
 
 -- lengths by the code and the grid that are read are those by the ones that are given
@@ -131,28 +147,36 @@ pub read_long : (height : Code → ℕ) (k k' : Code) (m m' w w' n : ℕ) → k 
 read_long height k k' m m' w w' n ek em ew e =
     e ∙ ap (λ q. height q * row_length (m' * w')) (sym ek) ∙ ap (λ q. height k * row_length (q * w')) (sym em) ∙ ap (λ q. height k * row_length (m * q)) (sym ew)
 
-abbrev Left : Code → List Value → ℕ → ℕ → List ℤ → List ℤ → Spaces → List Lamp → Type 0
-Left k us m w vr out sp lamps =
+abbrev Left : (ℕ → Option Image) → Code → List Value → ℕ → ℕ → List ℤ → List ℤ → Spaces → List Lamp → Type 0
+Left im k us m w vr out sp lamps =
     let ls = lines_given m w k.params us in
-    Leaves k.kind (m * w) out (masked (block_of k.nodes) record { lines = ls; spaces = sp; lights = map (lamp_asked ls (m * w)) lamps } (m * w) 65536 (begun k.kind k.params (m * w) us vr))
+    Leaves k.kind (m * w) out (masked (block_of k.nodes) record { lines = ls; spaces = sp; lights = map (lamp_asked ls (m * w)) lamps; images = im } (m * w) 65536 (begun k.kind k.params (m * w) us vr))
 
 -- lights asked by their places in a list are those of the list
 asked_lamps : (ls : Lines) (c : ℕ) (lamps : List Lamp) (spare : Lamp) → over (length lamps) (λ n. lamp_asked ls c (get_or lamps n spare)) ≡ map (lamp_asked ls c) lamps
 asked_lamps ls c lamps spare =
     sym (over_all (λ n. lamp_asked ls c (get_or lamps n spare)) (map (lamp_asked ls c) lamps) (length lamps) (lamp_asked ls c spare) (length-map lamps (lamp_asked ls c)) (λ i l. get_or-map (lamp_asked ls c) lamps i spare (lamp_asked ls c spare) l))
 
-pub leaves_as : (k k' : Code) (us : List Value) (m m' w w' : ℕ) (vr vr' out out' : List ℤ) (sp sp' : Spaces) (lamps : List Lamp) (spare : Lamp) → k ≡ k' → m ≡ m' → w ≡ w' → vr ≡ vr' → out ≡ out' → sp ≡ sp' →
-    Leaves k.kind (m * w) out (masked (block_of k.nodes) record { lines = lines_given m w k.params us; spaces = sp; lights = over (length lamps) (λ n. lamp_asked (lines_given m w k.params us) (m * w) (get_or lamps n spare)) } (m * w) 65536 (begun k.kind k.params (m * w) us vr)) →
-    Left k' us m' w' vr' out' sp' lamps
-leaves_as k k' us m m' w w' vr vr' out out' sp sp' lamps spare ek em ew ev eo es h =
+-- the ground of a run by lights asked by their places in a list
+abbrev Bare : (ℕ → Option Image) → Code → List Value → ℕ → ℕ → Spaces → List Lamp → Lamp → Ground
+Bare im k us m w sp lamps spare =
     let ls = lines_given m w k.params us in
-    let o : Left k us m w vr out sp lamps = subst (λ ls'. Leaves k.kind (m * w) out (masked (block_of k.nodes) record { lines = ls; spaces = sp; lights = ls' } (m * w) 65536 (begun k.kind k.params (m * w) us vr))) (asked_lamps ls (m * w) lamps spare) h in
-    let a = subst (λ z. Left z us m w vr out sp lamps) ek o in
-    let b = subst (λ z. Left k' us z w vr out sp lamps) em a in
-    let c = subst (λ z. Left k' us m' z vr out sp lamps) ew b in
-    let d = subst (λ z. Left k' us m' w' z out sp lamps) ev c in
-    let e = subst (λ z. Left k' us m' w' vr' z sp lamps) eo d in
-    subst (λ z. Left k' us m' w' vr' out' z lamps) es e
+    record { lines = ls; spaces = sp; lights = over (length lamps) (λ n. lamp_asked ls (m * w) (get_or lamps n spare)); images = im }
+
+pub leaves_as : (im im' : ℕ → Option Image) (k k' : Code) (us : List Value) (m m' w w' : ℕ) (vr vr' out out' : List ℤ) (sp sp' : Spaces) (lamps : List Lamp) (spare : Lamp) (g : Ground) → k ≡ k' → m ≡ m' → w ≡ w' → vr ≡ vr' → out ≡ out' → sp ≡ sp' → g ≡ Bare im k us m w sp lamps spare → im ≡ im' →
+    Leaves k.kind (m * w) out (masked (block_of k.nodes) g (m * w) 65536 (begun k.kind k.params (m * w) us vr)) →
+    Left im' k' us m' w' vr' out' sp' lamps
+leaves_as im im' k k' us m m' w w' vr vr' out out' sp sp' lamps spare g ek em ew ev eo es eg ei h0 =
+    let ls = lines_given m w k.params us in
+    let h = subst (λ w0. Leaves k.kind (m * w) out (masked (block_of k.nodes) w0 (m * w) 65536 (begun k.kind k.params (m * w) us vr))) eg h0 in
+    let o : Left im k us m w vr out sp lamps = subst (λ ls'. Leaves k.kind (m * w) out (masked (block_of k.nodes) record { lines = ls; spaces = sp; lights = ls'; images = im } (m * w) 65536 (begun k.kind k.params (m * w) us vr))) (asked_lamps ls (m * w) lamps spare) h in
+    let a = subst (λ z. Left im z us m w vr out sp lamps) ek o in
+    let b = subst (λ z. Left im k' us z w vr out sp lamps) em a in
+    let c = subst (λ z. Left im k' us m' z vr out sp lamps) ew b in
+    let d = subst (λ z. Left im k' us m' w' z out sp lamps) ev c in
+    let e = subst (λ z. Left im k' us m' w' vr' z sp lamps) eo d in
+    let f = subst (λ z. Left im k' us m' w' vr' out' z lamps) es e in
+    subst (λ z. Left z k' us m' w' vr' out' sp' lamps) ei f
 
 -- what follows from what a call without a value leaves
 pub on_ok : {A E : Type 0} {P Q : Type 0} (r : Result A E) → (P → Q) → OnOk r P → OnOk r Q
@@ -191,13 +215,22 @@ fits_use trees [] ofs bounds n t vs u h l eu ev et = absurd (omega arith)
 fits_use trees (x ∷ uses) [] bounds n t vs u h l eu ev et = absurd h
 fits_use trees (x ∷ uses) (k ∷ ofs) [] n t vs u h l eu ev et = absurd h
 
+-- one list of entries for each use
+pub entries_long : (trees : List Tree) (ofs : List ℕ) (ess : List (List (Option ℕ))) → FitLooks trees ofs ess → length ess ≡ length ofs
+entries_long trees [] [] h = refl
+entries_long trees (k ∷ ofs) (es ∷ ess) h = ap (λ n. suc n) (entries_long trees ofs ess h.1)
+entries_long trees [] (es ∷ ess) h = absurd h
+entries_long trees (k ∷ ofs) [] h = absurd h
+
 pub tree_found : (xs : List Seen) (k : ℕ) (x : Seen) → k < length xs → x ≡ get_or xs k x → slice_get (map (λ (c : Seen). tree_of c.tree) xs) k ≡ Some (tree_of x.tree)
 tree_found xs k x l e = slice_get-map (λ (c : Seen). tree_of c.tree) xs k ∙ ap (λ o. option_map (λ (c : Seen). tree_of c.tree) o) (slice_get_read xs (length xs) k x refl l e)
 
-pub found_law : (trees : List Tree) (ofs : List ℕ) (bounds : List (List Value)) (uses : List ShaderUse) (n : ℕ) (t : Tree) (vs : List Value) (u : ShaderUse) → slice_get trees (get_or ofs n 0) ≡ Some t → slice_get bounds n ≡ Some vs → slice_get uses n ≡ Some u →
-    bound_with (slice_get trees (get_or ofs n 0)) (slice_get bounds n) (slice_get uses n) ≡ Some record { tree = t; values = vs; space = u.space }
-found_law trees ofs bounds uses n t vs u et ev eu =
-    ap (λ o. bound_with o (slice_get bounds n) (slice_get uses n)) et ∙ ap (λ o. bound_with (Some t) o (slice_get uses n)) ev ∙ ap (λ o. bound_with (Some t) (Some vs) o) eu
+pub found_law : (images : List Image) (trees : List Tree) (ofs : List ℕ) (bounds : List (List Value)) (ess : List (List (Option ℕ))) (uses : List ShaderUse) (n : ℕ) (t : Tree) (vs : List Value) (es : List (Option ℕ)) (u : ShaderUse) →
+    slice_get trees (get_or ofs n 0) ≡ Some t → slice_get bounds n ≡ Some vs → slice_get ess n ≡ Some es → slice_get uses n ≡ Some u →
+    bound_with images (slice_get trees (get_or ofs n 0)) (slice_get bounds n) (slice_get ess n) (slice_get uses n) ≡ Some record { tree = t; values = vs; look_ups = es; textures = images; space = u.space }
+found_law images trees ofs bounds ess uses n t vs es u et ev ee eu =
+    ap (λ o. bound_with images o (slice_get bounds n) (slice_get ess n) (slice_get uses n)) et ∙ ap (λ o. bound_with images (Some t) o (slice_get ess n) (slice_get uses n)) ev
+    ∙ ap (λ o. bound_with images (Some t) (Some vs) o (slice_get uses n)) ee ∙ ap (λ o. bound_with images (Some t) (Some vs) (Some es) o) eu
 
 -- ---- uses of a kind
 pub use_there : (uses : List ShaderUse) (kind : UseKind) (n : ℕ) → IsUse uses kind n → n < length uses

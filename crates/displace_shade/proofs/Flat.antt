@@ -18,6 +18,7 @@ use Rattle.sl_meaning.specs.Environment.{Around}
 use Rattle.sl_meaning.specs.Runs.{Names, ran}
 use Rattle.shader_binding.specs.Sets.{SetValue, Bound, bound_at, bound_for}
 use Rattle.grid_variables.specs.Points.{Leaf}
+use Rattle.sl_look_ups.specs.Naming.{binding_params}
 use Rattle.grid_variables.specs.Variables.{cs_at, os_at, values_at}
 use Rattle.displace_shade.specs.Shaded.{displaced, shaded_by, around, lights_from}
 use Rattle.grid_variables.specs.Kept.{opacity}
@@ -63,7 +64,7 @@ module _ (l : Leaf) (s : SetValue) (uses : List ShaderUse) (b : Bound) (is : b.t
   with_lights = around l b (lights_from l s uses l.prim.lights)
 
   abbrev values : ℕ → List Value
-  values = values_at l b.tree.params b.values
+  values = values_at l (binding_params b.tree) b.values
 
   colour_at : (i : ℕ) → triple_of (ran b.tree with_lights values before i names.Ci) ≡ each_two mul (os_at l i) (cs_at l i)
   colour_at i =

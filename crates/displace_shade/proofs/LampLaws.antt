@@ -73,12 +73,12 @@ module _ (l : Leaf) (x : Lamp) (h : IsLamp l x) where
       let block = block_of code.nodes in
       let sp = light_spaces l (bound_value x.shader) in
       let s = begun_at code.params c values q in
-      let g : Ground = record { lines = ls; spaces = sp; lights = [] } in
+      let g : Ground = record { lines = ls; spaces = sp; lights = []; images = λ k. None } in
       ap (λ z. asked ls c z code values q i) h.spaces
       ∙ ap (λ b. answer_at b (masked block g c 65536 s) i) h.runs.code.lights
       ∙ same_answer (lights_in_all (body_of tree)) (masked block g c 65536 s) i
       ∙ light_answers tree block x.shader.compiled.now.tree.typed h.runs.code.settled h.kind h.runs.code.means ls sp values q g s
-      (light_begins (dim ls sp) code.params tree.params values q wide tall params) record { lines = refl; spaces = refl; lights = tt } i m
+      (light_begins (dim ls sp) code.params tree.params values q wide tall params) record { lines = refl; spaces = refl; lights = tt; images = λ k. refl } i m
 
 -- so do all of them
 pub lamps_answer : (l : Leaf) (ls : Lines) → 2 ≤ ls.columns → 2 ≤ ls.rows → (xs : List Lamp) → All (IsLamp l) xs → Answers (ls.columns * ls.rows) (map (lamp_asked ls (ls.columns * ls.rows)) xs) (map (lamp_light l) xs)

@@ -1,8 +1,9 @@
 -- The variables behind a run of a shader's code, and what the run asks of what it is given.
-use Rattle.std.proofs.Common.{◌≡◌, ℕ, suc, ◌+◌, ◌*◌, ◌<◌, ◌≤◌, Bool, true, false, cond, ℤ, pos, List, [], ◌∷◌, ◌++◌, length, map, get_or, refl, sym, ap, ◌∙◌, subst, arith}
+use Rattle.std.proofs.Common.{◌≡◌, ℕ, suc, ◌+◌, ◌*◌, ◌<◌, ◌≤◌, Bool, true, false, cond, ℤ, pos, List, [], ◌∷◌, ◌++◌, length, map, get_or, refl, sym, ap, ◌∙◌, subst, arith, Option}
 use Rattle.std.proofs.lemmas.List.{map-append, append-nil, length-map, get_or_at, get_or-append-add}
 use Rattle.std.proofs.Math.Nat.{mul-pos}
 use Rattle.fixed_math.specs.declared.vec3.Vec3.{Vec3}
+use Rattle.texture.specs.Images.{Image}
 use Rattle.transforms.specs.Map.{Map}
 use Rattle.dice.proofs.Directions.{cells_from}
 use Rattle.sl_ast.specs.declared.kinds.Predefined.TheVariants as names
@@ -33,7 +34,7 @@ use Rattle.mask_codegen.specs.Compiled.{IsCodeOf, NamesVarying}
 use Rattle.core_codegen.specs.Correct.{Answers}
 use Rattle.grid_variables.specs.Points.{Leaf, columns, rows, lines}
 use Rattle.shader_binding.specs.Sets.{Bound}
-use Rattle.displace_shade.specs.Shaded.{spaces_of, around}
+use Rattle.displace_shade.specs.Shaded.{image_at, spaces_of, around}
 use Rattle.place_rows.specs.Layout.{row_length, height, same_class}
 use Rattle.grid_machine.specs.Run.{rows_of, params_of, step_names, uniform_inputs, varying_inputs, begun, lines_given, Leaves}
 use Rattle.grid_rows.specs.Rows.{heights, AreRows, values_of, triple_in}
@@ -75,12 +76,12 @@ params_shapes u n (p ∷ ps) [] h g = absurd (omega arith)
 params_shapes u n (p ∷ ps) (v ∷ vs) h g =
     head_shapes (same_class p.uniform u) u (shape_of p.kind) n v (params_of u (n + 1) ps) (values_of u ps vs) (g 0 (omega arith)) (params_shapes u (n + 1) ps vs (omega arith) (λ k l. g (suc k) (omega arith)))
 
-module _ (l : Leaf) (t : Tree) (code : Code) (base : List Value) (space : Map) (is : IsCodeOf t code) (named : RegisterSet) (covers : NamesVarying named (block_of code.nodes)) (vs : ℕ → List Value) (values : AreValues code.params t.params vs) (front : List ℤ) (fronts : AreRows (point_count l) (λ i. values_of false code.params (vs i)) front) where
+module _ (l : Leaf) (t : Tree) (code : Code) (base : List Value) (entries : List (Option ℕ)) (images : List Image) (space : Map) (is : IsCodeOf t code) (named : RegisterSet) (covers : NamesVarying named (block_of code.nodes)) (vs : ℕ → List Value) (values : AreValues code.params t.params vs) (front : List ℤ) (fronts : AreRows (point_count l) (λ i. values_of false code.params (vs i)) front) where
   abbrev c : ℕ
   c = point_count l
 
   abbrev bound : Bound
-  bound = record { tree = t; values = base; space = space }
+  bound = record { tree = t; values = base; look_ups = entries; textures = images; space = space }
 
   counted : length (map slot_of code.params) ≡ length code.params
   counted = length-map code.params slot_of
@@ -103,7 +104,7 @@ module _ (l : Leaf) (t : Tree) (code : Code) (base : List Value) (space : Map) (
   some = mul-pos (omega (arith, wide)) (omega (arith, tall))
 
   abbrev ground : Lines → List Asked → Ground
-  ground ls asked = record { lines = ls; spaces = spaces_of l bound; lights = asked }
+  ground ls asked = record { lines = ls; spaces = spaces_of l bound; lights = asked; images = image_at bound }
 
   -- the lines that the steps give
   abbrev with_steps : List Value
@@ -141,7 +142,7 @@ module _ (l : Leaf) (t : Tree) (code : Code) (base : List Value) (space : Map) (
       let lv1 = subst (λ m. Leaves code.kind c out (m (begun code.kind code.params c uniforms varyings))) em lv in
       let lv2 = subst (λ us. Leaves code.kind c out (masked block (ground (lines l) asked) c 65536 (begun code.kind code.params c us varyings))) eu lv1 in
       let lv3 = subst (λ k. Leaves k c out (masked block (ground (lines l) asked) c 65536 (begun k code.params c (uniform_values t.kind code.params (vs 0) (f 0)) varyings))) is.kind lv2 in
-      run_leaves t block (around l bound lights) (ground (lines l) asked) vs f code.params named varyings out is.means covers wide tall values (hold_names l d f h) record { lines = refl; spaces = refl; lights = answers } (seen_held l d f h t.kind named code.params vs varyings er) lv3
+      run_leaves t block (around l bound lights) (ground (lines l) asked) vs f code.params named varyings out is.means covers wide tall values (hold_names l d f h) record { lines = refl; spaces = refl; lights = answers; images = λ k. refl } (seen_held l d f h t.kind named code.params vs varyings er) lv3
 
   stepped : (kind : SlKind) → t.kind ≡ kind → has_surface kind ≡ true → (f : ℕ → Names) (d : Variables) → Hold l d f → with_steps ≡ uniform_values t.kind code.params (vs 0) (f 0)
   stepped kind k s f d h =
@@ -174,7 +175,7 @@ module _ (l : Leaf) (t : Tree) (code : Code) (base : List Value) (space : Map) (
   volume_law k valid d e uniforms varyings out given eu lv ec eo ep en es f h =
       let none : uniforms ≡ uniform_values t.kind code.params (vs 0) (f 0) = eu ∙ sym (append-nil (values_of true code.params (vs 0))) ∙ ap (λ b. values_of true code.params (vs 0) ++ cond b (f 0 names.Du ∷ f 0 names.Dv ∷ []) []) (sym (ap has_surface k)) in
       let away : has_surface code.kind ≡ false = ap has_surface (is.kind ∙ k) in
-      let same = lines_unread (lines_given (columns l) (rows l) code.params uniforms) (lines l) (spaces_of l bound) [] c 65536 (block_of code.nodes) (placed_plain code.kind away false true (block_of code.nodes) valid) in
+      let same = lines_unread (lines_given (columns l) (rows l) code.params uniforms) (lines l) (spaces_of l bound) [] (image_at bound) c 65536 (block_of code.nodes) (placed_plain code.kind away false true (block_of code.nodes) valid) in
       volume_hold l t (around l bound []) vs f d e h out (left f d [] [] uniforms varyings out _ tt h none given same lv) k ec eo ep en es
 
   -- ---- what the run asks of what it is given

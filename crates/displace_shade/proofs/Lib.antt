@@ -11,8 +11,10 @@ pub mod Plain
 pub mod Unlit
 pub mod Surfaces
 pub mod Binding
+pub mod BindingParams
 pub mod Laws
 pub mod BoundLaws
 pub mod LightBegins
 pub mod LampLaws
 pub mod Flat
+pub mod ImagesGiven

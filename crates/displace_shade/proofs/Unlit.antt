@@ -1,7 +1,8 @@
 -- Code that asks no light does the same whatever lights there are.
-use Rattle.std.proofs.Common.{◌≡◌, ℕ, ◌+◌, ◌<◌, Bool, true, false, cond, List, [], ◌∷◌, length, map, get_or, drop, refl, sym, ap, ◌∙◌, true≢false}
+use Rattle.std.proofs.Common.{◌≡◌, ℕ, ◌+◌, ◌<◌, Bool, true, false, cond, List, [], ◌∷◌, length, map, get_or, drop, refl, sym, ap, ◌∙◌, true≢false, Option}
 use Rattle.std.specs.Prelude.{◌||◌}
 use Rattle.fixed_math.specs.declared.vec3.Vec3.{Vec3}
+use Rattle.texture.specs.Images.{Image}
 use Rattle.transforms.specs.declared.spaces.Spaces.{Spaces}
 use Rattle.builtins.specs.Differences.{Lines}
 use Rattle.builtins.specs.Lights.{Light}
@@ -12,7 +13,7 @@ use Rattle.grid_code.specs.declared.code.Source.{Source}
 use Rattle.grid_code.specs.declared.code.Source.TheVariants.{Constant, Copy, Into, Apply}
 use Rattle.grid_code.specs.declared.code.Node.{Node, If, Loop}
 use Rattle.grid_code.specs.Code as c
-use Rattle.grid_code.specs.Code.{Block, end, put, differ, sum, branch, loops, lights, breaks, continues, ◌then◌}
+use Rattle.grid_code.specs.Code.{Block, end, put, differ, sum, texture, branch, loops, lights, breaks, continues, ◌then◌}
 use Rattle.grid_code.specs.Masked.{Asked, Ground, State, write, result_of, both_parts, looped, masked}
 use Rattle.grid_code.specs.View.{with_node, block_of}
 use Rattle.core_codegen.proofs.NodeRows.{branch_shown, loop_shown, node_before}
@@ -36,6 +37,7 @@ asks_then end y = refl
 asks_then (put r o x) y = asks_then x y
 asks_then (differ r d q x) y = asks_then x y
 asks_then (sum r which qs x) y = refl
+asks_then (texture r k qs x) y = asks_then x y
 asks_then (branch t a b x) y = ap (λ k. asks_lights a || (asks_lights b || k)) (asks_then x y) ∙ or_all (asks_lights a) (asks_lights b) (asks_lights x) (asks_lights y)
 asks_then (loops u d t e a x) y =
     ap (λ k. asks_lights d || (asks_lights e || (asks_lights a || k))) (asks_then x y)
@@ -85,12 +87,12 @@ neither : (a b : Bool) → (a || b) ≡ false → (a ≡ false) × (b ≡ false)
 neither true b e = absurd (true≢false e)
 neither false b e = (refl, e)
 
-module _ (lines : Lines) (spaces : Spaces) (ls others : List Asked) (c n : ℕ) where
+module _ (lines : Lines) (spaces : Spaces) (images : ℕ → Option Image) (ls others : List Asked) (c n : ℕ) where
   abbrev some : Ground
-  some = record { lines = lines; spaces = spaces; lights = ls }
+  some = record { lines = lines; spaces = spaces; lights = ls; images = images }
 
   abbrev other : Ground
-  other = record { lines = lines; spaces = spaces; lights = others }
+  other = record { lines = lines; spaces = spaces; lights = others; images = images }
 
   result_alike : (o : Source) (s : State) → result_of o some s ≡ result_of o other s
   result_alike (Constant v) s = refl
@@ -103,6 +105,7 @@ module _ (lines : Lines) (spaces : Spaces) (ls others : List Asked) (c n : ℕ) 
   lights_unread (put r o x) g = ap (λ (k : Runs). λ s. k (write c r (result_of o some s) s)) (lights_unread x g) ∙ (λ i s. masked x other c n (write c r (result_alike o s i) s))
   lights_unread (differ r d q x) g = ap (λ (k : Runs). λ s. k (masked (differ r d q end) some c n s)) (lights_unread x g)
   lights_unread (sum r which qs x) g = absurd (true≢false g)
+  lights_unread (texture r k qs x) g = ap (λ (k' : Runs). λ s. k' (masked (texture r k qs end) some c n s)) (lights_unread x g)
   lights_unread (branch (Uniform shape r) a b x) g =
       let p = neither _ _ g in
       let q = neither _ _ p.1 in

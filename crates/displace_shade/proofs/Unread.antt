@@ -16,6 +16,7 @@ use Rattle.builtins.specs.Triples.{each_two}
 use Rattle.builtins.specs.Values.{as_shape, is_true, triple_of, truth}
 use Rattle.builtins.specs.Table.{applied}
 use Rattle.builtins.specs.Differences.{difference}
+use Rattle.builtins.specs.Textures.{textured}
 use Rattle.builtins.specs.Lights.{is_in_cone, shown, sum_of}
 use Rattle.grid_code.specs.declared.code.Register.{Register}
 use Rattle.grid_code.specs.declared.code.Register.TheVariants.{Uniform, Varying}
@@ -23,7 +24,7 @@ use Rattle.grid_code.specs.declared.code.Source.{Source}
 use Rattle.grid_code.specs.declared.code.Source.TheVariants.{Constant, Copy, Into, Apply}
 use Rattle.grid_code.specs.Names.{name_at, lit_at}
 use Rattle.grid_code.specs.Uses.{source_within, within}
-use Rattle.grid_code.specs.Code.{Block, end, put, differ, sum, branch, loops, lights, breaks, continues}
+use Rattle.grid_code.specs.Code.{Block, end, put, differ, sum, texture, branch, loops, lights, breaks, continues}
 use Rattle.grid_code.specs.Masked.{Asked, Ground, State, any, same_shape, read, reads, result_of, write, under, both_parts, one_part, budgets, take_turn, going, turn, turns_of, looped, all_answers, towards, colour_of, entered, under_lights, views, kindled, illuminated, from_light, over_lights, masked}
 
 -- registers that code doesn't name, and none that sums and statements over lights read or write
@@ -196,6 +197,12 @@ module _ (away : Shape → ℕ → Bool) (other : Shape → ℕ → ℕ → Valu
       let k = and_parts (list_all kept qs) _ p.1 in
       let f : ℕ → Value = λ i. sum_of which (reads s qs i) (all_answers g.lights s (name_at names.P) i) in
       (λ j. masked x g c n (write c r (λ i. sum_of which (reads_same qs s i k.0 j) (answers_same g.lights s (name_at names.P) i point_kept j)) (instead s)))
+      ∙ ap (masked x g c n) (write_same c r f p.0 s) ∙ unread x g c n k.1 (write c r f s)
+  unread (texture r m qs x) g c n h s =
+      let p = and_parts (kept r) _ h in
+      let k = and_parts (list_all kept qs) _ p.1 in
+      let f = textured g.lines (g.images m) (reads s qs) in
+      (λ j. masked x g c n (write c r (textured g.lines (g.images m) (λ i. reads_same qs s i k.0 j)) (instead s)))
       ∙ ap (masked x g c n) (write_same c r f p.0 s) ∙ unread x g c n k.1 (write c r f s)
   unread (branch (Uniform shape r) a b x) g c n h s =
       let p = and_parts (within kept a) _ (and_parts true _ h).1 in

@@ -17,7 +17,7 @@ use Rattle.grid_variables.specs.Points.{Leaf, columns, rows as row_count}
 use Rattle.grid_variables.specs.Places.{point_count, over}
 use Rattle.place_rows.specs.Layout.{row_length}
 use Rattle.grid_rows.specs.Rows.{triple_in}
-use Rattle.displace_shade.specs.Shaded.{spaces_of, light_spaces, light_of}
+use Rattle.displace_shade.specs.Shaded.{spaces_of, light_spaces, light_of, image_at}
 use Rattle.displace_shade.specs.Shop.{bound_value}
 use Rattle.displace_shade.specs.Stages.{Runs}
 use Rattle.displace_shade.specs.declared.bound.BoundShader.{BoundShader}
@@ -42,7 +42,7 @@ abbrev pub lines_by : Leaf → BoundShader → List Value → Lines
 lines_by l b uniforms = lines_given (columns l) (row_count l) b.compiled.now.code.params uniforms
 
 abbrev pub ground_by : Leaf → BoundShader → List Value → List Asked → Ground
-ground_by l b uniforms lights = record { lines = lines_by l b uniforms; spaces = spaces_of l (bound_value b); lights = lights }
+ground_by l b uniforms lights = record { lines = lines_by l b uniforms; spaces = spaces_of l (bound_value b); lights = lights; images = image_at (bound_value b) }
 
 abbrev pub IsLeftUnder : Leaf → BoundShader → List Asked → List Value → List ℤ → List ℤ → Type 0
 IsLeftUnder l b lights uniforms rows out =

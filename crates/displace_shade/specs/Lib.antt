@@ -1,6 +1,7 @@
 pub mod Shaded
 pub mod Rows
 pub mod Diced
+pub mod Cached
 pub mod Shop
 pub mod Pieces
 pub mod Stages

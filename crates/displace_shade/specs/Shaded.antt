@@ -2,13 +2,17 @@
 use Rattle.std.specs.Prelude.{ℕ, ◌*◌, List, [], ◌∷◌, map, Option, Some, None}
 use Rattle.std.specs.List.{range_with_len}
 use Rattle.fixed_math.specs.declared.vec3.Vec3.{Vec3}
+use Rattle.texture.specs.Images.{Image}
 use Rattle.transforms.specs.Map.{Map}
 use Rattle.transforms.specs.declared.spaces.Spaces.{Spaces}
 use Rattle.scene.specs.declared.uses.ShaderUse.{ShaderUse}
 use Rattle.sl_ast.specs.declared.kinds.Predefined.TheVariants as names
 use Rattle.sl_ast.specs.declared.typed.Value.TheVariants.{Number, Triple}
 use Rattle.builtins.specs.Lights.{Light}
+use Rattle.builtins.specs.Textures.{image_named, entry_of}
 use Rattle.builtins.specs.Values.{triple_of}
+use Rattle.sl_ast.specs.Textures.{texture_nodes}
+use Rattle.sl_look_ups.specs.Naming.{binding_params}
 use Rattle.sl_meaning.specs.Environment.{Around}
 use Rattle.sl_meaning.specs.Runs.{Names, nothing, ran, light_answer}
 use Rattle.shader_binding.specs.Sets.{SetValue, Bound, bound_at, bound_for}
@@ -56,13 +60,17 @@ abbrev pub lights_from : Leaf → SetValue → List ShaderUse → List ℕ → L
 lights_from l s uses [] = []
 lights_from l s uses (n ∷ ns) = with_light l (bound_at s uses n) (lights_from l s uses ns)
 
--- a run of one shader over the grid, its parameters by places; where there is none, nothing changes
-abbrev pub around : Leaf → Bound → List (Vec3 → Light) → Around
-around l b lights = record { lines = lines l; spaces = spaces_of l b; lights = lights }
+-- the image that the look-up of that number of a use's tree names
+abbrev pub image_at : Bound → ℕ → Option Image
+image_at b k = image_named b.textures (entry_of (map (λ n. n.number) (texture_nodes b.tree)) b.look_ups k)
 
+abbrev pub around : Leaf → Bound → List (Vec3 → Light) → Around
+around l b lights = record { lines = lines l; spaces = spaces_of l b; lights = lights; images = image_at b }
+
+-- a run of one shader over the grid, its parameters by places; where there is none, nothing changes
 abbrev pub shaded_by : Leaf → Option Bound → List (Vec3 → Light) → (ℕ → Names) → ℕ → Names
 shaded_by l None lights before = before
-shaded_by l (Some b) lights before = ran b.tree (around l b lights) (values_at l b.tree.params b.values) before
+shaded_by l (Some b) lights before = ran b.tree (around l b lights) (values_at l (binding_params b.tree) b.values) before
 
 -- behind the displacement: points within the bound of their old places, and seen from there
 abbrev pub placed : Leaf → Names → Names → Names

@@ -7,6 +7,7 @@ use Rattle.scene.specs.declared.uses.ShaderUse.{ShaderUse}
 use Rattle.sl_ast.specs.declared.kinds.SlKind.{SlKind}
 use Rattle.sl_ast.specs.TreeView.{tree_of}
 use Rattle.builtins.specs.Lights.{Light}
+use Rattle.sl_look_ups.specs.Naming.{binding_params}
 use Rattle.mask_codegen.specs.Compiled.{IsCodeOf}
 use Rattle.sl_meaning.specs.Runs.{Names}
 use Rattle.grid_rows.specs.Parameters.{ParameterValues}
@@ -22,7 +23,7 @@ use Rattle.displace_shade.specs.declared.leaves.Shaders.{Shaders}
 
 -- the parameters of a shader, as the rows of a run are made from them
 abbrev pub parameters_of : BoundShader → ParameterValues
-parameters_of b = record { locals = (tree_of b.compiled.now.tree).params; slots = b.compiled.now.code.params; values = b.values.now }
+parameters_of b = record { locals = binding_params (tree_of b.compiled.now.tree); slots = b.compiled.now.code.params; values = b.values.now }
 
 -- a shader with values of its parameters
 pub record Runs (b : BoundShader) : Type 0 where
@@ -31,7 +32,7 @@ pub record Runs (b : BoundShader) : Type 0 where
 
 -- the set and the uses of shaders that are run
 abbrev pub set_in : Shaders → SetValue
-set_in s = set_value s.set.now
+set_in s = set_value s.set.now s.textures.now
 
 abbrev pub uses_in : Shaders → List ShaderUse
 uses_in s = s.uses.now
@@ -61,7 +62,7 @@ Makes l run old new = (f : ℕ → Names) → Hold l old f → Hold l new (run f
 -- a shader runs as one of that kind, and the variables of the leaf's primitive fit it
 pub record RunsOn (b : BoundShader) (l : Leaf) (k : SlKind) : Type 0 where
   pub runs : Runs b
-  pub variables : FitVariables (tree_of b.compiled.now.tree).params l.prim.vars
+  pub variables : FitVariables (binding_params (tree_of b.compiled.now.tree)) l.prim.vars
   pub kind : (tree_of b.compiled.now.tree).kind ≡ k
 
 -- the variables behind the displacement of the leaf's primitive

@@ -39,7 +39,11 @@ fn node_asks(node: &Node) -> bool
             let c = asks_lights(body.as_slice());
             either(a, either(b, c))
         }
-        Node::Put { .. } | Node::Differ { .. } | Node::Break | Node::Continue => false,
+        Node::Put { .. }
+        | Node::Differ { .. }
+        | Node::Texture { .. }
+        | Node::Break
+        | Node::Continue => false,
     }
 }
 

@@ -18,6 +18,7 @@ use grid_machine::Lights;
 use grid_variables::Leaf;
 use scene::ShaderUse;
 use sl_ast::Value;
+use texture::Texture;
 use transforms::{Affine, Spaces};
 
 /// A light's shader with its maps to camera space.
@@ -58,16 +59,17 @@ fn light_spaces(leaf: &Leaf, space: &Affine) -> Spaces
 fn lamp_at<'a, 's>(
     arena: &'a Bump,
     set: &'s ShaderSet,
+    textures: &'s [Texture],
     uses: &'s [ShaderUse],
     leaf: &Leaf,
     n: u32,
 ) -> Result<Lamp<'s, 'a>, NoMemory>
-    requires fits { Fits (set_value set.now) uses.now }
+    requires fits { Fits (set_value set.now textures.now) uses.now }
     requires use_of { IsUse uses.now requested.Light n }
-    ensures found { IfOk result (λ lamp. bound_at_use (set_value set.now) uses.now n ≡ Some (bound_value lamp.shader)) }
+    ensures found { IfOk result (λ lamp. bound_at_use (set_value set.now textures.now) uses.now n ≡ Some (bound_value lamp.shader)) }
     ensures light { IfOk result (λ lamp. IsLamp leaf.now lamp) }
 {
-    let shader = bound_at(set, uses, n);
+    let shader = bound_at(set, textures, uses, n);
     let spaces = kept(arena, light_spaces(leaf, shader.space))?;
     Ok(Lamp { shader, spaces })
 }
@@ -76,18 +78,19 @@ fn lamp_at<'a, 's>(
 pub(crate) fn lamps_of<'a, 's>(
     arena: &'a Bump,
     set: &'s ShaderSet,
+    textures: &'s [Texture],
     uses: &'s [ShaderUse],
     leaf: &Leaf,
 ) -> Result<Vec<Lamp<'s, 'a>, &'a Bump>, NoMemory>
-    requires fits { Fits (set_value set.now) uses.now }
+    requires fits { Fits (set_value set.now textures.now) uses.now }
     requires use_of { All (IsUse uses.now requested.Light) leaf.now.prim.lights }
-    ensures lights { IfOk result (λ lamps. map (lamp_light leaf.now) lamps.items ≡ lights_from leaf.now (set_value set.now) uses.now leaf.now.prim.lights) }
+    ensures lights { IfOk result (λ lamps. map (lamp_light leaf.now) lamps.items ≡ lights_from leaf.now (set_value set.now textures.now) uses.now leaf.now.prim.lights) }
     ensures each { IfOk result (λ lamps. All (IsLamp leaf.now) lamps.items) }
 {
     let lights = leaf.lights();
     let mut lamps = Vec::new(arena);
     for k in 0..lights.len() {
-        let lamp = lamp_at(arena, set, uses, leaf, lights.at(k))?;
+        let lamp = lamp_at(arena, set, textures, uses, leaf, lights.at(k))?;
         lamps.push(lamp)?;
     }
     Ok(lamps)

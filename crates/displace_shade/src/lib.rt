@@ -3,6 +3,7 @@
 
 mod asking;
 mod bound;
+mod cached;
 mod constant;
 mod lamps;
 mod leaves;

@@ -16,6 +16,7 @@ ghost use Rattle.displace_shade.specs.Unlit.{AsksNone};
 ghost use Rattle.displace_shade.specs.Lamps.{IsLamp, lamp_light, IsGiven, IsLeft, AreLeft};
 
 use crate::bound::BoundShader;
+use crate::cached::TextureCache;
 use crate::lamps::{Lamp, Lamps, kept};
 use bumpalo::Bump;
 use bumpalo::collections::into_bump_slice_mut;
@@ -54,7 +55,7 @@ fn parameters_of<'s>(bound: &BoundShader<'s>) -> Parameters<'s>
     let compiled = bound.compiled;
     let code = compiled.code();
     Parameters {
-        declared: compiled.params(),
+        declared: compiled.binding_params(),
         slots: code.params.as_slice(),
         values: bound.values,
     }
@@ -79,17 +80,20 @@ fn run_into<'s, 'a>(
     leaf: &Leaf,
     bound: &BoundShader<'s>,
     lamps: &[Lamp<'s, 'a>],
+    textures: &mut TextureCache,
     spaces: &'a Spaces,
     uniforms: &[Value],
     raws: &[i64],
     out: &mut [i64],
 ) -> Result<(), NoMemory>
+    requires cache { textures.old.textures ≡ bound.now.textures.now }
     requires given { IsGiven leaf.now bound.now lamps.now uniforms.now raws.now }
     requires spaces { spaces.now ≡ maps_of leaf.now (bound_value bound.now) }
     requires small { AreRaws raws.now }
     requires out { length out.old ≡ rows_of (written_names bound.now.compiled.now.code.kind) * row_length (point_count leaf.now) }
     ensures small { AreRaws out.new }
     ensures values { OnOk result (IsLeft leaf.now bound.now lamps.now uniforms.now raws.now out.new) }
+    ensures cache { textures.new.textures ≡ textures.old.textures }
 {
     let inputs = Inputs {
         columns: leaf.columns(),
@@ -97,6 +101,7 @@ fn run_into<'s, 'a>(
         uniforms,
         varyings: raws,
         spaces,
+        look_ups: bound.look_ups,
     };
     let compiled = bound.compiled;
     let code = compiled.code();
@@ -105,7 +110,7 @@ fn run_into<'s, 'a>(
         spaces,
     };
     let lights = Lamps { lamps, spare };
-    run(code, arena, &inputs, &lights, out)
+    run(code, arena, &inputs, &lights, textures, out)
 }
 
 /// So many zeros. They are put a kilobyte at a time, for which no instruction has to go through memory byte by byte.
@@ -127,20 +132,25 @@ fn run_on<'a, 's>(
     leaf: &Leaf,
     bound: &BoundShader<'s>,
     lamps: &[Lamp<'s, 'a>],
+    textures: &mut TextureCache,
     uniforms: &[Value],
     rows: &[i64],
 ) -> Result<&'a [i64], NoMemory>
+    requires cache { textures.old.textures ≡ bound.now.textures.now }
     requires given { IsGiven leaf.now bound.now lamps.now uniforms.now rows.now }
     requires small { AreRaws rows.now }
     ensures long { IfOk result (λ out. length out.now ≡ 6 * row_length (point_count leaf.now)) }
     ensures small { IfOk result (λ out. AreRaws out.now) }
     ensures values { IfOk result (λ out. IsLeft leaf.now bound.now lamps.now uniforms.now rows.now out.now) }
+    ensures cache { textures.new.textures ≡ textures.old.textures }
 {
     let spaces = kept(arena, spaces_of(leaf, bound.space))?;
     let width = length_of_row(leaf.point_count());
     let zeros = zero_rows(arena, 6 * width)?;
     let out = into_bump_slice_mut(zeros);
-    run_into(arena, leaf, bound, lamps, spaces, uniforms, rows, out)?;
+    run_into(
+        arena, leaf, bound, lamps, textures, spaces, uniforms, rows, out,
+    )?;
     Ok(out)
 }
 
@@ -150,16 +160,19 @@ fn run_behind<'a, 's>(
     leaf: &Leaf,
     bound: &BoundShader<'s>,
     lamps: &[Lamp<'s, 'a>],
+    textures: &mut TextureCache,
     uniforms: Vec<Value>,
     rows: &[i64],
 ) -> Result<&'a [i64], NoMemory>
+    requires cache { textures.old.textures ≡ bound.now.textures.now }
     requires given { IsGiven leaf.now bound.now lamps.now uniforms.items rows.now }
     requires small { AreRaws rows.now }
     ensures long { IfOk result (λ out. length out.now ≡ 6 * row_length (point_count leaf.now)) }
     ensures small { IfOk result (λ out. AreRaws out.now) }
     ensures values { IfOk result (λ out. IsLeft leaf.now bound.now lamps.now uniforms.items rows.now out.now) }
+    ensures cache { textures.new.textures ≡ textures.old.textures }
 {
-    run_on(arena, leaf, bound, lamps, &uniforms, rows)
+    run_on(arena, leaf, bound, lamps, textures, &uniforms, rows)
 }
 
 /// The triples that a run leaves in its first three rows and in the three behind them.
@@ -175,14 +188,17 @@ fn left_behind<'a, 's>(
     leaf: &Leaf,
     bound: &BoundShader<'s>,
     lamps: &[Lamp<'s, 'a>],
+    textures: &mut TextureCache,
     uniforms: Vec<Value>,
     rows: &[i64],
 ) -> Result<Left<'a>, NoMemory>
+    requires cache { textures.old.textures ≡ bound.now.textures.now }
     requires given { IsGiven leaf.now bound.now lamps.now uniforms.items rows.now }
     requires small { AreRaws rows.now }
-    ensures { IfOk result (λ left. AreLeft leaf.now bound.now lamps.now uniforms.items rows.now left.first.now left.second.now) }
+    ensures values { IfOk result (λ left. AreLeft leaf.now bound.now lamps.now uniforms.items rows.now left.first.now left.second.now) }
+    ensures cache { textures.new.textures ≡ textures.old.textures }
 {
-    let out = run_behind(arena, leaf, bound, lamps, uniforms, rows)?;
+    let out = run_behind(arena, leaf, bound, lamps, textures, uniforms, rows)?;
     let first = triples_left(arena, leaf, out, 0)?;
     let second = triples_left(arena, leaf, out, 3)?;
     Ok(Left { first, second })
@@ -194,18 +210,21 @@ pub(crate) fn displace<'a>(
     arena: &'a Bump,
     leaf: &Leaf,
     bound: &BoundShader,
+    textures: &mut TextureCache,
     variables: &Variables<'a>,
 ) -> Result<Variables<'a>, NoMemory>
+    requires cache { textures.old.textures ≡ bound.now.textures.now }
     requires on { RunsOn bound.now leaf.now kinds.Displacement }
     requires sized { IsSized leaf.now variables.now }
     ensures sized { IfOk result (λ e. IsSized leaf.now e) }
     ensures hold { IfOk result (λ e. Makes leaf.now (run_by leaf.now bound.now []) variables.now e) }
+    ensures cache { textures.new.textures ≡ textures.old.textures }
 {
     let parameters = parameters_of(bound);
     let wanted = wanted_by(bound);
     let rows = rows_given(arena, leaf, &parameters, &wanted, variables)?;
     let uniforms = surface_values(alloc, leaf, &parameters)?;
-    let left = left_behind(arena, leaf, bound, &[], uniforms, rows)?;
+    let left = left_behind(arena, leaf, bound, &[], textures, uniforms, rows)?;
     Ok(Variables {
         points: left.first,
         normals: Some(left.second),
@@ -222,8 +241,10 @@ pub(crate) fn colour<'a, 's>(
     leaf: &Leaf,
     bound: &BoundShader<'s>,
     lamps: &[Lamp<'s, 'a>],
+    textures: &mut TextureCache,
     variables: &Variables<'a>,
 ) -> Result<Variables<'a>, NoMemory>
+    requires cache { textures.old.textures ≡ bound.now.textures.now }
     requires on { RunsOn bound.now leaf.now kinds.Surface }
     requires lamps { All (IsLamp leaf.now) lamps.now }
     requires sized { IsSized leaf.now variables.now }
@@ -231,12 +252,13 @@ pub(crate) fn colour<'a, 's>(
     ensures coloured { IfOk result (λ e. IsColoured leaf.now e) }
     ensures hold { IfOk result (λ e. Makes leaf.now (run_by leaf.now bound.now (map (lamp_light leaf.now) lamps.now)) variables.now e) }
     ensures unlit { IfOk result (λ e. AsksNone bound.now → (lights : List (AnyVec3 → Light)) → Makes leaf.now (run_by leaf.now bound.now lights) variables.now e) }
+    ensures cache { textures.new.textures ≡ textures.old.textures }
 {
     let parameters = parameters_of(bound);
     let wanted = wanted_by(bound);
     let rows = rows_given(arena, leaf, &parameters, &wanted, variables)?;
     let uniforms = surface_values(alloc, leaf, &parameters)?;
-    let left = left_behind(arena, leaf, bound, lamps, uniforms, rows)?;
+    let left = left_behind(arena, leaf, bound, lamps, textures, uniforms, rows)?;
     Ok(Variables {
         points: variables.points,
         normals: variables.normals,
@@ -252,20 +274,23 @@ pub(crate) fn dim<'a>(
     arena: &'a Bump,
     leaf: &Leaf,
     bound: &BoundShader,
+    textures: &mut TextureCache,
     variables: &Variables<'a>,
 ) -> Result<Variables<'a>, NoMemory>
+    requires cache { textures.old.textures ≡ bound.now.textures.now }
     requires on { RunsOn bound.now leaf.now kinds.Volume }
     requires sized { IsSized leaf.now variables.now }
     requires coloured { IsColoured leaf.now variables.now }
     ensures sized { IfOk result (λ e. IsSized leaf.now e) }
     ensures coloured { IfOk result (λ e. IsColoured leaf.now e) }
     ensures hold { IfOk result (λ e. Makes leaf.now (run_by leaf.now bound.now []) variables.now e) }
+    ensures cache { textures.new.textures ≡ textures.old.textures }
 {
     let parameters = parameters_of(bound);
     let wanted = wanted_by(bound);
     let rows = rows_given(arena, leaf, &parameters, &wanted, variables)?;
     let uniforms = uniform_values(alloc, leaf, &parameters)?;
-    let left = left_behind(arena, leaf, bound, &[], uniforms, rows)?;
+    let left = left_behind(arena, leaf, bound, &[], textures, uniforms, rows)?;
     Ok(Variables {
         points: variables.points,
         normals: variables.normals,

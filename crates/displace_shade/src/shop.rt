@@ -4,8 +4,10 @@ ghost use Rattle.scene.specs.Scene.{FrameValue, PrimValue, HasUses};
 ghost use Rattle.shader_binding.specs.Sets.{Fits};
 ghost use Rattle.shader_binding.specs.Bindings.{FitsPrim};
 ghost use Rattle.displace_shade.specs.Pieces.{FitsPiece, IsShadedIn, IsShaded};
-ghost use Rattle.displace_shade.specs.Shop.{set_value, leaf_of};
+ghost use Rattle.displace_shade.specs.Shop.{shop_set, leaf_of};
+ghost use Rattle.displace_shade.specs.Stages.{set_in};
 
+use crate::cached::TextureCache;
 use crate::leaves::{Shaders, shaded_leaf};
 use crate::set::ShaderSet;
 use bumpalo::Bump;
@@ -15,6 +17,7 @@ use grid_variables::Leaf;
 use patches::Piece;
 use scene::{Frame, Scene, ShaderUse};
 use std::alloc::Global;
+use texture::Texture;
 
 /// The leaf of a piece of a primitive of a frame.
 fn leaf_at<'s>(frame: &'s Frame, piece: &'s Piece, p: u8, q: u8) -> Leaf<'s>
@@ -38,6 +41,7 @@ fn leaf_at<'s>(frame: &'s Frame, piece: &'s Piece, p: u8, q: u8) -> Leaf<'s>
 /// The shaded grid of a piece of a primitive of a frame.
 fn shaded_piece<'a>(
     shaders: &Shaders,
+    cache: &mut TextureCache,
     work: &Bump,
     arena: &'a Bump,
     frame: &Frame,
@@ -45,16 +49,18 @@ fn shaded_piece<'a>(
     p: u8,
     q: u8,
 ) -> Result<GridRef<'a>, NoMemory>
-    requires fits { Fits (set_value shaders.now.set.now) shaders.now.uses.now }
+    requires fits { Fits (set_in shaders.now) shaders.now.uses.now }
+    requires cache { cache.old.textures ≡ shaders.now.textures.now }
     requires prim { piece.now.prim < length frame.now.prims }
     requires uses { All (HasUses shaders.now.uses.now) frame.now.prims }
-    requires variables { (prim : PrimValue) → slice_get frame.now.prims piece.now.prim ≡ Some prim → FitsPrim (set_value shaders.now.set.now) shaders.now.uses.now prim }
+    requires variables { (prim : PrimValue) → slice_get frame.now.prims piece.now.prim ≡ Some prim → FitsPrim (set_in shaders.now) shaders.now.uses.now prim }
     requires columns { p ≤ 4 }
     requires rows { q ≤ 4 }
-    ensures { IfOk result (IsShadedIn (set_value shaders.now.set.now) shaders.now.uses.now frame.now piece.now p q) }
+    ensures grid { IfOk result (IsShadedIn (set_in shaders.now) shaders.now.uses.now frame.now piece.now p q) }
+    ensures cache { cache.new.textures ≡ cache.old.textures }
 {
     let leaf = leaf_at(frame, piece, p, q);
-    shaded_leaf(shaders, work, arena, &leaf)
+    shaded_leaf(shaders, cache, work, arena, &leaf)
 }
 
 /// The uses of a scene.
@@ -81,27 +87,31 @@ fn clear(alloc: Global, work: &mut Bump) {
     }
 }
 
-/// The shaders of a scene, how many grids they have shaded, and memory for what is made on the way to a grid.
+/// The shaders of a scene, its textures, how many grids have been shaded, and memory for what is made on the way to a grid.
 #[derive(Drop)]
-pub struct Shop {
+pub struct Shop<'t> {
     alloc: Global,
     set: ShaderSet,
+    cache: TextureCache<'t>,
     work: Bump,
     count: u64,
 }
 
-impl Shop {
-    /// A shop of these shaders that has shaded nothing.
-    pub fn new(alloc: Global, set: ShaderSet) -> Shop
-        ensures set { result.set ≡ set }
-        ensures count { result.count ≡ 0 }
+impl<'t> Shop<'t> {
+    /// A shop of these shaders and textures that has shaded nothing, or want of memory.
+    pub fn new(alloc: Global, set: ShaderSet, textures: &'t [Texture]) -> Result<Shop<'t>, NoMemory>
+        ensures set { IfOk result (λ shop. shop.set ≡ set) }
+        ensures textures { IfOk result (λ shop. shop.cache.textures ≡ textures.now) }
+        ensures count { IfOk result (λ shop. shop.count ≡ 0) }
     {
-        Shop {
+        let cache = TextureCache::new(alloc, textures)?;
+        Ok(Shop {
             alloc,
             set,
+            cache,
             work: Bump::new(alloc),
             count: 0,
-        }
+        })
     }
 
     /// How many grids have been shaded.
@@ -124,24 +134,35 @@ impl Shop {
         p: u8,
         q: u8,
     ) -> Result<GridRef<'a>, NoMemory>
-        requires fits { Fits (set_value self.old.set) scene.now.uses }
+        requires fits { Fits (shop_set self.old) scene.now.uses }
         requires frame { frame < length scene.now.frames }
         requires prim { (f : FrameValue) → slice_get scene.now.frames frame ≡ Some f → piece.now.prim < length f.prims }
-        requires variables { FitsPiece (set_value self.old.set) scene.now frame piece.now }
+        requires variables { FitsPiece (shop_set self.old) scene.now frame piece.now }
         requires columns { p ≤ 4 }
         requires rows { q ≤ 4 }
         requires count { self.old.count < 18446744073709551615 }
-        ensures grid { IfOk result (IsShaded (set_value self.old.set) scene.now frame piece.now p q) }
+        ensures grid { IfOk result (IsShaded (shop_set self.old) scene.now frame piece.now p q) }
         ensures set { self.new.set ≡ self.old.set }
+        ensures textures { self.new.cache.textures ≡ self.old.cache.textures }
         ensures count { MatchResult result (λ _. self.new.count ≡ self.old.count + 1) (λ _. self.new.count ≡ self.old.count) }
     {
         let frame = frame_at(scene, frame);
         let shaders = Shaders {
             alloc: self.alloc,
             set: &self.set,
+            textures: self.cache.textures(),
             uses: uses_of(scene),
         };
-        let shaded = shaded_piece(&shaders, &self.work, arena, frame, piece, p, q);
+        let shaded = shaded_piece(
+            &shaders,
+            &mut self.cache,
+            &self.work,
+            arena,
+            frame,
+            piece,
+            p,
+            q,
+        );
         clear(self.alloc, &mut self.work);
         let grid = shaded?;
         self.count += 1;

@@ -11,11 +11,12 @@ use Rattle.sl_ast.specs.declared.typed.Value.TheVariants.{Triple}
 use Rattle.builtins.specs.declared.shape.Shape.{Shape}
 use Rattle.builtins.specs.Values.{is_true, triple_of, truth}
 use Rattle.builtins.specs.Differences.{difference}
+use Rattle.builtins.specs.Textures.{textured}
 use Rattle.builtins.specs.Lights.{is_in_cone, sum_of}
 use Rattle.grid_code.specs.declared.code.Register.{Register}
 use Rattle.grid_code.specs.declared.code.Register.TheVariants.{Uniform, Varying}
 use Rattle.grid_code.specs.Names.{name_at, lit_at}
-use Rattle.grid_code.specs.Code.{Block, end, put, differ, sum, branch, loops, lights, breaks, continues}
+use Rattle.grid_code.specs.Code.{Block, end, put, differ, sum, texture, branch, loops, lights, breaks, continues}
 use Rattle.grid_code.specs.Masked.{Ground, State, any, same_shape, read, reads, result_of, write, under, both_parts, one_part, going, turn, turns_of, looped, all_answers, towards, colour_of, entered, under_lights, views, kindled, from_light, over_lights, masked}
 use Rattle.grid_code.proofs.Dead.{and_one}
 
@@ -115,6 +116,8 @@ asleep (differ r d q x) g0 c n g h =
     let a = write_asleep c r (difference d g0.lines g0.spaces.flip (read g q)) g h in asleep_on c g _ _ a (asleep x g0 c n _ a.live)
 asleep (sum r which qs x) g0 c n g h =
     let a = write_asleep c r (λ j. sum_of which (reads g qs j) (all_answers g0.lights g (name_at names.P) j)) g h in asleep_on c g _ _ a (asleep x g0 c n _ a.live)
+asleep (texture r k qs x) g0 c n g h =
+    let a = write_asleep c r (textured g0.lines (g0.images k) (reads g qs)) g h in asleep_on c g _ _ a (asleep x g0 c n _ a.live)
 asleep (branch (Uniform s r) a b x) g0 c n g h =
     let y = cond_both (is_true (g.shared s r)) (masked a g0 c n g) (masked b g0 c n g) (λ s. Asleep c g s) (λ e. asleep a g0 c n g h) (λ e. asleep b g0 c n g h) in
     asleep_on c g _ _ y (asleep x g0 c n _ y.live)

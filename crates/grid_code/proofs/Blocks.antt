@@ -3,9 +3,9 @@ use Rattle.std.proofs.Common.{◌≡◌, ℕ, suc, ◌+◌, ◌<◌, Bool, List,
 use Rattle.std.proofs.Math.Seq.{drop-cons}
 use Rattle.sl_ast.specs.declared.kinds.LightStmt.{LightStmt}
 use Rattle.grid_code.specs.declared.code.Register.{Register}
-use Rattle.grid_code.specs.declared.code.Node.{Node, Put, Differ, Sum, If, If', Loop, Loop', Lights, Lights', Break, Continue, Row_of-Node, end_of-Node, more_of-Node, items-the_row-Node}
+use Rattle.grid_code.specs.declared.code.Node.{Node, Put, Differ, Sum, Texture, If, If', Loop, Loop', Lights, Lights', Break, Continue, Row_of-Node, end_of-Node, more_of-Node, items-the_row-Node}
 use Rattle.grid_code.specs.declared.code.Node.TheBlock.{hidden-the_row-Node-0, items_hidden-the_row-Node-0}
-use Rattle.grid_code.specs.Code.{Block, end, put, differ, sum, branch, loops, lights, breaks, continues}
+use Rattle.grid_code.specs.Code.{Block, end, put, differ, sum, texture, branch, loops, lights, breaks, continues}
 use Rattle.grid_code.specs.View.{with_node, row_block, block_of}
 
 row_block-items : (m : _) (k : Row_of-Node m) → row_block k ≡ block_of (items-the_row-Node m k)
@@ -33,6 +33,7 @@ block_size end = 0
 block_size (put r o x) = 1 + block_size x
 block_size (differ r d q x) = 1 + block_size x
 block_size (sum r s qs x) = 1 + block_size x
+block_size (texture r k qs x) = 1 + block_size x
 block_size (branch t a b x) = 1 + block_size a + block_size b + block_size x
 block_size (loops u d t e a x) = 1 + block_size d + block_size e + block_size a + block_size x
 block_size (lights w qs a x) = 1 + block_size a + block_size x
@@ -43,6 +44,7 @@ pub node_size : (x : Node) (rest : Block) → block_size (with_node x rest) ≡ 
 node_size (Put to source) rest = omega arith
 node_size (Differ to d q) rest = omega arith
 node_size (Sum to s qs) rest = omega arith
+node_size (Texture to k qs) rest = omega arith
 node_size (If' t k a m b) rest = omega arith
 node_size (Loop' u k a t m s p b) rest = omega arith
 node_size (Lights' w qs k b) rest = omega arith

@@ -10,11 +10,12 @@ use Rattle.sl_ast.specs.declared.typed.Value.{Value}
 use Rattle.sl_ast.specs.declared.typed.Value.TheVariants.{Triple}
 use Rattle.builtins.specs.Values.{is_true, triple_of, truth}
 use Rattle.builtins.specs.Differences.{difference}
+use Rattle.builtins.specs.Textures.{textured}
 use Rattle.builtins.specs.Lights.{is_in_cone, sum_of}
 use Rattle.grid_code.specs.declared.code.Register.{Register}
 use Rattle.grid_code.specs.declared.code.Register.TheVariants.{Uniform, Varying}
 use Rattle.grid_code.specs.Names.{name_at, lit_at}
-use Rattle.grid_code.specs.Code.{Block, end, put, differ, sum, branch, loops, lights, breaks, continues}
+use Rattle.grid_code.specs.Code.{Block, end, put, differ, sum, texture, branch, loops, lights, breaks, continues}
 use Rattle.grid_code.specs.Turns.{Unchanged}
 use Rattle.grid_code.specs.Masked.{Ground, State, any, same_shape, read, reads, result_of, write, under, both_parts, one_part, take_turn, going, turn, turns_of, looped, all_answers, towards, colour_of, entered, under_lights, views, kindled, from_light, over_lights, masked}
 
@@ -134,6 +135,8 @@ dead (differ r d q x) g0 c n i g h =
     let a = write_still c i r (difference d g0.lines g0.spaces.flip (read g q)) g h in still_on i g _ _ a (dead x g0 c n i _ a.live)
 dead (sum r which qs x) g0 c n i g h =
     let a = write_still c i r (λ j. sum_of which (reads g qs j) (all_answers g0.lights g (name_at names.P) j)) g h in still_on i g _ _ a (dead x g0 c n i _ a.live)
+dead (texture r k qs x) g0 c n i g h =
+    let a = write_still c i r (textured g0.lines (g0.images k) (reads g qs)) g h in still_on i g _ _ a (dead x g0 c n i _ a.live)
 dead (branch (Uniform s r) a b x) g0 c n i g h =
     let y = cond_both (is_true (g.shared s r)) (masked a g0 c n g) (masked b g0 c n g) (λ s. Still i g s) (λ e. dead a g0 c n i g h) (λ e. dead b g0 c n i g h) in
     still_on i g _ _ y (dead x g0 c n i _ y.live)

@@ -11,7 +11,8 @@ use Rattle.std.proofs.lemmas.List.Folds.{list_any_none}
 use Rattle.builtins.specs.declared.shape.Shape.{Shape}
 use Rattle.builtins.specs.declared.shape.Shape.TheVariants as shapes
 use Rattle.grid_code.specs.declared.register_set.RegisterSet.{RegisterSet}
-use Rattle.grid_code.specs.Uses.{numbers_of, is_in}
+use Rattle.grid_code.specs.declared.look_up_set.LookUpSet.{LookUpSet}
+use Rattle.grid_code.specs.Uses.{numbers_of, is_in, is_one_of}
 
 pub rises : (s : RegisterSet) (shape : Shape) → IsStrictlyIncreasing (numbers_of s shape)
 rises s shapes.Number = s.numbers_rise
@@ -35,3 +36,9 @@ pub found : (s : RegisterSet) (shape : Shape) (x : ℕ) (xs : List ℕ) (r : Res
 found s shape x xs r e h =
     subst (λ zs. MatchOption (result_ok r) (list_any (λ k. k == x) zs ≡ false) (λ i. (i < length zs) × (slice_index zs i ≡ x))) e
     (found_in xs x r (searched xs x r h (ordered xs (subst IsStrictlyIncreasing (sym e) (rises s shape)))))
+
+pub found_node : (s : LookUpSet) (x : ℕ) (xs : List ℕ) (r : Result ℕ ℕ) → xs ≡ s.nodes → IsBinarySearchResult (λ y. nat_cmp y x) xs r →
+    MatchOption (result_ok r) (is_one_of s.nodes x ≡ false) (λ i. (i < length s.nodes) × (slice_index s.nodes i ≡ x))
+found_node s x xs r e h =
+    subst (λ zs. MatchOption (result_ok r) (list_any (λ k. k == x) zs ≡ false) (λ i. (i < length zs) × (slice_index zs i ≡ x))) e
+    (found_in xs x r (searched xs x r h (ordered xs (subst IsStrictlyIncreasing (sym e) s.rise))))

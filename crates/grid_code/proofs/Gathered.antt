@@ -1,6 +1,6 @@
 -- The texts that a run of a block has still to gather.
 use Rattle.std.proofs.Common.{◌≡◌, ℕ, ◌+◌, ◌<◌, ◌≤◌, List, [], ◌++◌, length, get_or, drop, Result, Ok, Err, OnOk, refl, sym, ap, ◌∙◌, arith, append_assoc, append-nil}
-use Rattle.grid_code.specs.declared.code.Node.{Node, Put, Differ, Sum, If', Loop', Lights', Break, Continue}
+use Rattle.grid_code.specs.declared.code.Node.{Node, Put, Differ, Sum, Texture, If', Loop', Lights', Break, Continue}
 use Rattle.grid_code.specs.Code.{end}
 use Rattle.grid_code.specs.View.{with_node, block_of}
 use Rattle.grid_code.specs.Code.{Block}
@@ -11,6 +11,7 @@ node_texts : (x : Node) (rest : Block) → texts_in (with_node x rest) ≡ texts
 node_texts (Put to source) rest = sym (append_assoc (texts_of_source source) [] (texts_in rest))
 node_texts (Differ to d q) rest = refl
 node_texts (Sum to s qs) rest = refl
+node_texts (Texture to k qs) rest = refl
 node_texts (If' t k a m b) rest = search (append_assoc, append-nil)
 node_texts (Loop' u k a t m s p b) rest = search (append_assoc, append-nil)
 node_texts (Lights' w qs k b) rest = search (append_assoc, append-nil)

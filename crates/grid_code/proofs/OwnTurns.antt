@@ -9,11 +9,12 @@ use Rattle.sl_ast.specs.declared.kinds.LightStmt.TheVariants.{Illuminance, Illum
 use Rattle.sl_ast.specs.declared.typed.Value.{Value}
 use Rattle.builtins.specs.Values.{is_true, triple_of}
 use Rattle.builtins.specs.Differences.{difference}
+use Rattle.builtins.specs.Textures.{textured}
 use Rattle.builtins.specs.Lights.{is_in_cone, sum_of}
 use Rattle.grid_code.specs.declared.code.Register.{Register}
 use Rattle.grid_code.specs.declared.code.Register.TheVariants.{Uniform, Varying}
 use Rattle.grid_code.specs.Names.{name_at}
-use Rattle.grid_code.specs.Code.{Block, end, put, differ, sum, branch, loops, lights, breaks, continues}
+use Rattle.grid_code.specs.Code.{Block, end, put, differ, sum, texture, branch, loops, lights, breaks, continues}
 use Rattle.grid_code.specs.Masked.{Ground, State, any, read, reads, result_of, write, under, both_parts, one_part, take_turn, going, turn, turns_of, looped, all_answers, entered, under_lights, views, kindled, from_light, over_lights, masked}
 use Rattle.grid_code.specs.Turns.{taken_in, taken_under, taken_over, taken}
 
@@ -79,6 +80,7 @@ own_turns end i g c n s = omega arith
 own_turns (put r o x) i g c n s = own_turns x i g c n _ ∙ write_own c i r (result_of o g s) s
 own_turns (differ r d q x) i g c n s = own_turns x i g c n _ ∙ write_own c i r (difference d g.lines g.spaces.flip (read s q)) s
 own_turns (sum r which qs x) i g c n s = own_turns x i g c n _ ∙ write_own c i r (λ j. sum_of which (reads s qs j) (all_answers g.lights s (name_at names.P) j)) s
+own_turns (texture r k qs x) i g c n s = own_turns x i g c n _ ∙ write_own c i r (textured g.lines (g.images k) (reads s qs)) s
 own_turns (branch (Uniform t r) a b x) i g c n s =
     let q = is_true (s.shared t r) in
     let y = cond q (masked a g c n s) (masked b g c n s) in

@@ -4,6 +4,7 @@ use Rattle.std.specs.Prelude.{ℕ, zero, suc, ◌-◌, ◌==◌, Bool, true, fal
 use Rattle.fixed_math.specs.Fixed.{sub}
 use Rattle.fixed_math.specs.Axes.{origin}
 use Rattle.fixed_math.specs.declared.vec3.Vec3.{Vec3}
+use Rattle.texture.specs.Images.{Image}
 use Rattle.transforms.specs.declared.spaces.Spaces.{Spaces}
 use Rattle.sl_ast.specs.declared.kinds.Predefined.TheVariants as names
 use Rattle.sl_ast.specs.declared.kinds.LightStmt.{LightStmt}
@@ -16,23 +17,25 @@ use Rattle.builtins.specs.Triples.{each_two}
 use Rattle.builtins.specs.Values.{as_shape, is_true, triple_of, truth}
 use Rattle.builtins.specs.Table.{applied}
 use Rattle.builtins.specs.Differences.{Lines, difference}
+use Rattle.builtins.specs.Textures.{textured}
 use Rattle.builtins.specs.Lights.{Light, is_in_cone, shown, sum_of}
 use Rattle.grid_code.specs.declared.code.Register.{Register}
 use Rattle.grid_code.specs.declared.code.Register.TheVariants.{Uniform, Varying}
 use Rattle.grid_code.specs.declared.code.Source.{Source}
 use Rattle.grid_code.specs.declared.code.Source.TheVariants.{Constant, Copy, Into, Apply}
 use Rattle.grid_code.specs.Names.{name_at, lit_at}
-use Rattle.grid_code.specs.Code.{Block, end, put, differ, sum, branch, loops, lights, breaks, continues}
+use Rattle.grid_code.specs.Code.{Block, end, put, differ, sum, texture, branch, loops, lights, breaks, continues}
 
 -- a light asked at all places at once
 abbrev pub Asked : Type 0
 Asked = (ℕ → Vec3) → ℕ → Light
 
--- what no code changes: the lines of the grid, the shader's spaces, and the lights
+-- what no code changes: the lines of the grid, the shader's spaces, the lights, and the image that each look-up names, by the number of its node
 pub record Ground : Type 0 where
   pub lines : Lines
   pub spaces : Spaces
   pub lights : List Asked
+  pub images : ℕ → Option Image
 
 -- what code works on, by register and place
 pub record State : Type 0 where
@@ -168,6 +171,7 @@ masked end g c n s = s
 masked (put r o x) g c n s = masked x g c n (write c r (result_of o g s) s)
 masked (differ r d q x) g c n s = masked x g c n (write c r (difference d g.lines g.spaces.flip (read s q)) s)
 masked (sum r which qs x) g c n s = masked x g c n (write c r (λ i. sum_of which (reads s qs i) (all_answers g.lights s (name_at names.P) i)) s)
+masked (texture r k qs x) g c n s = masked x g c n (write c r (textured g.lines (g.images k) (reads s qs)) s)
 masked (branch (Uniform shape r) a b x) g c n s = masked x g c n (cond (is_true (s.shared shape r)) (masked a g c n s) (masked b g c n s))
 masked (branch (Varying shape r) a b x) g c n s = masked x g c n (both_parts (λ i. is_true (s.rows shape r i)) (masked a g c n) (masked b g c n) s)
 masked (loops u d t e a x) g c n s = masked x g c n (looped n c u (masked d g c n) t (masked e g c n) (masked a g c n) s)

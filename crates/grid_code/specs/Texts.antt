@@ -7,7 +7,7 @@ use Rattle.sl_ast.specs.declared.typed.Value.{Value}
 use Rattle.sl_ast.specs.declared.typed.Value.TheVariants.{Word}
 use Rattle.grid_code.specs.declared.code.Source.{Source}
 use Rattle.grid_code.specs.declared.code.Source.TheVariants.{Constant}
-use Rattle.grid_code.specs.Code.{Block, end, put, differ, sum, branch, loops, lights, breaks, continues}
+use Rattle.grid_code.specs.Code.{Block, end, put, differ, sum, texture, branch, loops, lights, breaks, continues}
 
 abbrev pub texts_of : Value → List (List ℕ)
 texts_of (Word w) = w ∷ []
@@ -26,6 +26,7 @@ texts_in end = []
 texts_in (put r o x) = texts_of_source o ++ texts_in x
 texts_in (differ r d q x) = texts_in x
 texts_in (sum r which qs x) = texts_in x
+texts_in (texture r k qs x) = texts_in x
 texts_in (branch t a b x) = texts_in a ++ (texts_in b ++ texts_in x)
 texts_in (loops u d t e a x) = texts_in d ++ (texts_in e ++ (texts_in a ++ texts_in x))
 texts_in (lights w qs a x) = texts_in a ++ texts_in x

@@ -7,11 +7,12 @@ use Rattle.sl_ast.specs.declared.kinds.LightStmt.TheVariants.{Illuminance, Illum
 use Rattle.builtins.specs.declared.shape.Shape.{Shape}
 use Rattle.builtins.specs.Values.{is_true, triple_of}
 use Rattle.builtins.specs.Differences.{difference}
+use Rattle.builtins.specs.Textures.{textured}
 use Rattle.builtins.specs.Lights.{is_in_cone, sum_of}
 use Rattle.grid_code.specs.declared.code.Register.{Register}
 use Rattle.grid_code.specs.declared.code.Register.TheVariants.{Uniform, Varying}
 use Rattle.grid_code.specs.Names.{name_at}
-use Rattle.grid_code.specs.Code.{Block, end, put, differ, sum, branch, loops, lights, breaks, continues}
+use Rattle.grid_code.specs.Code.{Block, end, put, differ, sum, texture, branch, loops, lights, breaks, continues}
 use Rattle.grid_code.specs.Masked.{Ground, State, any, read, reads, result_of, write, under, both_parts, one_part, take_turn, going, turn, turns_of, looped, all_answers, entered, views, kindled, from_light, over_lights, masked}
 
 -- a place's values of the varying registers, and its own budget, are as they were
@@ -61,6 +62,7 @@ taken end i g c n s = 0
 taken (put r o x) i g c n s = taken x i g c n (write c r (result_of o g s) s)
 taken (differ r d q x) i g c n s = taken x i g c n (write c r (difference d g.lines g.spaces.flip (read s q)) s)
 taken (sum r which qs x) i g c n s = taken x i g c n (write c r (λ j. sum_of which (reads s qs j) (all_answers g.lights s (name_at names.P) j)) s)
+taken (texture r k qs x) i g c n s = taken x i g c n (write c r (textured g.lines (g.images k) (reads s qs)) s)
 taken (branch (Uniform shape r) a b x) i g c n s =
     cond (is_true (s.shared shape r)) (taken a i g c n s) (taken b i g c n s) + taken x i g c n (cond (is_true (s.shared shape r)) (masked a g c n s) (masked b g c n s))
 taken (branch (Varying shape r) a b x) i g c n s =

@@ -15,7 +15,7 @@ use Rattle.grid_code.specs.declared.code.Source.TheVariants.{Constant, Copy, Int
 use Rattle.grid_code.specs.declared.register_set.RegisterSet.{RegisterSet}
 use Rattle.grid_code.specs.declared.slot.Slot.{Slot}
 use Rattle.grid_code.specs.Names.{reg, name_at, lit_at, first_free}
-use Rattle.grid_code.specs.Code.{Block, end, put, differ, sum, branch, loops, lights, breaks, continues}
+use Rattle.grid_code.specs.Code.{Block, end, put, differ, sum, texture, branch, loops, lights, breaks, continues}
 
 -- the numbers of a set's registers of that shape, and whether one is among them
 abbrev pub numbers_of : RegisterSet → Shape → List ℕ
@@ -64,11 +64,29 @@ within p end = true
 within p (put r o x) = p r && (source_within p o && within p x)
 within p (differ r d q x) = p r && (p q && within p x)
 within p (sum r which qs x) = p r && (list_all p qs && within p x)
+within p (texture r k qs x) = p r && (list_all p qs && within p x)
 within p (branch t a b x) = p t && (within p a && (within p b && within p x))
 within p (loops u d t e a x) = within p d && (p t && (within p e && (within p a && within p x)))
 within p (lights w qs a x) = list_all p qs && (within p a && within p x)
 within p (breaks x) = within p x
 within p (continues x) = within p x
+
+-- the numbers of the look-ups' nodes each pass a test
+abbrev pub looks_within : (ℕ → Bool) → Block → Bool
+looks_within p end = true
+looks_within p (put r o x) = looks_within p x
+looks_within p (differ r d q x) = looks_within p x
+looks_within p (sum r which qs x) = looks_within p x
+looks_within p (texture r k qs x) = p k && looks_within p x
+looks_within p (branch t a b x) = looks_within p a && (looks_within p b && looks_within p x)
+looks_within p (loops u d t e a x) = looks_within p d && (looks_within p e && (looks_within p a && looks_within p x))
+looks_within p (lights w qs a x) = looks_within p a && looks_within p x
+looks_within p (breaks x) = looks_within p x
+looks_within p (continues x) = looks_within p x
+
+-- a number is one of these
+abbrev pub is_one_of : List ℕ → ℕ → Bool
+is_one_of ks k = list_any (λ n. n == k) ks
 
 -- worked: a displacement has P, N, Ng, I, E, u, v, du, dv, s, t, Cs, Os, dPdu, dPdv and PI; a light PI, Ps, E, L, Cl, and whether it is lit
 abbrev of_displacement : length (kind_registers Displacement) ≡ 16

@@ -9,17 +9,21 @@ use Rattle.grid_code.specs.declared.code.Register.{Register}
 use Rattle.grid_code.specs.declared.code.Register.TheVariants.{Varying}
 use Rattle.grid_code.specs.declared.code.Source.{Source}
 use Rattle.grid_code.specs.declared.code.Source.TheVariants.{Constant, Copy, Into, Apply}
-use Rattle.grid_code.specs.Code.{Block, end, put, differ, sum, branch, loops, lights, breaks, continues}
+use Rattle.grid_code.specs.Code.{Block, end, put, differ, sum, texture, branch, loops, lights, breaks, continues}
 use Rattle.grid_code.specs.Masked.{same_shape}
 use Rattle.grid_code.specs.Shapes.{register_class, register_shape, difference_shape, source_shape}
 
--- operands: at most three, and one to three
+-- operands: at most three, three, and one to three
 abbrev pub at_most_three : List Register → Bool
 at_most_three [] = true
 at_most_three (a ∷ []) = true
 at_most_three (a ∷ b ∷ []) = true
 at_most_three (a ∷ b ∷ c ∷ []) = true
 at_most_three _ = false
+
+abbrev pub are_three : List Register → Bool
+are_three (a ∷ b ∷ c ∷ []) = true
+are_three _ = false
 
 abbrev pub one_to_three : List Register → Bool
 one_to_three [] = false
@@ -32,13 +36,14 @@ has_operands (Into s q) = true
 has_operands (Apply op qs) = one_to_three qs
 
 -- registers take values of their shape; operands are few; what is over lights stands in the kinds of shaders that have it; break and continue
--- stand in a loop, and differences in uniform control of a shader of surfaces. `l` says that the block stands in a loop, `u` that it does in
+-- stand in a loop, and differences and look-ups in uniform control of a shader of surfaces. `l` says that the block stands in a loop, `u` that it does in
 -- uniform control.
 abbrev pub is_placed : SlKind → Bool → Bool → Block → Bool
 is_placed k l u end = true
 is_placed k l u (put r o x) = same_shape (source_shape o) (register_shape r) && (has_operands o && is_placed k l u x)
 is_placed k l u (differ r d q x) = u && (has_surface k && (same_shape (difference_shape d (register_shape q)) (register_shape r) && is_placed k l u x))
 is_placed k l u (sum r which qs x) = is_surface k && (same_shape shapes.Triple (register_shape r) && (at_most_three qs && is_placed k l u x))
+is_placed k l u (texture r m qs x) = u && (has_surface k && (same_shape shapes.Triple (register_shape r) && (are_three qs && is_placed k l u x)))
 is_placed k l u (branch t a b x) = is_placed k l (u && register_class t) a && (is_placed k l (u && register_class t) b && is_placed k l u x)
 is_placed k l u (loops v d t e a x) = is_placed k false (u && v) d && (is_placed k false (u && v) e && (is_placed k true (u && v) a && is_placed k l u x))
 is_placed k l u (lights w qs a x) = has_lights k w && (at_most_three qs && (is_placed k l false a && is_placed k l u x))
@@ -51,6 +56,7 @@ nesting end = 0
 nesting (put r o x) = nesting x
 nesting (differ r d q x) = nesting x
 nesting (sum r which qs x) = nesting x
+nesting (texture r k qs x) = nesting x
 nesting (branch t a b x) = max (1 + max (nesting a) (nesting b)) (nesting x)
 nesting (loops u d t e a x) = max (1 + max (nesting d) (max (nesting e) (nesting a))) (nesting x)
 nesting (lights w qs a x) = max (1 + nesting a) (nesting x)
@@ -63,6 +69,7 @@ has_light_statement end = false
 has_light_statement (put r o x) = has_light_statement x
 has_light_statement (differ r d q x) = has_light_statement x
 has_light_statement (sum r which qs x) = has_light_statement x
+has_light_statement (texture r k qs x) = has_light_statement x
 has_light_statement (branch t a b x) = has_light_statement a || (has_light_statement b || has_light_statement x)
 has_light_statement (loops u d t e a x) = has_light_statement d || (has_light_statement e || (has_light_statement a || has_light_statement x))
 has_light_statement (lights w qs a x) = true
@@ -92,6 +99,12 @@ under_a_condition = refl
 
 abbrev of_a_light : is_placed Light false true a_difference ≡ false
 of_a_light = refl
+
+abbrev a_look_up : is_placed Surface false true (texture a_triple 0 (a_number ∷ a_number ∷ a_number ∷ []) end) ≡ true
+a_look_up = refl
+
+abbrev a_look_up_apart : is_placed Surface false false (texture a_triple 0 (a_number ∷ a_number ∷ a_number ∷ []) end) ≡ false
+a_look_up_apart = refl
 
 abbrev outside_loops : is_placed Surface false true (breaks end) ≡ false
 outside_loops = refl

@@ -10,6 +10,7 @@ abbrev mutual
   with_node (n.Put to source) x = c.put to source x
   with_node (n.Differ to difference of) x = c.differ to difference of x
   with_node (n.Sum to sum args) x = c.sum to sum args x
+  with_node (n.Texture to node args) x = c.texture to node args x
   with_node (n.If' test k then m otherwise) x = c.branch test (row_block then) (row_block otherwise) x
   with_node (n.Loop' uniform k ask test m step p body) x = c.loops uniform (row_block ask) test (row_block step) (row_block body) x
   with_node (n.Lights' over args k body) x = c.lights over args (row_block body) x

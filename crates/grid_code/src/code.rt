@@ -42,6 +42,12 @@ pub enum Node {
         sum: LightSum,
         args: List<Register>,
     },
+    /// A look-up of a texture, which that node of the typed tree names: the registers of its name, of s and of t.
+    Texture {
+        to: Register,
+        node: u32,
+        args: List<Register>,
+    },
     If {
         test: Register,
         then: List<Node>,

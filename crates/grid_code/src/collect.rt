@@ -81,7 +81,11 @@ fn collect_node<'a>(node: &'a Node, texts: &mut Vec<&'a Text, &'a Bump>) -> Resu
             collect(body.as_slice(), texts)
         }
         Node::Lights { body, .. } => collect(body.as_slice(), texts),
-        Node::Differ { .. } | Node::Sum { .. } | Node::Break | Node::Continue => Ok(()),
+        Node::Differ { .. }
+        | Node::Sum { .. }
+        | Node::Texture { .. }
+        | Node::Break
+        | Node::Continue => Ok(()),
     }
 }
 

@@ -4,6 +4,7 @@
 mod code;
 mod collect;
 mod laws;
+mod look_up_set;
 pub mod named;
 mod register_set;
 mod registers;
@@ -13,6 +14,7 @@ mod slot;
 pub use code::{Node, Register, Source};
 pub use collect::gather;
 pub use laws::{leaver_law, own_turns_law};
+pub use look_up_set::LookUpSet;
 pub use named::{register, register_of};
 pub use register_set::RegisterSet;
 pub use shader_code::Code;

@@ -1,11 +1,12 @@
 // The code of a shader.
 ghost use Rattle.std.specs.Prelude.{◌≡◌, ◌≤◌, true, false};
 ghost use Rattle.std.specs.List.{list_all};
-ghost use Rattle.grid_code.specs.Uses.{has, rows_in, given_registers, within};
+ghost use Rattle.grid_code.specs.Uses.{has, rows_in, given_registers, within, looks_within, is_one_of};
 ghost use Rattle.grid_code.specs.Valid.{is_placed, nesting, is_ambient};
 ghost use Rattle.grid_code.specs.View.{block_of};
 
 use crate::code::Node;
+use crate::look_up_set::LookUpSet;
 use crate::register_set::RegisterSet;
 use crate::slot::Slot;
 use fixed_math::List;
@@ -17,8 +18,8 @@ use sl_ast::SlKind;
 /// of its type's shape. The row of a varying register is its place among those of its shape in `varying`; a triple counts three rows, and
 /// there are at most 65,536. All registers that the kind of shader begins with and that the nodes name are there. Registers hold values of
 /// their shape alone. Blocks lie at most 1,024 deep in one another. Break and Continue stand in a loop, what is over lights in the kinds of
-/// shaders that have it, differences in uniform control of a surface or a displacement. `ambient` says that it is a light with neither
-/// `illuminate` nor `solar`.
+/// shaders that have it, differences and look-ups in uniform control of a surface or a displacement. `ambient` says that it is a light with
+/// neither `illuminate` nor `solar`. `look_ups` has the numbers of the nodes of all look-ups.
 #[derive(Drop)]
 pub struct Code {
     pub kind: SlKind,
@@ -27,12 +28,14 @@ pub struct Code {
     pub ambient: bool,
     pub varying: RegisterSet,
     pub uniform: RegisterSet,
+    pub look_ups: LookUpSet,
     pub ghost given: { list_all (has varying uniform) (given_registers kind params) ≡ true },
     pub ghost named: { within (has varying uniform) (block_of nodes) ≡ true },
     pub ghost placed: { is_placed kind false true (block_of nodes) ≡ true },
     pub ghost shallow: { nesting (block_of nodes) ≤ 1024 },
     pub ghost few: { rows_in varying ≤ 65536 },
     pub ghost lit: { ambient ≡ is_ambient kind (block_of nodes) },
+    pub ghost looked: { looks_within (is_one_of look_ups.nodes) (block_of nodes) ≡ true },
 }
 
 impl Code {

@@ -1,5 +1,5 @@
 -- What a run's machine has, by its frame.
-use Rattle.std.proofs.Common.{◌≡◌, ℕ, ◌-◌, true, false, List, ◌++◌, length, sym, subst, arith, length-append}
+use Rattle.std.proofs.Common.{◌≡◌, ℕ, ◌-◌, true, false, List, Option, ◌++◌, length, sym, subst, arith, length-append}
 use Rattle.std.specs.List.{list_all}
 use Rattle.sl_ast.specs.declared.typed.Value.{Value}
 use Rattle.grid_code.specs.declared.code.Register.{Register}
@@ -8,6 +8,7 @@ use Rattle.grid_code.specs.declared.shader_code.Code.{Code}
 use Rattle.grid_code.specs.View.{block_of}
 use Rattle.grid_code.specs.Masked.{Asked, Ground}
 use Rattle.builtins.specs.Differences.{Lines}
+use Rattle.texture.specs.Images.{Image}
 use Rattle.transforms.specs.declared.spaces.Spaces.{Spaces}
 use Rattle.grid_registers.specs.declared.frame.Frame.{Frame}
 use Rattle.grid_machine.specs.Fits.{OfCode}
@@ -42,5 +43,5 @@ module _ (f g : Frame) (code : Code) (vs : List Value) (e : f ≡ g) (of : OfCod
 pub joined_before : (xs ys : List Register) (a b : ℕ) → a ≡ length (xs ++ ys) → b ≡ length ys → a - b ≡ length xs
 joined_before xs ys a b h k = let e = length-append xs ys in omega arith
 
-abbrev pub ground_by : Lines → Spaces → List Asked → Ground
-ground_by lines spaces lights = record { lines = lines; spaces = spaces; lights = lights }
+abbrev pub ground_by : Lines → Spaces → List Asked → (ℕ → Option Image) → Ground
+ground_by lines spaces lights images = record { lines = lines; spaces = spaces; lights = lights; images = images }

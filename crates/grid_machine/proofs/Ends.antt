@@ -2,6 +2,7 @@
 use Rattle.std.proofs.Common.{◌≡◌, ℕ, ◌+◌, ◌*◌, ◌<◌, ℤ, true, List, [], ◌∷◌, sym, ap, ◌∙◌, subst}
 use Rattle.std.specs.Prelude.{◌&&◌}
 use Rattle.std.specs.List.{list_all}
+use Rattle.texture.specs.Images.{Image}
 use Rattle.sl_ast.specs.declared.kinds.SlKind.{SlKind}
 use Rattle.sl_ast.specs.declared.typed.Value.{Value}
 use Rattle.builtins.specs.declared.shape.Shape.TheVariants as shapes
@@ -20,10 +21,10 @@ use Rattle.grid_machine.specs.declared.machine.Machine.{Machine}
 use Rattle.grid_machine.specs.Ended.{ended_under}
 use Rattle.place_rows.specs.Layout.{row_length, height}
 use Rattle.grid_machine.specs.Run.{value_in, written_names, begun, HoldRows, Leaves}
-use Rattle.grid_machine.specs.State.{state_of, lit_ground, Near, NearIn, Kept}
+use Rattle.grid_machine.specs.State.{Beside, state_of, lit_ground, Near, NearIn, Kept}
 use Rattle.grid_machine.proofs.Near.{read_near}
 
-module _ (ls : List Asked) (f0 : Frame) (m k : Machine) (kind : SlKind) (params : List Slot) (vs : List Value) (rows : List ℤ) (x : Block) (w0 : Ground) (c : ℕ)
+module _ (ls : Beside) (f0 : Frame) (m k : Machine) (kind : SlKind) (params : List Slot) (vs : List Value) (rows : List ℤ) (x : Block) (w0 : Ground) (c : ℕ)
     (me : m.registers.frame.now ≡ f0) (kept : Kept m k) (ground_is : lit_ground ls f0 ≡ w0) (places_are : f0.places ≡ c) where
   abbrev pub AtEnd : State
   AtEnd = masked x w0 c 65536 (begun kind params c vs rows)
@@ -56,6 +57,6 @@ left_rows k kind g c out p q w same near names triples all width first second i 
     (one, (subst (λ s. value_in (register_shape q) out w (0 + height s * w + i) ≡ read g q i) (sym triples.0) other, tt)))
 
 -- the same for an equal number of places, and for equal lights
-pub leaves_by : (kind : SlKind) (out : List ℤ) (code : Code) (inputs : Inputs) (p c : ℕ) (ls ms : List Asked) → p ≡ c → ls ≡ ms → Leaves kind p out (ended_under ls code inputs) → Leaves kind c out (ended_under ms code inputs)
-leaves_by kind out code inputs p c ls ms places lights h =
-    subst (λ n. Leaves kind n out (ended_under ms code inputs)) places (subst (λ l. Leaves kind p out (ended_under l code inputs)) lights h)
+pub leaves_by : (kind : SlKind) (out : List ℤ) (code : Code) (inputs : Inputs) (p c : ℕ) (ls ms : List Asked) (ps : List Image) → p ≡ c → ls ≡ ms → Leaves kind p out (ended_under ls ps code inputs) → Leaves kind c out (ended_under ms ps code inputs)
+leaves_by kind out code inputs p c ls ms ps places lights h =
+    subst (λ n. Leaves kind n out (ended_under ms ps code inputs)) places (subst (λ l. Leaves kind p out (ended_under l ps code inputs)) lights h)

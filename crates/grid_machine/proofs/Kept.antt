@@ -9,14 +9,15 @@ use Rattle.place_rows.specs.declared.mask.Mask.{Mask}
 use Rattle.grid_machine.specs.declared.machine.Machine.{Machine}
 use Rattle.grid_registers.specs.declared.frame.Frame.{Frame}
 use Rattle.light_rows.specs.Seen.{Lighting}
-use Rattle.grid_machine.specs.State.{state_of, lit_ground, Performs, ReadyIn, HasRegister, Runs, Kept, Ready, Near}
+use Rattle.texture.specs.Images.{Image}
+use Rattle.grid_machine.specs.State.{Beside, beside, state_of, lit_ground, Performs, ReadyIn, HasRegister, Runs, Kept, Ready, Near}
 use Rattle.grid_machine.proofs.Near.{any_same}
 use Rattle.std.specs.Borrow.{Bor}
 
 pub kept_on : (a b d : Machine) → Kept a b → Kept b d → Kept a d
 kept_on a b d x y = record { frame = y.frame ∙ x.frame; whole = y.whole }
 
-abbrev pub StepsBy : List Asked → Bor Frame → ℕ → Block → State → State → Type 0
+abbrev pub StepsBy : Beside → Bor Frame → ℕ → Block → State → State → Type 0
 StepsBy ls f n x s s' = Performs (lit_ground ls f.now) f.now.places f.now.varying.now f.now.uniform.now n x s s'
 
 pub places_kept : (a b : Machine) (x y : Lighting) → Kept a b → y ≡ x → x.places ≡ a.registers.frame.now.places → y.places ≡ b.registers.frame.now.places
@@ -29,7 +30,10 @@ ready_kept a b x k h = subst (λ f. Ready f.now.varying.now f.now.uniform.now f.
 pub has_kept : (a b : Machine) (r : Register) → Kept a b → HasRegister a r → HasRegister b r
 has_kept a b r k h = subst (λ f. has f.now.varying.now f.now.uniform.now r ≡ true) (sym k.frame) h
 
-pub runs_kept : (ls ls' : List Asked) (a b d : Machine) (n : ℕ) (x : Block) → Kept a b → ls' ≡ ls → Runs ls' n x b d → StepsBy ls a.registers.frame n x (state_of b) (state_of d)
+pub beside_same : {ls ls' : List Asked} {ps ps' : List Image} → ls' ≡ ls → ps' ≡ ps → beside ls' ps' ≡ beside ls ps
+beside_same {ls} {ls'} {ps} {ps'} h k = ap (λ l. beside l ps') h ∙ ap (beside ls) k
+
+pub runs_kept : (ls ls' : Beside) (a b d : Machine) (n : ℕ) (x : Block) → Kept a b → ls' ≡ ls → Runs ls' n x b d → StepsBy ls a.registers.frame n x (state_of b) (state_of d)
 runs_kept ls ls' a b d n x k e h = subst (λ fs. StepsBy fs a.registers.frame n x (state_of b) (state_of d)) e (subst (λ f. StepsBy ls' f n x (state_of b) (state_of d)) k.frame h)
 
 -- a machine with another mask is as whole

@@ -20,3 +20,4 @@ mod Roomy
 mod HeldReads
 mod Live
 mod Lanterns
+pub mod LookUps

@@ -18,7 +18,7 @@ use Rattle.grid_code.specs.Masked.{Asked, State, Ground, read, reads, under, one
 use Rattle.grid_code.specs.Names.{name_at}
 use Rattle.grid_code.specs.Uses.{has}
 use Rattle.light_rows.specs.Seen.{unasked, shown_by, AtPlaces}
-use Rattle.grid_machine.specs.State.{state_of, lit_ground, Near, Performs, Kept}
+use Rattle.grid_machine.specs.State.{Beside, state_of, lit_ground, Near, Performs, Kept}
 use Rattle.grid_machine.specs.Writes.{aimed_at, RunsLit}
 use Rattle.grid_machine.specs.declared.machine.Machine.{Machine}
 use Rattle.grid_machine.proofs.Kept.{NearBy}
@@ -83,6 +83,6 @@ module _ (c : ℕ) (v z : RegisterSet) (g m : State) (place : Register) (cone : 
   in_cone_near i l = ap (λ vs. is_in_cone vs (from_light g place i)) (reads_near c v z g m cone i near has_cone l) ∙ ap (is_in_cone (reads m cone i)) (from_near i l)
 
 -- a block under a light's own directions, by an equal frame
-pub lit_kept : (ls : List Asked) (n : ℕ) (x : Block) (seen : List Bool) (a b d : Machine) → Kept a b → RunsLit ls n x seen b d → (g : State) (p : ℕ → Bool) (f : ℕ → Vec3) → NearBy a.registers.frame g (state_of b) → AtPlaces a.registers.frame.now.places p (λ i. get_or seen i false) → AtPlaces a.registers.frame.now.places f (aimed_at b) → NearBy a.registers.frame (illuminated a.registers.frame.now.places p f (masked x (lit_ground ls a.registers.frame.now) a.registers.frame.now.places n) g) (state_of d)
+pub lit_kept : (ls : Beside) (n : ℕ) (x : Block) (seen : List Bool) (a b d : Machine) → Kept a b → RunsLit ls n x seen b d → (g : State) (p : ℕ → Bool) (f : ℕ → Vec3) → NearBy a.registers.frame g (state_of b) → AtPlaces a.registers.frame.now.places p (λ i. get_or seen i false) → AtPlaces a.registers.frame.now.places f (aimed_at b) → NearBy a.registers.frame (illuminated a.registers.frame.now.places p f (masked x (lit_ground ls a.registers.frame.now) a.registers.frame.now.places n) g) (state_of d)
 lit_kept ls n x seen a b d k h =
     subst (λ r. (g : State) (p : ℕ → Bool) (f : ℕ → Vec3) → NearBy r g (state_of b) → AtPlaces r.now.places p (λ i. get_or seen i false) → AtPlaces r.now.places f (aimed_at b) → NearBy r (illuminated r.now.places p f (masked x (lit_ground ls r.now) r.now.places n) g) (state_of d)) k.frame h

@@ -1,15 +1,18 @@
 -- Nodes and blocks over states that are the same on the grid.
 use Rattle.std.proofs.Common.{◌≡◌, ℕ, ◌+◌, ◌*◌, ◌<◌, ◌≤◌, Bool, true, false, List, length, get_or, drop, refl, sym, ap, ◌∙◌, arith, subst, ⊎_elim, true≢false}
 use Rattle.std.specs.Borrow.{Bor}
+use Rattle.std.specs.List.{list_all}
 use Rattle.builtins.specs.Differences.{difference}
+use Rattle.builtins.specs.Textures.{textured}
+use Rattle.builtins.proofs.Places.{same_textured}
 use Rattle.sl_ast.specs.declared.operations.Difference.{Difference}
 use Rattle.grid_code.specs.declared.code.Register.{Register}
 use Rattle.grid_code.specs.declared.code.Source.{Source}
 use Rattle.grid_code.specs.declared.code.Source.TheVariants.{Constant, Copy, Into, Apply}
 use Rattle.builtins.specs.Table.{applied}
 use Rattle.grid_code.specs.declared.register_set.RegisterSet.{RegisterSet}
-use Rattle.grid_code.specs.declared.code.Node.{Node, Put, Differ, Sum, If', Loop', Lights', Break, Continue}
-use Rattle.grid_code.specs.Code.{Block, end, put, differ, ◌then◌}
+use Rattle.grid_code.specs.declared.code.Node.{Node, Put, Differ, Sum, Texture, If', Loop', Lights', Break, Continue}
+use Rattle.grid_code.specs.Code.{Block, end, put, differ, texture, ◌then◌}
 use Rattle.grid_code.specs.View.{with_node, block_of}
 use Rattle.grid_code.specs.Uses.{has}
 use Rattle.grid_code.specs.Masked.{State, Ground, any, read, reads, result_of, write, masked}
@@ -19,12 +22,13 @@ use Rattle.grid_code.proofs.Blocks.{block_size, node_size, next_node, none_left}
 use Rattle.std.proofs.lemmas.Bool.{cases_Bool}
 use Rattle.place_rows.proofs.Sets.{any_true}
 use Rattle.grid_machine.specs.State.{Near, Performs, Ready, SourceReady}
-use Rattle.grid_machine.proofs.Near.{near_on, read_near, result_near, difference_near, write_near}
+use Rattle.grid_machine.proofs.Near.{near_on, read_near, reads_near, result_near, difference_near, write_near}
 
 node_then : (x : Node) (y : Block) → with_node x end then y ≡ with_node x y
 node_then (Put to source) y = refl
 node_then (Differ to d q) y = refl
 node_then (Sum to s qs) y = refl
+node_then (Texture to k qs) y = refl
 node_then (If' t k a m b) y = refl
 node_then (Loop' u k a t m s p b) y = refl
 node_then (Lights' w qs k b) y = refl
@@ -39,6 +43,7 @@ module _ (v z : RegisterSet) (ts : List (Bor (List ℕ))) where
   node_ready (Put to source) rest h = ((h.0, (h.1.0, (h.1.1.0, tt))), h.1.1.1)
   node_ready (Differ to d q) rest h = ((h.0, (h.1.0, (h.1.1.0, tt))), h.1.1.1)
   node_ready (Sum to s qs) rest h = ((h.0, (h.1.0, (h.1.1.0, (h.1.1.1.0, tt)))), h.1.1.1.1)
+  node_ready (Texture to k qs) rest h = ((h.0, (h.1.0, (h.1.1.0, (h.1.1.1.0, tt)))), h.1.1.1.1)
   node_ready (If' t k a m b) rest h = ((h.0, (h.1.0, (h.1.1.0, tt))), h.1.1.1)
   node_ready (Loop' u k a t m s p b) rest h = ((h.0, (h.1.0, (h.1.1.0, (h.1.1.1.0, tt)))), h.1.1.1.1)
   node_ready (Lights' w qs k b) rest h = ((h.0, (h.1.0, (h.1.1.0, tt))), h.1.1.1)
@@ -93,6 +98,11 @@ put_steps w w0 c v z n ts t o s s' e pos x near g ng =
 pub differ_steps : (w : Ground) (c : ℕ) (v z : RegisterSet) (n : ℕ) (t : Register) (d : Difference) (q : Register) (s s' : State) → 0 < c → c ≡ w.lines.columns * w.lines.rows → 2 ≤ w.lines.columns → 2 ≤ w.lines.rows → has v z q ≡ true → Near c v z (write c t (difference d w.lines w.spaces.flip (read s q)) s) s' → Performs w c v z n (differ t d q end) s s'
 differ_steps w c v z n t d q s s' pos shape wide tall x near g ng =
     near_on c v z _ _ _ (write_near c v z t _ _ g s pos ng (λ i l. difference_near w.lines c (read g q) (read s q) shape wide tall (λ j b. read_near c v z g s q j ng x b) i l d w.spaces.flip)) near
+
+pub texture_steps : (w : Ground) (c : ℕ) (v z : RegisterSet) (n : ℕ) (t : Register) (k : ℕ) (qs : List Register) (s s' : State) → 0 < c → c ≡ w.lines.columns * w.lines.rows → 2 ≤ w.lines.columns → 2 ≤ w.lines.rows → list_all (has v z) qs ≡ true → Near c v z (write c t (textured w.lines (w.images k) (reads s qs)) s) s' → Performs w c v z n (texture t k qs end) s s'
+texture_steps w c v z n t k qs s s' pos shape wide tall x near g ng =
+    near_on c v z _ _ _ (write_near c v z t _ _ g s pos ng (λ i l. same_textured w.lines wide tall (w.images k) (reads g qs) (reads s qs)
+    (λ j b. reads_near c v z g s qs j ng x (subst (λ m. j < m) (sym shape) b)) i (subst (λ m. i < m) shape l))) near
 
 -- where no place is live, a block leaves all as it is
 dead_at : (c : ℕ) (p : ℕ → Bool) → any c p ≡ false → (i : ℕ) → i < c → p i ≡ false

@@ -18,11 +18,11 @@ use Rattle.sl_ast.specs.Names.{has_surface, is_surface, is_light, has_lights}
 use Rattle.grid_code.specs.declared.code.Source.{Source}
 use Rattle.grid_code.specs.declared.code.Source.TheVariants.{Constant, Copy, Into, Apply}
 use Rattle.grid_code.specs.declared.register_set.RegisterSet.{RegisterSet}
-use Rattle.grid_code.specs.Code.{Block, end, put, differ, sum, branch, loops, lights, breaks, continues}
+use Rattle.grid_code.specs.Code.{Block, end, put, differ, sum, texture, branch, loops, lights, breaks, continues}
 use Rattle.grid_code.specs.Masked.{same_shape}
 use Rattle.grid_code.specs.Shapes.{register_class, register_shape, difference_shape, source_shape}
 use Rattle.grid_code.specs.Uses.{has, within, source_within, names_at, kind_registers}
-use Rattle.grid_code.specs.Valid.{is_placed, has_operands, at_most_three}
+use Rattle.grid_code.specs.Valid.{is_placed, has_operands, at_most_three, are_three}
 use Rattle.grid_code.proofs.Both.{both, left, right}
 use Rattle.grid_code.specs.Texts.{texts_of, texts_of_all, texts_of_source, texts_in, is_in_texts, HasTexts}
 use Rattle.place_values.specs.Cells.{is_known}
@@ -159,6 +159,19 @@ module _ (v u : RegisterSet) (ts : List (Bor (List ℕ))) (k : SlKind) (all : li
           (
             points_pass (has v u) k (left (is_surface k) _ p) all,
             (shape_eq _ _ (left (same_shape shapes.Triple (register_shape r)) _ p2), ready_of l c x (right (list_all (has v u) qs) _ w2) (right (at_most_three qs) _ p3) h),
+          ),
+        ),
+      )
+  ready_of l c (texture r m qs x) w p h =
+      let w2 = right (has v u r) _ w in
+      let p3 = right (has_surface k) _ (right c _ p) in
+      let p4 = right (same_shape shapes.Triple (register_shape r)) _ p3 in (
+        left (has v u r) _ w,
+        (
+          left (list_all (has v u) qs) _ w2,
+          (
+            left (are_three qs) _ p4,
+            (shape_eq _ _ (left (same_shape shapes.Triple (register_shape r)) _ p3), ready_of l c x (right (list_all (has v u) qs) _ w2) (right (are_three qs) _ p4) h),
           ),
         ),
       )

@@ -1,5 +1,5 @@
--- What lights answer: the code of each runs at all places at once, with the points in Ps, budgets of its own, all places live, and no lights.
-use Rattle.std.specs.Prelude.{ℕ, Bool, true, false, cond, List, [], map, ◌≡◌}
+-- What lights answer: the code of each runs at all places at once, with the points in Ps, budgets of its own, all places live, no lights and no textures.
+use Rattle.std.specs.Prelude.{ℕ, Bool, true, false, cond, List, [], map, None, ◌≡◌}
 use Rattle.std.specs.List.{range_with_len}
 use Rattle.fixed_math.specs.declared.vec3.Vec3.{Vec3}
 use Rattle.transforms.specs.declared.spaces.Spaces.{Spaces}
@@ -33,7 +33,7 @@ begun_at params c values q =
 
 abbrev pub asked : Lines → ℕ → Spaces → Code → List Value → Asked
 asked lines c spaces code values q i =
-    answer_at (has_light_statement (block_of code.nodes)) (masked (block_of code.nodes) record { lines = lines; spaces = spaces; lights = [] } c 65536 (begun_at code.params c values q)) i
+    answer_at (has_light_statement (block_of code.nodes)) (masked (block_of code.nodes) record { lines = lines; spaces = spaces; lights = []; images = λ k. None } c 65536 (begun_at code.params c values q)) i
 
 -- so many lights, each by its spaces, its code and the values of its parameters
 abbrev pub asked_all : Lines → ℕ → ℕ → (ℕ → Spaces) → (ℕ → Code) → (ℕ → List Value) → List Asked

@@ -23,6 +23,7 @@ pub record IsPrepared (p : Prepared) (k : Code) (g : Inputs) : Type 0 where
   pub lines : lines_of p.frame.now ≡ lines_given g.columns g.rows k.params g.uniforms.now
   pub code : OfCode p.frame.now k g.uniforms.now
   pub spaces : p.frame.now.setting.spaces.now ≡ g.spaces.now
+  pub entries : p.frame.now.entries.now ≡ g.look_ups.now
   pub uniforms : p.uniforms.now ≡ uniform_inputs k.kind k.params
   pub varyings : p.varyings.now ≡ varying_inputs k.kind k.params
 

@@ -2,6 +2,7 @@
 use Rattle.std.specs.Prelude.{◌≡◌, ℕ, ◌<◌, Bool, true, false, List, [], ◌∷◌, length, get_or}
 use Rattle.std.specs.List.{list_all}
 use Rattle.std.specs.Borrow.{Bor}
+use Rattle.texture.specs.Images.{Image}
 use Rattle.sl_ast.specs.declared.kinds.LightStmt.{LightStmt}
 use Rattle.sl_ast.specs.declared.kinds.LightStmt.TheVariants.{Illuminance, Illuminate, Solar}
 use Rattle.sl_ast.specs.declared.kinds.Predefined.TheVariants as names
@@ -10,14 +11,15 @@ use Rattle.builtins.specs.declared.shape.Shape.TheVariants as shapes
 use Rattle.grid_code.specs.declared.code.Register.{Register}
 use Rattle.grid_code.specs.declared.code.Register.TheVariants.{Uniform, Varying}
 use Rattle.grid_code.specs.declared.register_set.RegisterSet.{RegisterSet}
-use Rattle.grid_code.specs.Code.{Block, end, put, differ, sum, branch, loops, lights, breaks, continues}
+use Rattle.grid_code.specs.Code.{Block, end, put, differ, sum, texture, branch, loops, lights, breaks, continues}
 use Rattle.grid_code.specs.Shapes.{register_shape, difference_shape, source_shape}
 use Rattle.grid_code.specs.Uses.{has}
+use Rattle.grid_code.specs.Valid.{are_three}
 use Rattle.grid_code.specs.Masked.{Asked, State, Ground, turns_of, masked}
 use Rattle.grid_code.specs.Names.{name_at, lit_at}
 use Rattle.place_rows.specs.Banks.{size}
 pub use Rattle.grid_registers.specs.Held.{rank, texts_of, held_by, Full, Sized}
-pub use Rattle.grid_registers.specs.Frames.{lines_of, ground_of}
+pub use Rattle.grid_registers.specs.Frames.{lines_of, ground_of, images_of}
 pub use Rattle.grid_registers.specs.Sources.{SourceReady, source_known}
 use Rattle.grid_registers.specs.declared.frame.Frame.{Frame}
 use Rattle.grid_machine.specs.declared.machine.Machine.{Machine}
@@ -31,9 +33,17 @@ state_of m =
       staying = λ i. get_or m.staying.places i false;
     }
 
--- where code stands under lights
-abbrev pub lit_ground : List Asked → Frame → Ground
-lit_ground ls f = record { lines = lines_of f; spaces = f.setting.spaces.now; lights = ls }
+-- what stands beside a machine: lights, and the images of textures
+pub record Beside : Type 0 where
+  pub lights : List Asked
+  pub images : List Image
+
+abbrev pub beside : List Asked → List Image → Beside
+beside ls ps = record { lights = ls; images = ps }
+
+-- where code stands beside these
+abbrev pub lit_ground : Beside → Frame → Ground
+lit_ground b f = record { lines = lines_of f; spaces = f.setting.spaces.now; lights = b.lights; images = images_of f b.images }
 
 -- the same registers, at places below a number
 pub record Near (c : ℕ) (varying uniform : RegisterSet) (g h : State) : Type 0 where
@@ -67,6 +77,7 @@ Ready v u ts end = Unit {0}
 Ready v u ts (put r o x) = (has v u r ≡ true) × (SourceReady v u ts o × ((source_shape o ≡ register_shape r) × Ready v u ts x))
 Ready v u ts (differ r d q x) = (has v u r ≡ true) × ((has v u q ≡ true) × ((difference_shape d (register_shape q) ≡ register_shape r) × Ready v u ts x))
 Ready v u ts (sum r which qs x) = (has v u r ≡ true) × ((list_all (has v u) qs ≡ true) × ((has v u (name_at names.P) ≡ true) × ((shapes.Triple ≡ register_shape r) × Ready v u ts x)))
+Ready v u ts (texture r k qs x) = (has v u r ≡ true) × ((list_all (has v u) qs ≡ true) × ((are_three qs ≡ true) × ((shapes.Triple ≡ register_shape r) × Ready v u ts x)))
 Ready v u ts (branch t a b x) = (has v u t ≡ true) × (Ready v u ts a × (Ready v u ts b × Ready v u ts x))
 Ready v u ts (loops w d t e a x) = Ready v u ts d × ((has v u t ≡ true) × (Ready v u ts e × (Ready v u ts a × Ready v u ts x)))
 Ready v u ts (lights w qs a x) = (list_all (has v u) qs ≡ true) × ((list_all (has v u) (lights_registers w) ≡ true) × (Ready v u ts a × Ready v u ts x))
@@ -90,8 +101,8 @@ HasRegister m r = has m.registers.frame.now.varying.now m.registers.frame.now.un
 abbrev pub NearIn : Machine → State → State → Type 0
 NearIn m g h = Near m.registers.frame.now.places m.registers.frame.now.varying.now m.registers.frame.now.uniform.now g h
 
-abbrev pub Runs : List Asked → ℕ → Block → Machine → Machine → Type 0
+abbrev pub Runs : Beside → ℕ → Block → Machine → Machine → Type 0
 Runs ls n x m k = Performs (lit_ground ls m.registers.frame.now) m.registers.frame.now.places m.registers.frame.now.varying.now m.registers.frame.now.uniform.now n x (state_of m) (state_of k)
 
-abbrev pub RunsTurns : List Asked → ℕ → Bool → Block → Register → Block → Block → Machine → Machine → Type 0
+abbrev pub RunsTurns : Beside → ℕ → Bool → Block → Register → Block → Block → Machine → Machine → Type 0
 RunsTurns ls n uniform ask test step body m k = PerformsTurns (lit_ground ls m.registers.frame.now) m.registers.frame.now.places m.registers.frame.now.varying.now m.registers.frame.now.uniform.now n uniform ask test step body (state_of m) (state_of k)

@@ -8,7 +8,7 @@ use Rattle.grid_code.specs.declared.code.Register.{Register}
 use Rattle.grid_code.specs.declared.shader_code.Code.{Code}
 use Rattle.grid_code.specs.declared.slot.Slot.{Slot}
 use Rattle.grid_code.specs.Code.{Block}
-use Rattle.grid_code.specs.Masked.{Asked, State, write, take_turn, entered, kindled, illuminated, masked}
+use Rattle.grid_code.specs.Masked.{State, write, take_turn, entered, kindled, illuminated, masked}
 use Rattle.light_rows.specs.Seen.{AtPlaces, IsAnswer}
 use Rattle.light_rows.specs.declared.answers.Answers.{Answers}
 use Rattle.light_rows.specs.declared.viewing.View.{View}
@@ -18,7 +18,7 @@ pub use Rattle.grid_registers.specs.Held.{HoldsRow, HoldsEach}
 use Rattle.grid_machine.specs.declared.machine.Machine.{Machine}
 use Rattle.grid_machine.specs.Asked.{asked}
 use Rattle.grid_machine.specs.Run.{begun}
-use Rattle.grid_machine.specs.State.{state_of, lines_of, lit_ground, NearIn}
+use Rattle.grid_machine.specs.State.{Beside, state_of, lines_of, lit_ground, NearIn}
 
 -- a register takes a function's values
 abbrev pub Writes : Machine → Register → (ℕ → Value) → Machine → Type 0
@@ -43,7 +43,7 @@ abbrev pub Kindles : Machine → Machine → Type 0
 Kindles m k = (g : State) (f : ℕ → Vec3) → NearIn m g (state_of m) → AtPlaces m.registers.frame.now.places f (aimed_at m) → NearIn m (kindled m.registers.frame.now.places f g) (state_of k)
 
 -- a block that runs under a light's own directions, where they are seen
-abbrev pub RunsLit : List Asked → ℕ → Block → List Bool → Machine → Machine → Type 0
+abbrev pub RunsLit : Beside → ℕ → Block → List Bool → Machine → Machine → Type 0
 RunsLit ls n x seen m k =
     (g : State) (p : ℕ → Bool) (f : ℕ → Vec3) → NearIn m g (state_of m) → AtPlaces m.registers.frame.now.places p (λ i. get_or seen i false) → AtPlaces m.registers.frame.now.places f (aimed_at m) → NearIn m (illuminated m.registers.frame.now.places p f (masked x (lit_ground ls m.registers.frame.now) m.registers.frame.now.places n) g) (state_of k)
 
@@ -57,6 +57,6 @@ AnswersAsked m code values points out =
     (q : ℕ → Vec3) → AtPlaces m.registers.frame.now.places q points → (i : ℕ) → i < m.registers.frame.now.places → IsAnswer out i (asked (lines_of m.registers.frame.now) m.registers.frame.now.places m.registers.frame.now.setting.spaces.now code values q i)
 
 -- a run of a kind's code with its values and rows
-abbrev pub RunsWhole : List Asked → SlKind → List Slot → Block → List Value → List ℤ → Machine → Machine → Type 0
+abbrev pub RunsWhole : Beside → SlKind → List Slot → Block → List Value → List ℤ → Machine → Machine → Type 0
 RunsWhole ls kind params x values rows m k =
     NearIn m (masked x (lit_ground ls m.registers.frame.now) m.registers.frame.now.places 65536 (begun kind params m.registers.frame.now.places values rows)) (state_of k)

@@ -16,6 +16,7 @@ use crate::blocks::run_block;
 use crate::held::{numbers_of, triples_of};
 use crate::machine::Machine;
 use grid_code::{Code, Register, named};
+use grid_registers::NoTextures;
 use light_rows::{Answers, Dark};
 use number_rows::Planes;
 use sl_ast::Value;
@@ -67,7 +68,13 @@ impl Machine<'_> {
         self.set_triples(named::PS, points);
         let places = self.registers.frame.places;
         let mut dark = Dark { places, many: 0 };
-        run_block(code.nodes.as_slice(), self, &mut dark, 65536);
+        run_block(
+            code.nodes.as_slice(),
+            self,
+            &mut dark,
+            &mut NoTextures,
+            65536,
+        );
         self.answer(answers);
     }
 }

@@ -8,46 +8,62 @@ ghost use Rattle.grid_code.specs.Code.{end, branch};
 ghost use Rattle.grid_code.specs.Names.{name_at, lit_at};
 ghost use Rattle.grid_code.specs.Uses.{has};
 ghost use Rattle.grid_code.specs.View.{with_node, block_of};
-ghost use Rattle.grid_machine.specs.State.{lights_registers, HasRegister, ReadyIn, Runs, RunsTurns, Whole, Kept};
+ghost use Rattle.grid_machine.specs.State.{beside, lights_registers, HasRegister, ReadyIn, Runs, RunsTurns, Whole, Kept};
 ghost use Rattle.grid_machine.specs.Writes.{RunsLit};
 
 use crate::held::scope_of;
 use crate::machine::Machine;
 use grid_code::{Node, Register};
+use grid_registers::Textures;
 use light_rows::Illumination;
 use place_rows::Mask;
 use sl_ast::LightStmt;
 
 /// Runs a block: what each node does, one after another. A loop has at most that many turns. Where no place is live, a block does nothing.
 #[cycle(run)]
-pub fn run_block<L: Illumination>(block: &[Node], m: &mut Machine, lights: &mut L, most: u32)
+pub fn run_block<L: Illumination, T: Textures>(
+    block: &[Node],
+    m: &mut Machine,
+    lights: &mut L,
+    textures: &mut T,
+    most: u32,
+)
     requires whole { Whole m.old }
     requires ready { ReadyIn m.old (block_of block.now) }
     requires places { (L.lighting lights.old).places ≡ m.old.registers.frame.now.places }
     ensures kept { Kept m.old m.new }
     ensures same { L.lighting lights.new ≡ L.lighting lights.old }
-    ensures masked { Runs (L.lighting lights.old).lights most (block_of block.now) m.old m.new }
+    ensures images { T.images textures.new ≡ T.images textures.old }
+    ensures masked { Runs (beside (L.lighting lights.old).lights (T.images textures.old)) most (block_of block.now) m.old m.new }
 {
     if m.live.any(m.registers.frame.places) {
         for node in block {
-            run_node(node, m, lights, most);
+            run_node(node, m, lights, textures, most);
         }
     }
 }
 
 #[cycle(run)]
-fn run_node<L: Illumination>(node: &Node, m: &mut Machine, lights: &mut L, most: u32)
+fn run_node<L: Illumination, T: Textures>(
+    node: &Node,
+    m: &mut Machine,
+    lights: &mut L,
+    textures: &mut T,
+    most: u32,
+)
     requires whole { Whole m.old }
     requires ready { ReadyIn m.old (with_node node.now end) }
     requires places { (L.lighting lights.old).places ≡ m.old.registers.frame.now.places }
     ensures kept { Kept m.old m.new }
     ensures same { L.lighting lights.new ≡ L.lighting lights.old }
-    ensures masked { Runs (L.lighting lights.old).lights most (with_node node.now end) m.old m.new }
+    ensures images { T.images textures.new ≡ T.images textures.old }
+    ensures masked { Runs (beside (L.lighting lights.old).lights (T.images textures.old)) most (with_node node.now end) m.old m.new }
 {
     match node {
         Node::Put { to, source } => m.put(*to, source),
         Node::Differ { to, difference, of } => m.differ(*to, *difference, *of),
         Node::Sum { to, sum, args } => m.sum(*to, *sum, args.as_slice(), lights),
+        Node::Texture { to, node, args } => m.look_up(*to, *node, args.as_slice(), textures),
         Node::If {
             test,
             then,
@@ -58,6 +74,7 @@ fn run_node<L: Illumination>(node: &Node, m: &mut Machine, lights: &mut L, most:
             otherwise.as_slice(),
             m,
             lights,
+            textures,
             most,
         ),
         Node::Loop {
@@ -76,13 +93,22 @@ fn run_node<L: Illumination>(node: &Node, m: &mut Machine, lights: &mut L, most:
                 body.as_slice(),
                 m,
                 lights,
+                textures,
                 most,
             );
             m.live = live;
             m.staying = staying;
         }
         Node::Lights { over, args, body } => {
-            run_lights(*over, args.as_slice(), body.as_slice(), m, lights, most)
+            run_lights(
+                *over,
+                args.as_slice(),
+                body.as_slice(),
+                m,
+                lights,
+                textures,
+                most,
+            )
         }
         Node::Break => m.leave(),
         Node::Continue => m.skip(),
@@ -90,12 +116,13 @@ fn run_node<L: Illumination>(node: &Node, m: &mut Machine, lights: &mut L, most:
 }
 
 #[cycle(run)]
-fn run_branch<L: Illumination>(
+fn run_branch<L: Illumination, T: Textures>(
     test: Register,
     then: &[Node],
     otherwise: &[Node],
     m: &mut Machine,
     lights: &mut L,
+    textures: &mut T,
     most: u32,
 )
     requires whole { Whole m.old }
@@ -105,14 +132,15 @@ fn run_branch<L: Illumination>(
     requires places { (L.lighting lights.old).places ≡ m.old.registers.frame.now.places }
     ensures kept { Kept m.old m.new }
     ensures same { L.lighting lights.new ≡ L.lighting lights.old }
-    ensures masked { Runs (L.lighting lights.old).lights most (branch test (block_of then.now) (block_of otherwise.now) end) m.old m.new }
+    ensures images { T.images textures.new ≡ T.images textures.old }
+    ensures masked { Runs (beside (L.lighting lights.old).lights (T.images textures.old)) most (branch test (block_of then.now) (block_of otherwise.now) end) m.old m.new }
 {
     match test {
         Register::Uniform(_, _) => {
             if m.holds(test) {
-                run_block(then, m, lights, most);
+                run_block(then, m, lights, textures, most);
             } else {
-                run_block(otherwise, m, lights, most);
+                run_block(otherwise, m, lights, textures, most);
             }
         }
         Register::Varying(_, _) => {
@@ -120,17 +148,17 @@ fn run_branch<L: Illumination>(
             let set = m.tests(test);
             let live = m.live;
             m.live = live.and(&set, count);
-            run_block(then, m, lights, most);
+            run_block(then, m, lights, textures, most);
             let after = m.live;
             m.live = live.without(&set, count);
-            run_block(otherwise, m, lights, most);
+            run_block(otherwise, m, lights, textures, most);
             m.live = after.or(&m.live, count);
         }
     }
 }
 
 #[cycle(run)]
-fn run_loop<L: Illumination>(
+fn run_loop<L: Illumination, T: Textures>(
     uniform: bool,
     ask: &[Node],
     test: Register,
@@ -138,6 +166,7 @@ fn run_loop<L: Illumination>(
     body: &[Node],
     m: &mut Machine,
     lights: &mut L,
+    textures: &mut T,
     most: u32,
 )
     requires whole { Whole m.old }
@@ -148,30 +177,32 @@ fn run_loop<L: Illumination>(
     requires places { (L.lighting lights.old).places ≡ m.old.registers.frame.now.places }
     ensures kept { Kept m.old m.new }
     ensures same { L.lighting lights.new ≡ L.lighting lights.old }
-    ensures turns { RunsTurns (L.lighting lights.old).lights most uniform (block_of ask.now) test (block_of step.now) (block_of body.now) m.old m.new }
+    ensures images { T.images textures.new ≡ T.images textures.old }
+    ensures turns { RunsTurns (beside (L.lighting lights.old).lights (T.images textures.old)) most uniform (block_of ask.now) test (block_of step.now) (block_of body.now) m.old m.new }
 {
     for _turn in 0..most {
-        run_block(ask, m, lights, most);
+        run_block(ask, m, lights, textures, most);
         let going = m.going(uniform, test);
         if !going.any(m.registers.frame.places) {
             return;
         }
         m.begin_turn(uniform, &going);
-        run_block(body, m, lights, most);
+        run_block(body, m, lights, textures, most);
         m.live = m.staying;
-        run_block(step, m, lights, most);
+        run_block(step, m, lights, textures, most);
     }
-    run_block(ask, m, lights, most);
+    run_block(ask, m, lights, textures, most);
 }
 
 // The body of a statement over lights: of `illuminance` once for each light, of `illuminate` and `solar` where the light is lit.
 #[cycle(run)]
-fn run_lights<L: Illumination>(
+fn run_lights<L: Illumination, T: Textures>(
     over: LightStmt,
     args: &[Register],
     body: &[Node],
     m: &mut Machine,
     lights: &mut L,
+    textures: &mut T,
     most: u32,
 )
     requires whole { Whole m.old }
@@ -181,19 +212,20 @@ fn run_lights<L: Illumination>(
     requires places { (L.lighting lights.old).places ≡ m.old.registers.frame.now.places }
     ensures kept { Kept m.old m.new }
     ensures same { L.lighting lights.new ≡ L.lighting lights.old }
-    ensures masked { Runs (L.lighting lights.old).lights most (code.lights over args.now (block_of body.now) end) m.old m.new }
+    ensures images { T.images textures.new ≡ T.images textures.old }
+    ensures masked { Runs (beside (L.lighting lights.old).lights (T.images textures.old)) most (code.lights over args.now (block_of body.now) end) m.old m.new }
 {
     if let Some((place, cone)) = args.split_first() {
         match over {
-            LightStmt::Illuminance => run_seen(*place, cone, body, m, lights, most),
+            LightStmt::Illuminance => run_seen(*place, cone, body, m, lights, textures, most),
             LightStmt::Illuminate => {
                 m.aim(*place);
                 let seen = m.within(cone);
-                run_lit(&seen, body, m, lights, most);
+                run_lit(&seen, body, m, lights, textures, most);
             }
             LightStmt::Solar => {
                 m.aim_along(*place);
-                run_lit(&Mask::full(), body, m, lights, most);
+                run_lit(&Mask::full(), body, m, lights, textures, most);
             }
         }
     }
@@ -202,12 +234,13 @@ fn run_lights<L: Illumination>(
 // The body once for each light, at the places that see it. Not inlined, so that what it keeps takes no room in the frames of other blocks.
 #[cycle(run)]
 #[inline(never)]
-fn run_seen<L: Illumination>(
+fn run_seen<L: Illumination, T: Textures>(
     place: Register,
     args: &[Register],
     body: &[Node],
     m: &mut Machine,
     lights: &mut L,
+    textures: &mut T,
     most: u32,
 )
     requires whole { Whole m.old }
@@ -219,7 +252,8 @@ fn run_seen<L: Illumination>(
     requires places { (L.lighting lights.old).places ≡ m.old.registers.frame.now.places }
     ensures kept { Kept m.old m.new }
     ensures same { L.lighting lights.new ≡ L.lighting lights.old }
-    ensures masked { Runs (L.lighting lights.old).lights most (code.lights Illuminance (place ∷ args.now) (block_of body.now) end) m.old m.new }
+    ensures images { T.images textures.new ≡ T.images textures.old }
+    ensures masked { Runs (beside (L.lighting lights.old).lights (T.images textures.old)) most (code.lights Illuminance (place ∷ args.now) (block_of body.now) end) m.old m.new }
 {
     let count = m.registers.frame.places;
     let scope = scope_of(&m.registers, place, args);
@@ -230,7 +264,7 @@ fn run_seen<L: Illumination>(
         let live = m.live;
         m.live = live.and(&seen, count);
         m.enter(&answers);
-        run_block(body, m, lights, most);
+        run_block(body, m, lights, textures, most);
         let others = live.without(&seen, count);
         m.live = m.live.or(&others, count);
     }
@@ -238,7 +272,14 @@ fn run_seen<L: Illumination>(
 
 // The body under the light's own directions, which stand in the scratch row, where they are seen.
 #[cycle(run)]
-fn run_lit<L: Illumination>(seen: &Mask, body: &[Node], m: &mut Machine, lights: &mut L, most: u32)
+fn run_lit<L: Illumination, T: Textures>(
+    seen: &Mask,
+    body: &[Node],
+    m: &mut Machine,
+    lights: &mut L,
+    textures: &mut T,
+    most: u32,
+)
     requires whole { Whole m.old }
     requires direction { HasRegister m.old (name_at names.L) }
     requires lit { HasRegister m.old lit_at }
@@ -246,13 +287,14 @@ fn run_lit<L: Illumination>(seen: &Mask, body: &[Node], m: &mut Machine, lights:
     requires places { (L.lighting lights.old).places ≡ m.old.registers.frame.now.places }
     ensures kept { Kept m.old m.new }
     ensures same { L.lighting lights.new ≡ L.lighting lights.old }
-    ensures near { RunsLit (L.lighting lights.old).lights most (block_of body.now) seen.now.places m.old m.new }
+    ensures images { T.images textures.new ≡ T.images textures.old }
+    ensures near { RunsLit (beside (L.lighting lights.old).lights (T.images textures.old)) most (block_of body.now) seen.now.places m.old m.new }
 {
     let count = m.registers.frame.places;
     let live = m.live;
     m.live = live.and(seen, count);
     m.kindle();
-    run_block(body, m, lights, most);
+    run_block(body, m, lights, textures, most);
     let others = live.without(seen, count);
     m.live = m.live.or(&others, count);
 }

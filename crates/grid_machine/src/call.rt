@@ -24,6 +24,7 @@ use crate::unloading::clear;
 use bumpalo::Bump;
 use fixed_math::NoMemory;
 use grid_code::Code;
+use grid_registers::Textures;
 use light_rows::{Dark, Illumination};
 use sl_ast::SlKind;
 
@@ -36,9 +37,10 @@ fn row_of(places: usize) -> usize
 }
 
 // Runs code on a fresh machine with what was prepared.
-fn execute<I: Illumination>(
+fn execute<I: Illumination, T: Textures>(
     machine: &mut Machine,
     lamps: &mut I,
+    textures: &mut T,
     prepared: &Prepared,
     code: &Code,
     inputs: &Inputs,
@@ -50,13 +52,15 @@ fn execute<I: Illumination>(
     requires prepared { IsPrepared prepared.now code.now inputs.now }
     requires inputs { AreInputs code.now inputs.now }
     ensures whole { Whole machine.new }
+    ensures same { T.images textures.new ≡ T.images textures.old }
     ensures has { list_all (has machine.new.registers.frame.now.varying.now machine.new.registers.frame.now.uniform.now) (written_names code.now.kind) ≡ true }
     ensures places { machine.new.registers.frame.now.places ≡ inputs.now.columns * inputs.now.rows }
-    ensures near { NearIn machine.new (ended_under (I.lighting lamps.old).lights code.now inputs.now) (state_of machine.new) }
+    ensures near { NearIn machine.new (ended_under (I.lighting lamps.old).lights (T.images textures.old) code.now inputs.now) (state_of machine.new) }
 {
     machine.execute(
         code,
         lamps,
+        textures,
         prepared.uniforms,
         inputs.uniforms,
         prepared.varyings,
@@ -66,10 +70,11 @@ fn execute<I: Illumination>(
 }
 
 // Runs code on a fresh machine with what was prepared, under lights. Without any there is nothing to lay out for them.
-fn execute_lit<'a, L: Lights>(
+fn execute_lit<'a, L: Lights, T: Textures>(
     machine: &mut Machine,
     arena: &'a Bump,
     lights: &'a L,
+    textures: &mut T,
     prepared: &Prepared<'a>,
     code: &Code,
     inputs: &Inputs,
@@ -80,18 +85,19 @@ fn execute_lit<'a, L: Lights>(
     requires lights { (n : ℕ) → n < L.many lights.now → IsLight (L.codes lights.now n) (L.params lights.now n) }
     requires prepared { IsPrepared prepared.now code.now inputs.now }
     requires inputs { AreInputs code.now inputs.now }
+    ensures same { T.images textures.new ≡ T.images textures.old }
     ensures whole { OnOk result (Whole machine.new) }
     ensures has { OnOk result (list_all (has machine.new.registers.frame.now.varying.now machine.new.registers.frame.now.uniform.now) (written_names code.now.kind) ≡ true) }
     ensures places { OnOk result (machine.new.registers.frame.now.places ≡ inputs.now.columns * inputs.now.rows) }
-    ensures near { let l = lights.now in OnOk result (NearIn machine.new (ended code.now inputs.now (L.many l) (L.places l) (L.codes l) (L.params l)) (state_of machine.new)) }
+    ensures near { let l = lights.now in OnOk result (NearIn machine.new (ended (T.images textures.old) code.now inputs.now (L.many l) (L.places l) (L.codes l) (L.params l)) (state_of machine.new)) }
 {
     if lights.count() == 0 {
         let places = prepared.frame.places;
         let mut dark = Dark { places, many: 0 };
-        execute(machine, &mut dark, prepared, code, inputs);
+        execute(machine, &mut dark, textures, prepared, code, inputs);
     } else {
         let mut lamps = Lamps::new(arena, prepared.frame, lights)?;
-        execute(machine, &mut lamps, prepared, code, inputs);
+        execute(machine, &mut lamps, textures, prepared, code, inputs);
     }
     Ok(())
 }
@@ -112,11 +118,12 @@ fn leave(machine: &Machine, kind: SlKind, out: &mut [i64])
 }
 
 // Runs code, and writes what it leaves into rows of raws.
-fn unload<'a, L: Lights>(
+fn unload<'a, L: Lights, T: Textures>(
     code: &'a Code,
     arena: &'a Bump,
     inputs: &Inputs<'a>,
     lights: &'a L,
+    textures: &mut T,
     out: &mut [i64],
 ) -> Result<(), NoMemory>
     requires columns { (2 ≤ inputs.now.columns) × (inputs.now.columns ≤ 17) }
@@ -128,12 +135,21 @@ fn unload<'a, L: Lights>(
     requires varyings { length inputs.now.varyings.now ≡ rows_of (varying_inputs code.now.kind code.now.params) * row_length (inputs.now.columns * inputs.now.rows) }
     requires out { length out.old ≡ rows_of (written_names code.now.kind) * row_length (inputs.now.columns * inputs.now.rows) }
     requires clear { (k : ℕ) → IsRaw (get_or out.old k (pos 0)) }
+    ensures same { T.images textures.new ≡ T.images textures.old }
     ensures raws { (k : ℕ) → IsRaw (get_or out.new k (pos 0)) }
-    ensures values { let l = lights.now in OnOk result (Leaves code.now.kind (inputs.now.columns * inputs.now.rows) out.new (ended code.now inputs.now (L.many l) (L.places l) (L.codes l) (L.params l))) }
+    ensures values { let l = lights.now in OnOk result (Leaves code.now.kind (inputs.now.columns * inputs.now.rows) out.new (ended (T.images textures.old) code.now inputs.now (L.many l) (L.places l) (L.codes l) (L.params l))) }
 {
     let prepared = prepare(code, arena, inputs)?;
     let mut machine = Machine::fresh(arena, prepared.frame)?;
-    execute_lit(&mut machine, arena, lights, &prepared, code, inputs)?;
+    execute_lit(
+        &mut machine,
+        arena,
+        lights,
+        textures,
+        &prepared,
+        code,
+        inputs,
+    )?;
     leave(&machine, code.kind, out);
     Ok(())
 }
@@ -141,13 +157,16 @@ fn unload<'a, L: Lights>(
 /// Runs the code of a surface, a displacement or a volume on a grid, with whole budgets and all places live. The rows of `out` take the
 /// variables that the kind writes, in order; or else memory is wanting, and they hold any raws in range.
 ///
+/// A look-up names a texture by its entry in the inputs, and is black where it names none.
+///
 /// The lights have one machine in the arena, with room for the code of each. Whenever sums and statements over lights ask a light, its code
 /// runs there at all places at once, from registers anew, with whole budgets and no lights.
-pub fn run<L: Lights>(
+pub fn run<L: Lights, T: Textures>(
     code: &Code,
     arena: &Bump,
     inputs: &Inputs,
     lights: &L,
+    textures: &mut T,
     out: &mut [i64],
 ) -> Result<(), NoMemory>
     requires columns { (2 ≤ inputs.now.columns) × (inputs.now.columns ≤ 17) }
@@ -158,9 +177,10 @@ pub fn run<L: Lights>(
     requires raws { (k : ℕ) → IsRaw (get_or inputs.now.varyings.now k (pos 0)) }
     requires varyings { length inputs.now.varyings.now ≡ rows_of (varying_inputs code.now.kind code.now.params) * row_length (inputs.now.columns * inputs.now.rows) }
     requires out { length out.old ≡ rows_of (written_names code.now.kind) * row_length (inputs.now.columns * inputs.now.rows) }
+    ensures same { T.images textures.new ≡ T.images textures.old }
     ensures raws { (k : ℕ) → IsRaw (get_or out.new k (pos 0)) }
-    ensures values { let l = lights.now in OnOk result (Leaves code.now.kind (inputs.now.columns * inputs.now.rows) out.new (ended code.now inputs.now (L.many l) (L.places l) (L.codes l) (L.params l))) }
+    ensures values { let l = lights.now in OnOk result (Leaves code.now.kind (inputs.now.columns * inputs.now.rows) out.new (ended (T.images textures.old) code.now inputs.now (L.many l) (L.places l) (L.codes l) (L.params l))) }
 {
     clear(out);
-    unload(code, arena, inputs, lights, out)
+    unload(code, arena, inputs, lights, textures, out)
 }

@@ -1,9 +1,9 @@
 // Tests, turns of loops and their price.
-ghost use Rattle.std.specs.Prelude.{◌≡◌, ℕ, ◌-◌, ◌<◌, ◌≤◌, List, false, cond, length, get_or, nat_lt};
+ghost use Rattle.std.specs.Prelude.{◌≡◌, ℕ, ◌-◌, ◌<◌, ◌≤◌, false, cond, length, get_or, nat_lt};
 ghost use Rattle.builtins.specs.Values.{is_true as holds};
 ghost use Rattle.grid_code.specs.Code.{end, breaks, continues};
-ghost use Rattle.grid_code.specs.Masked.{read, budgets, Asked, going as going_of};
-ghost use Rattle.grid_machine.specs.State.{state_of, Runs, HasRegister, Whole, Kept};
+ghost use Rattle.grid_code.specs.Masked.{read, budgets, going as going_of};
+ghost use Rattle.grid_machine.specs.State.{Beside, state_of, Runs, HasRegister, Whole, Kept};
 ghost use Rattle.grid_machine.specs.Writes.{BeginsTurn};
 
 use crate::held::nonzero_of;
@@ -59,7 +59,7 @@ impl Machine<'_> {
     pub fn leave(&mut self)
         requires whole { Whole self.old }
         ensures kept { Kept self.old self.new }
-        ensures masked { (ls : List Asked) (most : ℕ) → Runs ls most (breaks end) self.old self.new }
+        ensures masked { (b : Beside) (most : ℕ) → Runs b most (breaks end) self.old self.new }
     {
         self.staying = self
             .staying
@@ -71,7 +71,7 @@ impl Machine<'_> {
     pub fn skip(&mut self)
         requires whole { Whole self.old }
         ensures kept { Kept self.old self.new }
-        ensures masked { (ls : List Asked) (most : ℕ) → Runs ls most (continues end) self.old self.new }
+        ensures masked { (b : Beside) (most : ℕ) → Runs b most (continues end) self.old self.new }
     {
         self.live = Mask::none();
     }

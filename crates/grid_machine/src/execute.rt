@@ -14,13 +14,14 @@ ghost use Rattle.grid_code.specs.View.{block_of};
 ghost use Rattle.place_rows.specs.Layout.{row_length};
 ghost use Rattle.grid_machine.specs.Run.{rows_of, uniform_inputs, varying_inputs, started, fresh};
 ghost use Rattle.place_values.specs.Cells.{is_known};
-ghost use Rattle.grid_machine.specs.State.{state_of, texts_of, NearIn, HasRegister, ReadyIn, Whole, Kept};
+ghost use Rattle.grid_machine.specs.State.{beside, state_of, texts_of, NearIn, HasRegister, ReadyIn, Whole, Kept};
 ghost use Rattle.grid_machine.specs.Writes.{Writes, Leads, RunsWhole};
 
 use crate::blocks::run_block;
 use crate::machine::Machine;
 use fixed_math::Num;
 use grid_code::{Code, Register, Source, named};
+use grid_registers::Textures;
 use light_rows::Illumination;
 use sl_ast::{SlKind, Value};
 
@@ -54,10 +55,11 @@ impl Machine<'_> {
     }
 
     /// Runs code on a fresh machine.
-    pub fn execute<L: Illumination>(
+    pub fn execute<L: Illumination, T: Textures>(
         &mut self,
         code: &Code,
         lights: &mut L,
+        textures: &mut T,
         uniforms: &[Register],
         values: &[Value],
         varyings: &[Register],
@@ -79,11 +81,12 @@ impl Machine<'_> {
         requires ready { ReadyIn self.old (block_of code.now.nodes) }
         requires places { (L.lighting lights.old).places ≡ self.old.registers.frame.now.places }
         ensures kept { Kept self.old self.new }
-        ensures near { RunsWhole (L.lighting lights.old).lights code.now.kind code.now.params (block_of code.now.nodes) values.now rows.now self.old self.new }
+        ensures same { T.images textures.new ≡ T.images textures.old }
+        ensures near { RunsWhole (beside (L.lighting lights.old).lights (T.images textures.old)) code.now.kind code.now.params (block_of code.now.nodes) values.now rows.now self.old self.new }
     {
         self.assign_all(uniforms, values);
         self.load_all(varyings, rows, width);
         self.start(code.kind);
-        run_block(code.nodes.as_slice(), self, lights, 65536);
+        run_block(code.nodes.as_slice(), self, lights, textures, 65536);
     }
 }

@@ -13,7 +13,8 @@ use transforms::Spaces;
 /// `uniforms` are the uniform parameters in order and then, for a surface or a displacement, du and dv. `varyings` are rows of raws, each of
 /// the least multiple of eight elements that holds the points, three for a triple: those of the varying parameters in order, then those of
 /// the varying variables that the kind is given, first those that it reads alone and then those that it writes. L and Cl, and variables
-/// that start as another one, are not among them.
+/// that start as another one, are not among them. `look_ups` has for each look-up of the code, in the order of their nodes' numbers, the number
+/// of the texture that it names, where it names one.
 #[derive(Clone, Copy)]
 pub struct Inputs<'a> {
     pub columns: usize,
@@ -21,6 +22,7 @@ pub struct Inputs<'a> {
     pub uniforms: &'a [Value],
     pub varyings: &'a [i64],
     pub spaces: &'a Spaces,
+    pub look_ups: &'a [Option<u32>],
 }
 
 /// The lights of a surface: their codes, and the values of all parameters of each in order.

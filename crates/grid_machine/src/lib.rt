@@ -18,6 +18,7 @@ mod lamps;
 mod leaving;
 mod lighting;
 mod loading;
+mod look_ups;
 mod machine;
 mod preparing;
 mod reset;
@@ -27,4 +28,5 @@ mod sums;
 mod unloading;
 
 pub use call::run;
+pub use grid_registers::{NoTextures, Textures};
 pub use inputs::{Inputs, Lights};

@@ -38,6 +38,7 @@ fn frame_of<'a>(
     ensures lines { IfOk result (λ f. lines_of f.now ≡ lines_from inputs.now first_step) }
     ensures code { IfOk result (λ f. OfCode f.now code.now inputs.now.uniforms.now) }
     ensures spaces { IfOk result (λ f. f.now.setting.spaces.now ≡ inputs.now.spaces.now) }
+    ensures entries { IfOk result (λ f. f.now.entries.now ≡ inputs.now.look_ups.now) }
 {
     let texts = into_bump_slice(gather(arena, inputs.uniforms, code)?);
     let places = places_of(inputs.columns, inputs.rows);
@@ -55,6 +56,8 @@ fn frame_of<'a>(
         },
         varying: &code.varying,
         uniform: &code.uniform,
+        look_ups: &code.look_ups,
+        entries: inputs.look_ups,
         room: Room::of_code(code, places),
     };
     frame.keep(arena)
@@ -71,6 +74,7 @@ pub fn prepare<'a>(
     ensures lines { IfOk result (λ p. lines_of p.frame.now ≡ lines_given inputs.now.columns inputs.now.rows code.now.params inputs.now.uniforms.now) }
     ensures code { IfOk result (λ p. OfCode p.frame.now code.now inputs.now.uniforms.now) }
     ensures spaces { IfOk result (λ p. p.frame.now.setting.spaces.now ≡ inputs.now.spaces.now) }
+    ensures entries { IfOk result (λ p. p.frame.now.entries.now ≡ inputs.now.look_ups.now) }
     ensures uniforms { IfOk result (λ p. p.uniforms.now ≡ uniform_inputs code.now.kind code.now.params) }
     ensures varyings { IfOk result (λ p. p.varyings.now ≡ varying_inputs code.now.kind code.now.params) }
 {

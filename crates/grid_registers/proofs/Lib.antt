@@ -3,3 +3,5 @@ pub mod Filled
 pub mod Operands
 pub mod Writes
 pub mod Parts
+pub mod Entries
+pub mod LookUps

@@ -3,3 +3,4 @@ pub mod Held
 pub mod Frames
 pub mod Sources
 pub mod Operands
+pub mod LookUps

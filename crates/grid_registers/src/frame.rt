@@ -7,7 +7,7 @@ use crate::room::Room;
 use bumpalo::Bump;
 use bumpalo::collections::into_bump_slice;
 use fixed_math::{NoMemory, Num};
-use grid_code::{Code, RegisterSet, gather};
+use grid_code::{Code, LookUpSet, RegisterSet, gather};
 use place_values::Setting;
 use sl_ast::Value;
 use std::slice::from_ref;
@@ -20,8 +20,9 @@ pub struct Steps {
     pub dv: Num,
 }
 
-/// The lines of a grid with the steps of its parameters, what values stand in, the registers of the code, and the room that a machine has for
-/// their values: that of this code, or the greater one of a machine that other code uses too.
+/// The lines of a grid with the steps of its parameters, what values stand in, the registers of the code, its look-ups with the number of the
+/// texture that each names, where it names one, and the room that a machine has for the registers' values: that of this code, or the greater
+/// one of a machine that other code uses too.
 #[derive(Clone, Copy)]
 pub struct Frame<'a> {
     pub columns: usize,
@@ -31,6 +32,8 @@ pub struct Frame<'a> {
     pub setting: Setting<'a>,
     pub varying: &'a RegisterSet,
     pub uniform: &'a RegisterSet,
+    pub look_ups: &'a LookUpSet,
+    pub entries: &'a [Option<u32>],
     pub room: Room,
     pub ghost shape: { places ≡ columns * rows },
     pub ghost some: { 4 ≤ places },
@@ -47,7 +50,7 @@ impl<'a> Frame<'a> {
     ghost use Rattle.grid_registers.specs.Frames.{OfCode};
     ghost use Rattle.grid_registers.specs.Frames.{lines_of};
 
-    /// The same grid for other code with its values, its spaces and some room for it, or want of memory.
+    /// The same grid for other code without look-ups, with its values, its spaces and some room for it, or want of memory.
     pub fn for_code(
         &self,
         arena: &'a Bump,
@@ -72,6 +75,8 @@ impl<'a> Frame<'a> {
             setting: Setting { texts, spaces },
             varying: &code.varying,
             uniform: &code.uniform,
+            look_ups: &code.look_ups,
+            entries: self.entries,
             room,
         };
         frame.keep(arena)

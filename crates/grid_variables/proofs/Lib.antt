@@ -3,3 +3,4 @@ pub mod Results
 pub mod Bounded
 pub mod Over
 pub mod Dicing
+pub mod ClosingPlaces

@@ -3,3 +3,4 @@ pub mod Variables
 pub mod ByPlace
 pub mod Places
 pub mod Kept
+pub mod Closings

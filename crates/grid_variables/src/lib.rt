@@ -4,6 +4,7 @@
 
 mod at_points;
 mod bilinear;
+mod closings;
 mod corners;
 mod kept;
 mod leaf;
@@ -18,6 +19,7 @@ pub use at_points::{
     first_colours, first_coordinates, first_opacities, normals_or, one_colour, one_opacity,
     second_coordinates, spread,
 };
+pub use closings::moving_grid;
 pub use kept::kept_near;
 pub use leaf::{Along, Leaf};
 pub use places::{derivatives, parameters};

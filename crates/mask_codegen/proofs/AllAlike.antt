@@ -4,7 +4,7 @@ use Rattle.sl_ast.specs.declared.typed.Value.{Value}
 use Rattle.builtins.specs.Values.{as_kind, is_true}
 use Rattle.builtins.specs.Table.{applied}
 use Rattle.builtins.specs.Lights.{sum_of}
-use Rattle.sl_meaning.specs.Core.{Slot, slot, Expr, literal, read, apply, differ, sum, call, Exprs, none, more, Arguments, no_arguments, argument, Stmt, declare, assign, block, test, repeat, lights, leave, again, Stmts, done, first, formals, after, after_all, is_uniform, are_uniform}
+use Rattle.sl_meaning.specs.Core.{Slot, slot, Expr, literal, read, apply, differ, sum, texture, call, Exprs, none, more, Arguments, no_arguments, argument, Stmt, declare, assign, block, test, repeat, lights, leave, again, Stmts, done, first, formals, after, after_all, is_uniform, are_uniform}
 use Rattle.sl_meaning.specs.Environment.{Around}
 use Rattle.sl_meaning.specs.Alone.{Gives, on_value, inside, either, value, all_values, arg_values, run, run_all}
 use Rattle.sl_meaning.specs.Grid.{Envs, on_all, inside_all, choice_all, loops_all, values, all_of, args_of, grid, grid_all}
@@ -58,6 +58,7 @@ module _ (c n : ℕ) (g : Around) (pos : 0 < c) where
     expr_alike (apply op args) ss es h p x =
         on_alike (List Value) Value c ss (are_uniform args ss) (applied op g.spaces) (all_values args g n) (all_of args g n) es (exprs_alike args ss es h p x)
     expr_alike (differ d e) ss es h p x = absurd p
+    expr_alike (texture k args) ss es h p x = absurd p
     expr_alike (sum s args) ss es h p x = summed_alike c ss (are_uniform args ss) g (sum_of s) (all_values args g n) (all_of args g n) es (exprs_alike args ss es h p x)
     expr_alike (call args body kind e) ss es h p x =
         let fs = formals args in

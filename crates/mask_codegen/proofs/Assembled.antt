@@ -69,5 +69,5 @@ module _ (t : T.Tree) (typed : well_typed t ≡ true) (settled : IsSettled t) (p
       pub sets_named : within (has varying uniform) (block_of nodes) ≡ true
       sets_named = subst (λ x. within (has varying uniform) x ≡ true) (sym code) (code_named t typed settled ps same varying uniform (subst (IsSetOf varying false) all v0) (subst (IsSetOf uniform true) all u0))
 
-      pub sets_few : rows_in varying ≤ 8 * rows_of t
+      pub sets_few : rows_in varying ≤ 9 * rows_of t
       sets_few = code_few t typed settled ps same varying uniform (subst (IsSetOf varying false) all v0) (subst (IsSetOf uniform true) all u0)

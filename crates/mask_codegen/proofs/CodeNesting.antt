@@ -3,7 +3,7 @@ use Rattle.std.proofs.Common.{ℕ, ◌+◌, ◌≤◌, max, List, length, arith}
 use Rattle.std.proofs.Math.Nat.{max-le}
 use Rattle.grid_code.specs.Valid.{nesting}
 use Rattle.grid_code.proofs.ValidThen.{nesting_then}
-use Rattle.sl_meaning.specs.Core.{Slot, Expr, literal, read, apply, differ, sum, call, Exprs, none, more, Arguments, no_arguments, argument, Stmt, declare, assign, block, test, repeat, lights, leave, again, Stmts, done, first, formals, after, after_all}
+use Rattle.sl_meaning.specs.Core.{Slot, Expr, literal, read, apply, differ, sum, texture, call, Exprs, none, more, Arguments, no_arguments, argument, Stmt, declare, assign, block, test, repeat, lights, leave, again, Stmts, done, first, formals, after, after_all}
 use Rattle.core_codegen.specs.Compile.{behind, expr_code, exprs_code, args_code, stmt_code, all_code}
 use Rattle.mask_codegen.proofs.CoreNesting.{expr_nesting, exprs_nesting, args_nesting, stmt_nesting, all_nesting}
 use Rattle.mask_codegen.proofs.LoweredNesting.{max_parts}
@@ -25,6 +25,7 @@ mutual
   expr_nests (apply op args) ss b r m h = nesting_then m (exprs_code args ss b r) _ (exprs_nest args ss b r m h) (none_in m)
   expr_nests (differ d e) ss b r m h = nesting_then m (expr_code e ss b r) _ (expr_nests e ss b r m h) (none_in m)
   expr_nests (sum s args) ss b r m h = nesting_then m (exprs_code args ss b r) _ (exprs_nest args ss b r m h) (none_in m)
+  expr_nests (texture k args) ss b r m h = nesting_then m (exprs_code args ss b r) _ (exprs_nest args ss b r m h) (none_in m)
   expr_nests (call args body kind e) ss b r m h =
       let fs = formals args in
       let ss2 = after_all body fs in

@@ -17,12 +17,12 @@ use Rattle.grid_code.specs.declared.code.Source.TheVariants.{Constant, Copy, App
 use Rattle.grid_code.specs.Code as c
 use Rattle.grid_code.specs.Masked.{same_shape}
 use Rattle.grid_code.specs.Shapes.{register_shape, register_shapes, difference_shape}
-use Rattle.grid_code.specs.Valid.{at_most_three, one_to_three, is_placed}
+use Rattle.grid_code.specs.Valid.{at_most_three, are_three, one_to_three, is_placed}
 use Rattle.grid_code.proofs.Both.{both}
-use Rattle.sl_meaning.specs.Core.{Slot, Expr, literal, read, apply, differ, sum, Exprs, none, more}
+use Rattle.sl_meaning.specs.Core.{Slot, Expr, literal, read, apply, differ, sum, texture, Exprs, none, more}
 use Rattle.core_codegen.specs.Compile.{at, all_at, into}
 use Rattle.core_codegen.specs.Variables.{variable}
-use Rattle.mask_codegen.proofs.CorePlaced.{are_few, are_some}
+use Rattle.mask_codegen.proofs.CorePlaced.{are_few, are_some, are_triple}
 use Rattle.core_codegen.proofs.ValueRegisters.{shape_at, shapes_at, variable_shape, difference_shape_in}
 
 same_self : (s : Shape) → same_shape s s ≡ true
@@ -47,6 +47,13 @@ some_at (more a (more b none)) ss r h = refl
 some_at (more a (more b (more d none))) ss r h = refl
 some_at (more a (more b (more d (more e rest)))) ss r h = h
 
+three_at : (es : Exprs) (ss : List Slot) (r : ℕ) → are_triple es ≡ true → are_three (all_at es ss r) ≡ true
+three_at none ss r h = h
+three_at (more a none) ss r h = h
+three_at (more a (more b none)) ss r h = h
+three_at (more a (more b (more d none))) ss r h = refl
+three_at (more a (more b (more d (more e rest)))) ss r h = h
+
 module _ (k : SlKind) (l u : Bool) where
   pub into_placed : (to : Register) (kind : SlType) (from : Register) → register_shape to ≡ shape_of kind → is_placed k l u (into to kind from) ≡ true
   into_placed to kind from h = both _ _ (same_from (shape_of kind) (register_shape to) (sym h)) refl
@@ -69,3 +76,7 @@ pub differ_placed : (k : SlKind) (l : Bool) (d : Difference) (e : Expr) (ss : Li
 differ_placed k l d e ss r h =
     both _ _ h (both _ _ (same_from (difference_shape d (register_shape (at e ss r))) (register_shape (at (differ d e) ss r))
     (ap (difference_shape d) (shape_at e ss r) ∙ difference_shape_in d e ss ∙ sym (shape_at (differ d e) ss r))) refl)
+
+pub texture_placed : (k : SlKind) (l : Bool) (m : ℕ) (args : Exprs) (ss : List Slot) (r : ℕ) → has_surface k ≡ true → are_triple args ≡ true → is_placed k l true (c.texture (at (texture m args) ss r) m (all_at args ss r) c.end) ≡ true
+texture_placed k l m args ss r h f =
+    both _ _ h (both _ _ (same_from shapes.Triple (register_shape (at (texture m args) ss r)) (sym (shape_at (texture m args) ss r))) (both _ _ (three_at args ss r f) refl))

@@ -9,12 +9,12 @@ use Rattle.grid_code.specs.Code.{Block}
 use Rattle.grid_code.specs.Valid.{is_placed}
 use Rattle.grid_code.proofs.Both.{both}
 use Rattle.grid_code.proofs.ValidThen.{placed_then}
-use Rattle.sl_meaning.specs.Core.{Slot, Expr, literal, read, apply, differ, sum, call, Exprs, none, more, Arguments, no_arguments, argument, Stmt, declare, assign, block, test, repeat, lights, leave, again, Stmts, done, first, formals, after, after_all, is_uniform}
+use Rattle.sl_meaning.specs.Core.{Slot, Expr, literal, read, apply, differ, sum, texture, call, Exprs, none, more, Arguments, no_arguments, argument, Stmt, declare, assign, block, test, repeat, lights, leave, again, Stmts, done, first, formals, after, after_all, is_uniform}
 use Rattle.core_codegen.specs.Compile.{at, shape_in, into, behind, expr_code, exprs_code, args_code, stmt_code, all_code}
 use Rattle.core_codegen.specs.Variables.{variable}
 use Rattle.core_codegen.specs.Fine.{StaysAll, FineExpr, FineExprs, FineArgs, FineStmt, FineAll, When, GridExpr, GridExprs, GridArgs, GridStmt, GridAll}
 use Rattle.mask_codegen.proofs.CorePlaced.{PlacedExpr, PlacedExprs, PlacedArgs, PlacedStmt, PlacedAll}
-use Rattle.mask_codegen.proofs.CodeNodes.{into_placed, literal_placed, read_placed, apply_placed, sum_placed, differ_placed, few_at}
+use Rattle.mask_codegen.proofs.CodeNodes.{into_placed, literal_placed, read_placed, apply_placed, sum_placed, differ_placed, few_at, texture_placed}
 use Rattle.core_codegen.proofs.ValueRegisters.{shape_reg, shape_at, variable_shape}
 
 never : (m : Bool) → false ≡ true → m ≡ true
@@ -28,6 +28,7 @@ mutual
   expr_fine k m (read x) ss b r f p = read_placed k m false x ss b r
   expr_fine k m (apply op args) ss b r f p = placed_then k m false (exprs_code args ss b r) _ (exprs_fine k m args ss b r f p.1) (apply_placed k m false op args ss r p.0)
   expr_fine k m (differ d e) ss b r f p = absurd f
+  expr_fine k m (texture j args) ss b r f p = absurd f
   expr_fine k m (sum s args) ss b r f p = placed_then k m false (exprs_code args ss b r) _ (exprs_fine k m args ss b r f p.1.1) (sum_placed k m false s args ss r p.0 p.1.0)
   expr_fine k m (call args body kind e) ss b r f p =
       let fs = formals args in
@@ -93,6 +94,7 @@ mutual
   expr_grid k m (apply op args) ss b r f p = placed_then k m true (exprs_code args ss b r) _ (exprs_grid k m args ss b r f p.1) (apply_placed k m true op args ss r p.0)
   expr_grid k m (differ d e) ss b r f p = placed_then k m true (expr_code e ss b r) _ (expr_grid k m e ss b r f p.1) (differ_placed k m d e ss r p.0)
   expr_grid k m (sum s args) ss b r f p = placed_then k m true (exprs_code args ss b r) _ (exprs_grid k m args ss b r f p.1.1) (sum_placed k m true s args ss r p.0 p.1.0)
+  expr_grid k m (texture j args) ss b r f p = placed_then k m true (exprs_code args ss b r) _ (exprs_grid k m args ss b r f p.1.1) (texture_placed k m j args ss r p.0 p.1.0)
   expr_grid k m (call args body kind e) ss b r f p =
       let fs = formals args in
       let ss2 = after_all body fs in

@@ -19,7 +19,7 @@ use Rattle.grid_code.specs.Names.{reg, name_at}
 use Rattle.grid_code.specs.Uses.{within}
 use Rattle.grid_code.proofs.Both.{both, left, right}
 use Rattle.grid_code.proofs.ValidThen.{within_then}
-use Rattle.sl_meaning.specs.Core.{Slot, slot, no_slot, Expr, literal, read, apply, differ, sum, call, Exprs, none, more, Arguments, no_arguments, argument, Stmt, declare, assign, block, test, repeat, lights, leave, again, Stmts, done, first, formals, after, after_all, class_in, is_uniform, stmt_uniform, stmts_uniform}
+use Rattle.sl_meaning.specs.Core.{Slot, slot, no_slot, Expr, literal, read, apply, differ, sum, texture, call, Exprs, none, more, Arguments, no_arguments, argument, Stmt, declare, assign, block, test, repeat, lights, leave, again, Stmts, done, first, formals, after, after_all, class_in, is_uniform, stmt_uniform, stmts_uniform}
 use Rattle.core_codegen.specs.Compile.{at, all_at, into, behind, expr_code, exprs_code, args_code, stmt_code, all_code}
 use Rattle.core_codegen.specs.Variables.{slot_at, variable}
 use Rattle.core_codegen.specs.Fine.{InScope}
@@ -66,6 +66,7 @@ module _ (p : Register → Bool) (k : SlKind) (named : (x : Predefined) → read
   at_made (apply op args) ss r h = last_of (made_exprs args ss r) _ h
   at_made (differ d e) ss r h = last_of (made e ss r) _ h
   at_made (sum s args) ss r h = last_of (made_exprs args ss r) _ h
+  at_made (texture m args) ss r h = last_of (made_exprs args ss r) _ h
   at_made (call args body kind e) ss r h =
       let fs = formals args in
       let t = behind fs r body in
@@ -125,9 +126,11 @@ module _ (p : Register → Bool) (k : SlKind) (named : (x : Predefined) → read
   assigned_made x kind (apply op (more (apply o a) rest)) ss b t g h = h
   assigned_made x kind (apply op (more (differ d a) rest)) ss b t g h = h
   assigned_made x kind (apply op (more (sum q a) rest)) ss b t g h = h
+  assigned_made x kind (apply op (more (texture m a) rest)) ss b t g h = h
   assigned_made x kind (apply op (more (call a q r e) rest)) ss b t g h = h
   assigned_made x kind (differ d e) ss b t g h = h
   assigned_made x kind (sum q args) ss b t g h = h
+  assigned_made x kind (texture m args) ss b t g h = h
   assigned_made x kind (call args body r e) ss b t g h = h
 
   into_within : (to : Register) (kind : SlType) (from : Register) → p to ≡ true → p from ≡ true → within p (into to kind from) ≡ true
@@ -146,6 +149,9 @@ module _ (p : Register → Bool) (k : SlKind) (named : (x : Predefined) → read
     expr_within (sum w args) ss b r s q f h =
         let g = all_first p (made_exprs args ss r) _ h in
         within_then p (exprs_code args ss b r) _ (exprs_within args ss b r s q.1.1 f g) (both _ _ (at_made (sum w args) ss r h) (both _ _ (all_at_made args ss r g) refl))
+    expr_within (texture m args) ss b r s q f h =
+        let g = all_first p (made_exprs args ss r) _ h in
+        within_then p (exprs_code args ss b r) _ (exprs_within args ss b r s q.1.1 f g) (both _ _ (at_made (texture m args) ss r h) (both _ _ (all_at_made args ss r g) refl))
     expr_within (call args body kind e) ss b r s q f h =
         let fs = formals args in
         let t = behind fs r body in

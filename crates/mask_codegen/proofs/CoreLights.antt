@@ -4,7 +4,7 @@ use Rattle.std.specs.Prelude.{◌||◌}
 use Rattle.std.proofs.Math.Bool.{or-true, or-false}
 use Rattle.grid_code.specs.Valid.{has_light_statement}
 use Rattle.grid_code.proofs.ValidThen.{lights_then}
-use Rattle.sl_meaning.specs.Core.{Slot, Expr, literal, read, apply, differ, sum, call, Exprs, none, more, Arguments, no_arguments, argument, Stmt, declare, assign, block, test, repeat, lights, leave, again, Stmts, done, first, formals, after, after_all}
+use Rattle.sl_meaning.specs.Core.{Slot, Expr, literal, read, apply, differ, sum, texture, call, Exprs, none, more, Arguments, no_arguments, argument, Stmt, declare, assign, block, test, repeat, lights, leave, again, Stmts, done, first, formals, after, after_all}
 use Rattle.sl_meaning.specs.Runs.{lights_in, lights_in_exprs, lights_in_args, lights_in_stmt, lights_in_all}
 use Rattle.core_codegen.specs.Compile.{behind, expr_code, exprs_code, args_code, stmt_code, all_code, shader_code}
 
@@ -18,6 +18,7 @@ mutual
   expr_code_lights (apply op args) ss b r = lights_then (exprs_code args ss b r) _ ∙ or-false _ ∙ exprs_code_lights args ss b r
   expr_code_lights (differ d e) ss b r = lights_then (expr_code e ss b r) _ ∙ or-false _ ∙ expr_code_lights e ss b r
   expr_code_lights (sum s args) ss b r = lights_then (exprs_code args ss b r) _ ∙ or-false _ ∙ exprs_code_lights args ss b r
+  expr_code_lights (texture k args) ss b r = lights_then (exprs_code args ss b r) _ ∙ or-false _ ∙ exprs_code_lights args ss b r
   expr_code_lights (call args body kind e) ss b r =
       let fs = formals args in
       let ss2 = after_all body fs in

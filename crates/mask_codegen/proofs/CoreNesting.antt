@@ -1,6 +1,6 @@
 -- How deep the blocks of a core tree's code lie in one another.
 use Rattle.std.specs.Prelude.{ℕ, ◌+◌, max}
-use Rattle.sl_meaning.specs.Core.{Expr, literal, read, apply, differ, sum, call, Exprs, none, more, Arguments, no_arguments, argument, Stmt, declare, assign, block, test, repeat, lights, leave, again, Stmts, done, first}
+use Rattle.sl_meaning.specs.Core.{Expr, literal, read, apply, differ, sum, texture, call, Exprs, none, more, Arguments, no_arguments, argument, Stmt, declare, assign, block, test, repeat, lights, leave, again, Stmts, done, first}
 
 abbrev mutual
   pub expr_nesting : Expr → ℕ
@@ -9,6 +9,7 @@ abbrev mutual
   expr_nesting (apply op args) = exprs_nesting args
   expr_nesting (differ d e) = expr_nesting e
   expr_nesting (sum s args) = exprs_nesting args
+  expr_nesting (texture k args) = exprs_nesting args
   expr_nesting (call args body kind e) = max (args_nesting args) (max (all_nesting body) (expr_nesting e))
 
   pub exprs_nesting : Exprs → ℕ

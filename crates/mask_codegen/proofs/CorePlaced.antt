@@ -5,9 +5,9 @@ use Rattle.sl_ast.specs.declared.kinds.SlKind.{SlKind}
 use Rattle.sl_ast.specs.declared.typed.Variable.{Variable}
 use Rattle.sl_ast.specs.declared.typed.Variable.TheVariants as variables
 use Rattle.sl_ast.specs.Names.{reads, has_surface, is_surface, has_lights}
-use Rattle.sl_meaning.specs.Core.{Slot, Expr, literal, read, apply, differ, sum, call, Exprs, none, more, Arguments, no_arguments, argument, Stmt, declare, assign, block, test, repeat, lights, leave, again, Stmts, done, first, formals, after, kind_in}
+use Rattle.sl_meaning.specs.Core.{Slot, Expr, literal, read, apply, differ, sum, texture, call, Exprs, none, more, Arguments, no_arguments, argument, Stmt, declare, assign, block, test, repeat, lights, leave, again, Stmts, done, first, formals, after, kind_in}
 
--- at most three operands, and one to three
+-- at most three operands, one to three, and three
 abbrev pub are_few : Exprs → Bool
 are_few none = true
 are_few (more a none) = true
@@ -18,6 +18,10 @@ are_few _ = false
 abbrev pub are_some : Exprs → Bool
 are_some none = false
 are_some es = are_few es
+
+abbrev pub are_triple : Exprs → Bool
+are_triple (more a (more b (more c none))) = true
+are_triple _ = false
 
 -- a predefined variable that such a shader reads
 abbrev pub Reads : SlKind → Variable → Type 0
@@ -32,6 +36,7 @@ abbrev mutual
   PlacedExpr k (apply op args) = (are_some args ≡ true) × PlacedExprs k args
   PlacedExpr k (differ d e) = (has_surface k ≡ true) × PlacedExpr k e
   PlacedExpr k (sum s args) = (is_surface k ≡ true) × ((are_few args ≡ true) × PlacedExprs k args)
+  PlacedExpr k (texture m args) = (has_surface k ≡ true) × ((are_triple args ≡ true) × PlacedExprs k args)
   PlacedExpr k (call args body kind e) = PlacedArgs k args × (PlacedAll k false body (formals args) × PlacedExpr k e)
 
   pub PlacedExprs : SlKind → Exprs → Type 0

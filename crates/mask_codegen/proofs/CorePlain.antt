@@ -1,5 +1,5 @@
--- A core tree without differences: no value at a point depends on another point.
-use Rattle.sl_meaning.specs.Core.{Expr, literal, read, apply, differ, sum, call, Exprs, none, more, Arguments, no_arguments, argument, Stmt, declare, assign, block, test, repeat, lights, leave, again, Stmts, done, first}
+-- A core tree without differences and look-ups: no value at a point depends on another point.
+use Rattle.sl_meaning.specs.Core.{Expr, literal, read, apply, differ, sum, texture, call, Exprs, none, more, Arguments, no_arguments, argument, Stmt, declare, assign, block, test, repeat, lights, leave, again, Stmts, done, first}
 
 abbrev mutual
   pub PlainExpr : Expr → Type 0
@@ -7,6 +7,7 @@ abbrev mutual
   PlainExpr (read x) = Unit {0}
   PlainExpr (apply op args) = PlainExprs args
   PlainExpr (differ d e) = ⊥
+  PlainExpr (texture k args) = ⊥
   PlainExpr (sum s args) = PlainExprs args
   PlainExpr (call args body kind e) = PlainArgs args × (PlainAll body × PlainExpr e)
 

@@ -5,7 +5,7 @@ use Rattle.sl_ast.specs.declared.typed.Value.{Value}
 use Rattle.sl_ast.specs.declared.typed.Variable.{Variable}
 use Rattle.sl_ast.specs.declared.typed.Variable.TheVariants as variables
 use Rattle.builtins.specs.Values.{as_kind}
-use Rattle.sl_meaning.specs.Core.{Slot, slot, no_slot, Expr, literal, read, apply, differ, sum, call, Exprs, none, more, Arguments, no_arguments, argument, Stmt, declare, assign, block, test, repeat, lights, leave, again, Stmts, done, first, formals, after, after_all, class_in}
+use Rattle.sl_meaning.specs.Core.{Slot, slot, no_slot, Expr, literal, read, apply, differ, sum, texture, call, Exprs, none, more, Arguments, no_arguments, argument, Stmt, declare, assign, block, test, repeat, lights, leave, again, Stmts, done, first, formals, after, after_all, class_in}
 use Rattle.sl_meaning.specs.Environment.{Env, Around, Next, Break, Continue, zero_value, with_variable, declared}
 use Rattle.sl_meaning.specs.Alone.{inside, value, all_values, arg_values, run, run_all}
 use Rattle.core_codegen.specs.Fine.{IsStep, FineExpr, FineExprs, FineArgs, FineStmt, FineAll}
@@ -41,6 +41,7 @@ mutual
   expr_same (read x) ss a n env h l = same_self env
   expr_same (apply op args) ss a n env h l = exprs_same args ss a n env h l
   expr_same (differ d e) ss a n env h l = absurd h
+  expr_same (texture k args) ss a n env h l = absurd h
   expr_same (sum s args) ss a n env h l = exprs_same args ss a n env h l
   expr_same (call args body kind e) ss a n env h l =
       let fs = formals args in

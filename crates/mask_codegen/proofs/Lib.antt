@@ -32,6 +32,9 @@ pub mod LightAnswers
 pub mod SetParts
 pub mod Naming
 pub mod SetRows
+pub mod CoreLooks
+pub mod LoweredLooks
+pub mod Looking
 pub mod StartRegisters
 pub mod TreeCode
 pub mod Lighting

@@ -1,5 +1,5 @@
 -- A light's code, asked at all places at once, answers at each as the light's tree answers there.
-use Rattle.std.proofs.Common.{◌≡◌, ℕ, ◌*◌, ◌<◌, Bool, true, false, cond, List, [], ◌∷◌, map, refl, ap, ◌∙◌}
+use Rattle.std.proofs.Common.{◌≡◌, ℕ, ◌*◌, ◌<◌, Bool, true, false, cond, List, [], ◌∷◌, map, refl, ap, ◌∙◌, None}
 use Rattle.fixed_math.specs.declared.vec3.Vec3.{Vec3}
 use Rattle.transforms.specs.declared.spaces.Spaces.{Spaces}
 use Rattle.sl_ast.specs.declared.kinds.Predefined.TheVariants as names
@@ -44,7 +44,7 @@ answer_same true i ss b e s h =
 
 -- no lights around a light, whatever the lines of the grid
 abbrev pub dim : Lines → Spaces → Around
-dim lines spaces = record { lines = lines; spaces = spaces; lights = [] }
+dim lines spaces = record { lines = lines; spaces = spaces; lights = []; images = λ k. None }
 
 -- what a shader means where no light reaches doesn't hang on the lines
 ran_dark : (body : Stmts) (lines : Lines) (spaces : Spaces) (n : ℕ) → run_all body (dim lines spaces) n ≡ run_all body (dark spaces) n

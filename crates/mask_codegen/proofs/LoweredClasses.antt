@@ -1,5 +1,5 @@
 -- An expression of the core tree is uniform exactly where the typed one is that it is made from.
-use Rattle.std.proofs.Common.{◌≡◌, Bool, true, false, List, [], ◌∷◌, refl, sym, ap, ◌∙◌}
+use Rattle.std.proofs.Common.{◌≡◌, ℕ, pos, Bool, true, false, List, [], ◌∷◌, refl, sym, ap, ◌∙◌}
 use Rattle.std.specs.Prelude.{◌&&◌}
 use Rattle.std.proofs.lemmas.Bool.{and_parts, and_right}
 use Rattle.sl_ast.specs.declared.kinds.NodeType.{NodeType}
@@ -11,11 +11,14 @@ use Rattle.sl_ast.specs.declared.kinds.SlType.{SlType}
 use Rattle.sl_ast.specs.declared.kinds.SpaceName.{SpaceName}
 use Rattle.sl_ast.specs.declared.operations.Difference.{Difference}
 use Rattle.sl_ast.specs.declared.operations.Difference.TheVariants as differences
+use Rattle.sl_ast.specs.declared.operations.Look.TheVariants as looks
 use Rattle.sl_ast.specs.declared.operations.Operation.{Operation}
 use Rattle.sl_ast.specs.declared.operations.Operation.TheVariants as operations
 use Rattle.sl_ast.specs.declared.operations.ValueOperation.{ValueOperation}
 use Rattle.sl_ast.specs.declared.operations.ValueOperation.TheVariants as ops
 use Rattle.sl_ast.specs.declared.typed.TreeFormal.{TreeFormal}
+use Rattle.sl_ast.specs.declared.typed.Value.{Value}
+use Rattle.sl_ast.specs.declared.typed.Value.TheVariants.{Number}
 use Rattle.sl_ast.specs.declared.typed.Variable.{Variable}
 use Rattle.sl_ast.specs.declared.typed.Variable.TheVariants as variables
 use Rattle.sl_ast.specs.Typed as T
@@ -54,6 +57,16 @@ normal_varies : (es : C.Exprs) (ss : List Slot) → C.are_uniform (with_last es 
 normal_varies C.none ss = refl
 normal_varies (C.more e rest) ss = and_right (C.is_uniform e ss) _ (normal_varies rest ss)
 
+-- nor behind the predefined t
+place_varies : (es : C.Exprs) (ss : List Slot) → C.are_uniform (with_last es (C.read (variables.Predefined names.T))) ss ≡ false
+place_varies C.none ss = refl
+place_varies (C.more e rest) ss = and_right (C.is_uniform e ss) _ (place_varies rest ss)
+
+-- a literal changes nothing
+literal_behind : (es : C.Exprs) (v : Value) (ss : List Slot) → C.are_uniform (with_last es (C.literal v)) ss ≡ C.are_uniform es ss
+literal_behind C.none v ss = refl
+literal_behind (C.more e rest) v ss = ap (λ b. C.is_uniform e ss && b) (literal_behind rest v ss)
+
 -- a space's name is a literal
 named_space : (g : Around) (space : SpaceName) (a : T.Expr) (us : List Bool) (u : Bool) (ss : List Slot) → names_space g space a ≡ true → C.is_uniform (expr a us u) ss ≡ true
 named_space g space (T.word text p) us u ss h = refl
@@ -88,13 +101,16 @@ difference_class differences.Dv T.none kind us u ss h = absurd (cc h)
 difference_class differences.CalculateNormal T.none kind us u ss h = absurd (cc h)
 difference_class d (T.more e rest) kind us u ss h = refl
 
-operated_class : (operation : Operation) (args : T.Exprs) (kind : NodeType) (g : Around) (us : List Bool) (u : Bool) (ss : List Slot)
+operated_class : (operation : Operation) (n : ℕ) (args : T.Exprs) (kind : NodeType) (g : Around) (us : List Bool) (u : Bool) (ss : List Slot)
     → is_type kind (rule operation (operands args)) ≡ true → stands g operation args ≡ true → C.are_uniform (exprs args us u) ss ≡ classes.are_uniform args us
-    → C.is_uniform (lowered.operated operation (exprs args us u)) ss ≡ (is_plain operation && classes.are_uniform args us)
-operated_class (operations.Value op) args kind g us u ss h k q = value_class op g args us u ss k ∙ q
-operated_class operations.FaceForwardNg args kind g us u ss h k q = normal_varies (exprs args us u) ss
-operated_class (operations.Difference d) args kind g us u ss h k q = difference_class d args kind us u ss h
-operated_class (operations.Sum s) args kind g us u ss h k q = refl
+    → C.is_uniform (lowered.operated operation n (exprs args us u)) ss ≡ (is_plain operation && classes.are_uniform args us)
+operated_class (operations.Value op) n args kind g us u ss h k q = value_class op g args us u ss k ∙ q
+operated_class operations.FaceForwardNg n args kind g us u ss h k q = normal_varies (exprs args us u) ss
+operated_class (operations.Difference d) n args kind g us u ss h k q = difference_class d args kind us u ss h
+operated_class (operations.Sum s) n args kind g us u ss h k q = refl
+operated_class (operations.Look looks.At) n args kind g us u ss h k q = q
+operated_class (operations.Look looks.Here) n args kind g us u ss h k q = place_varies (with_last (exprs args us u) (C.read (variables.Predefined names.S))) ss
+operated_class (operations.Look looks.First) n args kind g us u ss h k q = literal_behind (exprs args us u) (Number (pos 0)) ss ∙ q
 
 all_class : (ss : List Slot) → C.all_uniform ss ≡ classes.all_uniform (classes_of ss)
 all_class [] = refl
@@ -127,7 +143,7 @@ mutual
   expr_class (T.apply operation args kind p) g ks us u ss q h =
       let outer = and_parts (is_type kind (rule operation (operands args))) (stands g operation args && typed_args g ks args) h in
       let inner = and_parts (stands g operation args) (typed_args g ks args) outer.1 in
-      operated_class operation args kind g us u ss outer.0 inner.0 (exprs_class args g ks us u ss q inner.1)
+      operated_class operation p.number args kind g us u ss outer.0 inner.0 (exprs_class args g ks us u ss q inner.1)
   expr_class (T.call args formals body returned value kind p) g ks us u ss q h =
       let first_part = and_parts (fits formals args) _ h in
       let second = and_parts (typed_args g ks args) _ first_part.1 in

@@ -10,7 +10,7 @@ use Rattle.sl_ast.specs.Typed as T
 use Rattle.sl_ast.specs.Classes as classes
 use Rattle.sl_ast.specs.Classes.{class_of, formal_classes}
 use Rattle.sl_ast.specs.Settled as settled
-use Rattle.sl_ast.specs.Settled.{Spot, is_difference, varies_into, goes_wrong, settled_expr, settled_args, settled_stmt, settled_stmts}
+use Rattle.sl_ast.specs.Settled.{Spot, asks_neighbours, varies_into, goes_wrong, settled_expr, settled_args, settled_stmt, settled_stmts}
 use Rattle.sl_ast.specs.WellTyped.{Around, in_function, in_lights, in_loop, fits, formal_types, types_after, types_after_all, typed, typed_args, typed_stmt, typed_stmts}
 use Rattle.uniform_varying.proofs.Parts.{needs, lacks, own_loop, apply_parts, call_parts, more_parts, fits_parts, declare_parts, assign_parts, test_parts, branch_parts, repeat_parts, steps_parts, lights_parts, first_parts}
 use Rattle.uniform_varying.proofs.Leaves.{function_stays}
@@ -45,7 +45,7 @@ mutual
   fine_expr (T.variable x kind p) g ks us ss c lit after v q t h = fine_read x ss (read_in_scope g kind ks x ss q.types t)
   fine_expr (T.apply operation args kind p) g ks us ss c lit after v q t h =
       let parts = apply_parts operation args kind p us c lit after h in
-      fine_operated operation (exprs args us false) ss (lacks (is_difference operation) c.uniform parts.control_uniform v)
+      fine_operated operation p.number (exprs args us false) ss (lacks (asks_neighbours operation) c.uniform parts.control_uniform v)
       (fine_exprs args g ks us ss c lit after v q (and_parts _ _ (and_parts _ _ t).1).1 parts.args_settled)
   fine_expr (T.call args formals body returned value kind p) g ks us ss c lit after v q t h =
       let parts = call_parts args formals body returned value kind p us c lit after h in

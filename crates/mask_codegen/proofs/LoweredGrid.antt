@@ -38,7 +38,7 @@ mutual
   grid_expr (T.variable x kind p) g ks us ss c lit after v q t h = grid_read x ss (read_in_scope g kind ks x ss q.types t)
   grid_expr (T.apply operation args kind p) g ks us ss c lit after v q t h =
       let parts = apply_parts operation args kind p us c lit after h in
-      grid_operated operation (exprs args us true) ss (grid_exprs args g ks us ss c lit after v q (and_parts _ _ (and_parts _ _ t).1).1 parts.args_settled)
+      grid_operated operation p.number (exprs args us true) ss (grid_exprs args g ks us ss c lit after v q (and_parts _ _ (and_parts _ _ t).1).1 parts.args_settled)
   grid_expr (T.call args formals body returned value kind p) g ks us ss c lit after v q t h =
       let parts = call_parts args formals body returned value kind p us c lit after h in
       let fit = and_parts (fits formals args) _ t in

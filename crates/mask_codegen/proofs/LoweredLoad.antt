@@ -1,16 +1,18 @@
--- The load of a lowered tree is at most eight times the rows that its tree counts.
-use Rattle.std.proofs.Common.{◌≡◌, ◌+◌, ◌*◌, ◌≤◌, Bool, true, false, cond, List, [], ◌∷◌, refl, ap, subst, arith}
+-- The load of a lowered tree is at most nine times the rows that its tree counts.
+use Rattle.std.proofs.Common.{◌≡◌, ℕ, pos, ◌+◌, ◌*◌, ◌≤◌, Bool, true, false, cond, List, [], ◌∷◌, refl, ap, subst, arith}
 use Rattle.std.specs.Prelude.{◌&&◌}
 use Rattle.std.proofs.lemmas.Bool.{and_parts}
 use Rattle.sl_ast.specs.declared.kinds.SlType.{SlType}
 use Rattle.sl_ast.specs.declared.kinds.SetOperator.{SetOperator}
 use Rattle.sl_ast.specs.declared.kinds.SetOperator.TheVariants as sets
 use Rattle.sl_ast.specs.declared.kinds.Predefined.TheVariants as names
+use Rattle.sl_ast.specs.declared.operations.Look.TheVariants as looks
 use Rattle.sl_ast.specs.declared.operations.Operation.{Operation}
 use Rattle.sl_ast.specs.declared.operations.Operation.TheVariants as operations
 use Rattle.sl_ast.specs.declared.operations.ValueOperation.{ValueOperation}
 use Rattle.sl_ast.specs.declared.operations.ValueOperation.TheVariants as ops
 use Rattle.sl_ast.specs.declared.typed.TreeFormal.{TreeFormal}
+use Rattle.sl_ast.specs.declared.typed.Value.TheVariants.{Number}
 use Rattle.sl_ast.specs.declared.typed.Variable.{Variable}
 use Rattle.sl_ast.specs.declared.typed.Variable.TheVariants as variables
 use Rattle.sl_ast.specs.Typed as T
@@ -28,17 +30,20 @@ use Rattle.mask_codegen.proofs.LoweredClasses.{expr_class}
 use Rattle.mask_codegen.proofs.Made.{three_unless, load, load_exprs, load_args, load_stmt, load_all}
 
 -- what a node that is varying takes at most
-six_rows : (a b : Bool) → a ≡ b → three_unless a + three_unless a ≤ 8 * row_unless b
-six_rows a b h = subst (λ x. three_unless a + three_unless a ≤ 8 * row_unless x) h (both_ways a) where
-  both_ways : (a : Bool) → three_unless a + three_unless a ≤ 8 * row_unless a
+abbrev nine_unless : Bool → ℕ
+nine_unless a = three_unless a + (three_unless a + three_unless a)
+
+nine_rows : (a b : Bool) → a ≡ b → nine_unless a ≤ 9 * row_unless b
+nine_rows a b h = subst (λ x. nine_unless a ≤ 9 * row_unless x) h (both_ways a) where
+  both_ways : (a : Bool) → nine_unless a ≤ 9 * row_unless a
   both_ways true = omega arith
   both_ways false = omega arith
 
-three_rows : (u : Bool) → three_unless u ≤ 8 * row_unless u
+three_rows : (u : Bool) → three_unless u ≤ 9 * row_unless u
 three_rows true = omega arith
 three_rows false = omega arith
 
-call_rows : (a f s e : Bool) → cond s 0 5 + three_unless (a && (f && (s && e))) ≤ 8 * row_unless (a && (f && (s && e)))
+call_rows : (a f s e : Bool) → cond s 0 5 + three_unless (a && (f && (s && e))) ≤ 9 * row_unless (a && (f && (s && e)))
 call_rows false f true e = omega arith
 call_rows false f false e = omega arith
 call_rows true false true e = omega arith
@@ -70,16 +75,31 @@ normal_varies (C.more e rest) ss = falls (C.is_uniform e ss) _ (normal_varies re
   falls true b h = h
   falls false b h = refl
 
-operated_load : (operation : Operation) (es : C.Exprs) (ss : List Slot) →
-    load (lowered.operated operation es) ss ≤ load_exprs es ss + (three_unless (C.is_uniform (lowered.operated operation es) ss) + three_unless (C.is_uniform (lowered.operated operation es) ss))
-operated_load (operations.Value op) es ss = let h = operands_load op es ss in omega arith
-operated_load operations.FaceForwardNg es ss =
+-- and so does the predefined t
+place_varies : (es : C.Exprs) (ss : List Slot) → C.are_uniform (with_last es (C.read (variables.Predefined names.T))) ss ≡ false
+place_varies C.none ss = refl
+place_varies (C.more e rest) ss = falls (C.is_uniform e ss) _ (place_varies rest ss) where
+  falls : (a b : Bool) → b ≡ false → (a && b) ≡ false
+  falls true b h = h
+  falls false b h = refl
+
+operated_load : (operation : Operation) (n : ℕ) (es : C.Exprs) (ss : List Slot) →
+    load (lowered.operated operation n es) ss ≤ load_exprs es ss + nine_unless (C.is_uniform (lowered.operated operation n es) ss)
+operated_load (operations.Value op) n es ss = let h = operands_load op es ss in omega arith
+operated_load operations.FaceForwardNg n es ss =
     let h = with_last_load es (C.read (variables.Predefined names.Ng)) ss in
-    let n = ap three_unless (normal_varies es ss) in
+    let k = ap three_unless (normal_varies es ss) in
     omega arith
-operated_load (operations.Difference d) C.none ss = omega arith
-operated_load (operations.Difference d) (C.more e rest) ss = omega arith
-operated_load (operations.Sum s) es ss = omega arith
+operated_load (operations.Difference d) n C.none ss = omega arith
+operated_load (operations.Difference d) n (C.more e rest) ss = omega arith
+operated_load (operations.Sum s) n es ss = omega arith
+operated_load (operations.Look looks.At) n es ss = omega arith
+operated_load (operations.Look looks.Here) n es ss =
+    let a = with_last_load es (C.read (variables.Predefined names.S)) ss in
+    let b = with_last_load (with_last es (C.read (variables.Predefined names.S))) (C.read (variables.Predefined names.T)) ss in
+    let k = ap three_unless (place_varies (with_last es (C.read (variables.Predefined names.S))) ss) in
+    omega arith
+operated_load (operations.Look looks.First) n es ss = let h = with_last_load es (C.literal (Number (pos 0))) ss in omega arith
 
 read_load : (x : Variable) (ss : List Slot) → load (lowered.read x) ss ≤ three_unless (C.is_uniform (lowered.read x) ss)
 read_load (variables.Predefined names.Pi) ss = omega arith
@@ -97,9 +117,11 @@ assign_load x kind (C.apply op (C.more (C.literal v) rest)) ss = omega arith
 assign_load x kind (C.apply op (C.more (C.apply o a) rest)) ss = omega arith
 assign_load x kind (C.apply op (C.more (C.differ d a) rest)) ss = omega arith
 assign_load x kind (C.apply op (C.more (C.sum q a) rest)) ss = omega arith
+assign_load x kind (C.apply op (C.more (C.texture m a) rest)) ss = omega arith
 assign_load x kind (C.apply op (C.more (C.call a q r e) rest)) ss = omega arith
 assign_load x kind (C.differ d e) ss = omega arith
 assign_load x kind (C.sum q args) ss = omega arith
+assign_load x kind (C.texture m args) ss = omega arith
 assign_load x kind (C.call args body r e) ss = omega arith
 
 put_load : (x : Variable) (operator : SetOperator) (kind : SlType) (e : C.Expr) (ss : List Slot) → load_stmt (C.assign x kind (put_into operator x e)) ss ≤ load e ss
@@ -110,19 +132,19 @@ put_load x sets.Multiply kind e ss = omega arith
 put_load x sets.Divide kind e ss = omega arith
 
 mutual
-  pub expr_rows : (e : T.Expr) (g : Around) (ks : List SlType) (us : List Bool) (u : Bool) (ss : List Slot) → Scope ss us ks → typed g ks e ≡ true → load (expr e us u) ss ≤ 8 * rows e us
+  pub expr_rows : (e : T.Expr) (g : Around) (ks : List SlType) (us : List Bool) (u : Bool) (ss : List Slot) → Scope ss us ks → typed g ks e ≡ true → load (expr e us u) ss ≤ 9 * rows e us
   expr_rows (T.number x p) g ks us u ss q h = omega arith
   expr_rows (T.word text p) g ks us u ss q h = omega arith
   expr_rows (T.variable x kind p) g ks us u ss q h =
-      omega (arith, read_load x ss, six_rows (C.is_uniform (lowered.read x) ss) (classes.is_uniform (T.variable x kind p) us) (expr_class (T.variable x kind p) g ks us u ss q.classes h))
+      omega (arith, read_load x ss, nine_rows (C.is_uniform (lowered.read x) ss) (classes.is_uniform (T.variable x kind p) us) (expr_class (T.variable x kind p) g ks us u ss q.classes h))
   expr_rows (T.apply operation args kind p) g ks us u ss q h =
       let outer = and_parts (is_type kind (rule operation (operands args))) (stands g operation args && typed_args g ks args) h in
       let inner = and_parts (stands g operation args) (typed_args g ks args) outer.1 in
       let es = exprs args us u in
       omega (
         arith,
-        operated_load operation es ss,
-        six_rows (C.is_uniform (lowered.operated operation es) ss) (classes.is_uniform (T.apply operation args kind p) us) (expr_class (T.apply operation args kind p) g ks us u ss q.classes h),
+        operated_load operation p.number es ss,
+        nine_rows (C.is_uniform (lowered.operated operation p.number es) ss) (classes.is_uniform (T.apply operation args kind p) us) (expr_class (T.apply operation args kind p) g ks us u ss q.classes h),
         exprs_rows args g ks us u ss q inner.1,
       )
   expr_rows (T.call args formals body returned value kind p) g ks us u ss q h =
@@ -148,21 +170,21 @@ mutual
         expr_rows value (in_function g) (types_after_all body (formal_types formals)) us2 u ss2 behind fourth.0,
       )
 
-  pub exprs_rows : (args : T.Exprs) (g : Around) (ks : List SlType) (us : List Bool) (u : Bool) (ss : List Slot) → Scope ss us ks → typed_args g ks args ≡ true → load_exprs (exprs args us u) ss ≤ 8 * rows_args args us
+  pub exprs_rows : (args : T.Exprs) (g : Around) (ks : List SlType) (us : List Bool) (u : Bool) (ss : List Slot) → Scope ss us ks → typed_args g ks args ≡ true → load_exprs (exprs args us u) ss ≤ 9 * rows_args args us
   exprs_rows T.none g ks us u ss q h = omega arith
   exprs_rows (T.more e rest) g ks us u ss q h =
       let parts = and_parts (typed g ks e) (typed_args g ks rest) h in
       omega (arith, expr_rows e g ks us u ss q parts.0, exprs_rows rest g ks us u ss q parts.1)
 
   pub args_rows : (args : T.Exprs) (formals : List TreeFormal) (g : Around) (ks : List SlType) (us : List Bool) (u : Bool) (ss : List Slot) → Scope ss us ks → typed_args g ks args ≡ true →
-      load_args (arguments args formals us u) ss ≤ 8 * (rows_args args us + rows_of_classes (formal_classes formals))
+      load_args (arguments args formals us u) ss ≤ 9 * (rows_args args us + rows_of_classes (formal_classes formals))
   args_rows T.none formals g ks us u ss q h = omega arith
   args_rows (T.more e rest) [] g ks us u ss q h = omega arith
   args_rows (T.more e rest) (f ∷ fs) g ks us u ss q h =
       let parts = and_parts (typed g ks e) (typed_args g ks rest) h in
       omega (arith, three_rows f.uniform, expr_rows e g ks us u ss q parts.0, args_rows rest fs g ks us u ss q parts.1)
 
-  pub stmt_rows : (s : T.Stmt) (g : Around) (ks : List SlType) (us : List Bool) (u : Bool) (ss : List Slot) → Scope ss us ks → typed_stmt g ks s ≡ true → load_stmt (stmt s us u) ss ≤ 8 * rows_stmt s us
+  pub stmt_rows : (s : T.Stmt) (g : Around) (ks : List SlType) (us : List Bool) (u : Bool) (ss : List Slot) → Scope ss us ks → typed_stmt g ks s ≡ true → load_stmt (stmt s us u) ss ≤ 9 * rows_stmt s us
   stmt_rows (T.empty p) g ks us u ss q h = omega arith
   stmt_rows (T.leave p) g ks us u ss q h = omega arith
   stmt_rows (T.again p) g ks us u ss q h = omega arith
@@ -199,7 +221,7 @@ mutual
       let parts = and_parts (typed_args g ks args) _ (and_parts _ _ (and_parts _ _ h).1).1 in
       omega (arith, exprs_rows args g ks us u ss q parts.0, stmt_rows s (in_lights g) ks us false ss q parts.1)
 
-  pub stmts_rows : (body : T.Stmts) (g : Around) (ks : List SlType) (us : List Bool) (u : Bool) (ss : List Slot) → Scope ss us ks → typed_stmts g ks body ≡ true → load_all (stmts body us u) ss ≤ 8 * rows_stmts body us
+  pub stmts_rows : (body : T.Stmts) (g : Around) (ks : List SlType) (us : List Bool) (u : Bool) (ss : List Slot) → Scope ss us ks → typed_stmts g ks body ≡ true → load_all (stmts body us u) ss ≤ 9 * rows_stmts body us
   stmts_rows T.done g ks us u ss q h = omega arith
   stmts_rows (T.first s rest) g ks us u ss q h =
       let parts = and_parts (typed_stmt g ks s) _ h in

@@ -1,16 +1,19 @@
 -- The blocks of a core tree lie no deeper in one another than the nodes of the typed tree that it is made from.
-use Rattle.std.proofs.Common.{ℕ, ◌+◌, ◌-◌, ◌≤◌, max, Bool, true, false, List, [], ◌∷◌, arith}
+use Rattle.std.proofs.Common.{ℕ, pos, ◌+◌, ◌-◌, ◌≤◌, max, Bool, true, false, List, [], ◌∷◌, arith}
 use Rattle.std.specs.Prelude.{◌&&◌}
 use Rattle.std.proofs.Math.Nat.{le-max_left, le-max_right, max-le}
 use Rattle.sl_ast.specs.declared.kinds.Predefined.TheVariants as names
 use Rattle.sl_ast.specs.declared.kinds.SetOperator.{SetOperator}
 use Rattle.sl_ast.specs.declared.kinds.SetOperator.TheVariants as sets
 use Rattle.sl_ast.specs.declared.operations.Difference.{Difference}
+use Rattle.sl_ast.specs.declared.operations.Look.TheVariants as looks
 use Rattle.sl_ast.specs.declared.operations.Operation.{Operation}
 use Rattle.sl_ast.specs.declared.operations.Operation.TheVariants as operations
 use Rattle.sl_ast.specs.declared.operations.ValueOperation.{ValueOperation}
 use Rattle.sl_ast.specs.declared.operations.ValueOperation.TheVariants as ops
 use Rattle.sl_ast.specs.declared.typed.TreeFormal.{TreeFormal}
+use Rattle.sl_ast.specs.declared.typed.Value.{Value}
+use Rattle.sl_ast.specs.declared.typed.Value.TheVariants.{Number}
 use Rattle.sl_ast.specs.declared.typed.Variable.{Variable}
 use Rattle.sl_ast.specs.declared.typed.Variable.TheVariants as variables
 use Rattle.sl_ast.specs.Typed as T
@@ -57,11 +60,19 @@ difference_nesting : (d : Difference) (es : C.Exprs) (m : ℕ) → exprs_nesting
 difference_nesting d C.none m h = omega arith
 difference_nesting d (C.more e rest) m h = (max_parts _ _ m h).0
 
-operated_nesting : (operation : Operation) (es : C.Exprs) (m : ℕ) → exprs_nesting es ≤ m → expr_nesting (lowered.operated operation es) ≤ m
-operated_nesting (operations.Value op) es m h = operands_nesting op es m h
-operated_nesting operations.FaceForwardNg es m h = with_last_nesting es (variables.Predefined names.Ng) m h
-operated_nesting (operations.Difference d) es m h = difference_nesting d es m h
-operated_nesting (operations.Sum s) es m h = h
+literal_nesting : (es : C.Exprs) (v : Value) (m : ℕ) → exprs_nesting es ≤ m → exprs_nesting (with_last es (C.literal v)) ≤ m
+literal_nesting C.none v m h = alone 0 m (omega arith)
+literal_nesting (C.more e rest) v m h = let parts = max_parts _ _ m h in max-le parts.0 (literal_nesting rest v m parts.1)
+
+operated_nesting : (operation : Operation) (n : ℕ) (es : C.Exprs) (m : ℕ) → exprs_nesting es ≤ m → expr_nesting (lowered.operated operation n es) ≤ m
+operated_nesting (operations.Value op) n es m h = operands_nesting op es m h
+operated_nesting operations.FaceForwardNg n es m h = with_last_nesting es (variables.Predefined names.Ng) m h
+operated_nesting (operations.Difference d) n es m h = difference_nesting d es m h
+operated_nesting (operations.Sum s) n es m h = h
+operated_nesting (operations.Look looks.At) n es m h = h
+operated_nesting (operations.Look looks.Here) n es m h =
+    with_last_nesting (with_last es (C.read (variables.Predefined names.S))) (variables.Predefined names.T) m (with_last_nesting es (variables.Predefined names.S) m h)
+operated_nesting (operations.Look looks.First) n es m h = literal_nesting es (Number (pos 0)) m h
 
 put_nesting : (x : Variable) (operator : SetOperator) (e : C.Expr) (m : ℕ) → expr_nesting e ≤ m → expr_nesting (put_into operator x e) ≤ m
 put_nesting x sets.Set e m h = h
@@ -80,7 +91,7 @@ mutual
   nesting_expr (T.number x p) us u m h = omega arith
   nesting_expr (T.word text p) us u m h = omega arith
   nesting_expr (T.variable x kind p) us u m h = let k = read_nesting x in omega arith
-  nesting_expr (T.apply operation args kind p) us u m h = operated_nesting operation (exprs args us u) m (nesting_exprs args us u m (wider _ m (inner _ m h)))
+  nesting_expr (T.apply operation args kind p) us u m h = operated_nesting operation p.number (exprs args us u) m (nesting_exprs args us u m (wider _ m (inner _ m h)))
   nesting_expr (T.call args formals body returned value kind p) us u m h =
       let parts = max_parts (depth_args args) (max (depth_stmts body) (1 + depth value)) m (wider _ m (inner _ m h)) in
       let rest = max_parts (depth_stmts body) (1 + depth value) m parts.1 in

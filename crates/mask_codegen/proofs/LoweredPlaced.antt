@@ -32,7 +32,7 @@ mutual
   placed_expr (T.apply operation args kind p) g ks us u t =
       let outer = and_parts (is_type kind (rule operation (operands args))) (stands g operation args && typed_args g ks args) t in
       let inner = and_parts (stands g operation args) (typed_args g ks args) outer.1 in
-      operated_placed operation args kind g us u outer.0 inner.0 (placed_exprs args g ks us u inner.1)
+      operated_placed operation p.number args kind g us u outer.0 inner.0 (placed_exprs args g ks us u inner.1)
   placed_expr (T.call args formals body returned value kind p) g ks us u t =
       let fit = and_parts (fits formals args) _ t in
       let passed = and_parts (typed_args g ks args) _ fit.1 in

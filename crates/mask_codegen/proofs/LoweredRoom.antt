@@ -1,15 +1,17 @@
--- The code of a shader's body takes at most five registers for each node of its tree.
-use Rattle.std.proofs.Common.{◌≡◌, ◌+◌, ◌*◌, ◌≤◌, Bool, true, false, List, [], ◌∷◌, ◌++◌, length, length-append, refl, arith}
+-- The code of a shader's body takes at most seven registers for each node of its tree.
+use Rattle.std.proofs.Common.{◌≡◌, ℕ, pos, ◌+◌, ◌*◌, ◌≤◌, Bool, true, false, List, [], ◌∷◌, ◌++◌, length, length-append, refl, arith}
 use Rattle.std.specs.Prelude.{◌&&◌}
 use Rattle.sl_ast.specs.declared.kinds.Predefined.TheVariants as names
 use Rattle.sl_ast.specs.declared.kinds.SetOperator.{SetOperator}
 use Rattle.sl_ast.specs.declared.kinds.SetOperator.TheVariants as sets
 use Rattle.sl_ast.specs.declared.operations.Difference.{Difference}
+use Rattle.sl_ast.specs.declared.operations.Look.TheVariants as looks
 use Rattle.sl_ast.specs.declared.operations.Operation.{Operation}
 use Rattle.sl_ast.specs.declared.operations.Operation.TheVariants as operations
 use Rattle.sl_ast.specs.declared.operations.ValueOperation.{ValueOperation}
 use Rattle.sl_ast.specs.declared.operations.ValueOperation.TheVariants as ops
 use Rattle.sl_ast.specs.declared.typed.TreeFormal.{TreeFormal}
+use Rattle.sl_ast.specs.declared.typed.Value.TheVariants.{Number}
 use Rattle.sl_ast.specs.declared.typed.Variable.{Variable}
 use Rattle.sl_ast.specs.declared.typed.Variable.TheVariants as variables
 use Rattle.sl_ast.specs.Typed as T
@@ -40,11 +42,18 @@ difference_room : (d : Difference) (es : C.Exprs) → expr_room (lowered.differe
 difference_room d C.none = omega arith
 difference_room d (C.more e rest) = omega arith
 
-operated_room : (operation : Operation) (es : C.Exprs) → expr_room (lowered.operated operation es) ≤ 3 + exprs_room es
-operated_room (operations.Value op) es = let h = operands_room op es in omega arith
-operated_room operations.FaceForwardNg es = let h = with_last_room es (C.read (variables.Predefined names.Ng)) in omega arith
-operated_room (operations.Difference d) es = let h = difference_room d es in omega arith
-operated_room (operations.Sum s) es = omega arith
+operated_room : (operation : Operation) (n : ℕ) (es : C.Exprs) → expr_room (lowered.operated operation n es) ≤ 5 + exprs_room es
+operated_room (operations.Value op) n es = let h = operands_room op es in omega arith
+operated_room operations.FaceForwardNg n es = let h = with_last_room es (C.read (variables.Predefined names.Ng)) in omega arith
+operated_room (operations.Difference d) n es = let h = difference_room d es in omega arith
+operated_room (operations.Sum s) n es = omega arith
+operated_room (operations.Look looks.At) n es = omega arith
+operated_room (operations.Look looks.Here) n es =
+    let s = C.read (variables.Predefined names.S) in
+    let a = with_last_room es s in
+    let b = with_last_room (with_last es s) (C.read (variables.Predefined names.T)) in
+    omega arith
+operated_room (operations.Look looks.First) n es = let h = with_last_room es (C.literal (Number (pos 0))) in omega arith
 
 put_room : (x : Variable) (operator : SetOperator) (e : C.Expr) → expr_room (put_into operator x e) ≤ 4 + expr_room e
 put_room x sets.Set e = omega arith
@@ -59,11 +68,11 @@ read_room (variables.Predefined p) = refl
 read_room (variables.Level k) = refl
 
 mutual
-  pub room_expr : (e : T.Expr) (us : List Bool) (u : Bool) → expr_room (expr e us u) + 2 ≤ 5 * length (numbers e)
+  pub room_expr : (e : T.Expr) (us : List Bool) (u : Bool) → expr_room (expr e us u) + 2 ≤ 7 * length (numbers e)
   room_expr (T.number x p) us u = omega arith
   room_expr (T.word text p) us u = omega arith
   room_expr (T.variable x kind p) us u = omega (arith, read_room x)
-  room_expr (T.apply operation args kind p) us u = omega (arith, operated_room operation (exprs args us u), room_exprs args us u)
+  room_expr (T.apply operation args kind p) us u = omega (arith, operated_room operation p.number (exprs args us u), room_exprs args us u)
   room_expr (T.call args formals body returned value kind p) us u =
       let v = returned.number ∷ numbers value in
       let b = numbers_stmts body ++ v in
@@ -76,16 +85,16 @@ mutual
         length-append (numbers_stmts body) v,
       )
 
-  pub room_exprs : (es : T.Exprs) (us : List Bool) (u : Bool) → exprs_room (exprs es us u) ≤ 5 * length (numbers_args es)
+  pub room_exprs : (es : T.Exprs) (us : List Bool) (u : Bool) → exprs_room (exprs es us u) ≤ 7 * length (numbers_args es)
   room_exprs T.none us u = omega arith
   room_exprs (T.more e rest) us u = omega (arith, room_expr e us u, room_exprs rest us u, length-append (numbers e) (numbers_args rest))
 
-  pub room_args : (es : T.Exprs) (formals : List TreeFormal) (us : List Bool) (u : Bool) → args_room (arguments es formals us u) ≤ 5 * length (numbers_args es)
+  pub room_args : (es : T.Exprs) (formals : List TreeFormal) (us : List Bool) (u : Bool) → args_room (arguments es formals us u) ≤ 7 * length (numbers_args es)
   room_args T.none formals us u = omega arith
   room_args (T.more e rest) [] us u = omega arith
   room_args (T.more e rest) (f ∷ fs) us u = omega (arith, room_expr e us u, room_args rest fs us u, length-append (numbers e) (numbers_args rest))
 
-  pub room_stmt : (s : T.Stmt) (us : List Bool) (u : Bool) → stmt_room (stmt s us u) ≤ 5 * length (numbers_stmt s)
+  pub room_stmt : (s : T.Stmt) (us : List Bool) (u : Bool) → stmt_room (stmt s us u) ≤ 7 * length (numbers_stmt s)
   room_stmt (T.empty p) us u = omega arith
   room_stmt (T.leave p) us u = omega arith
   room_stmt (T.again p) us u = omega arith
@@ -121,9 +130,9 @@ mutual
       )
   room_stmt (T.lights over args s p) us u = omega (arith, room_exprs args us u, room_stmt s us false, length-append (numbers_args args) (numbers_stmt s))
 
-  pub room_stmts : (body : T.Stmts) (us : List Bool) (u : Bool) → all_room (stmts body us u) ≤ 5 * length (numbers_stmts body)
+  pub room_stmts : (body : T.Stmts) (us : List Bool) (u : Bool) → all_room (stmts body us u) ≤ 7 * length (numbers_stmts body)
   room_stmts T.done us u = omega arith
   room_stmts (T.first s rest) us u = omega (arith, room_stmt s us u, room_stmts rest (classes.after s us) u, length-append (numbers_stmt s) (numbers_stmts rest))
 
-pub body_room : (t : T.Tree) → all_room (body_of t) ≤ 5 * length (numbers_tree t)
+pub body_room : (t : T.Tree) → all_room (body_of t) ≤ 7 * length (numbers_tree t)
 body_room t = omega (arith, room_stmts t.body (classes.local_classes t.params) true, length-append (numbers_defaults t.defaults) (numbers_stmts t.body))

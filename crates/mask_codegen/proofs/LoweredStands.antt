@@ -1,5 +1,5 @@
 -- The parts of the core tree of a well typed tree stand where they may.
-use Rattle.std.proofs.Common.{◌≡◌, Bool, true, false, List, refl, sym, ap, ◌∙◌}
+use Rattle.std.proofs.Common.{◌≡◌, ℕ, pos, Bool, true, false, List, refl, sym, ap, ◌∙◌}
 use Rattle.std.specs.Prelude.{◌&&◌, ◌||◌, not, Option, Some, None, cond, nat_lt, length, get_or}
 use Rattle.std.proofs.lemmas.Bool.{and_parts}
 use Rattle.sl_ast.specs.declared.kinds.LightStmt.{LightStmt}
@@ -17,10 +17,13 @@ use Rattle.sl_ast.specs.declared.operands.Operands.TheVariants.{Nothing, Many}
 use Rattle.sl_ast.specs.declared.operations.Difference.{Difference}
 use Rattle.sl_ast.specs.declared.operations.LightSum.{LightSum}
 use Rattle.sl_ast.specs.declared.operations.LightSum.TheVariants as sums
+use Rattle.sl_ast.specs.declared.operations.Look.{Look}
+use Rattle.sl_ast.specs.declared.operations.Look.TheVariants as looks
 use Rattle.sl_ast.specs.declared.operations.Operation.{Operation}
 use Rattle.sl_ast.specs.declared.operations.Operation.TheVariants as operations
 use Rattle.sl_ast.specs.declared.operations.ValueOperation.{ValueOperation}
 use Rattle.sl_ast.specs.declared.operations.ValueOperation.TheVariants as ops
+use Rattle.sl_ast.specs.declared.typed.Value.TheVariants.{Number}
 use Rattle.sl_ast.specs.declared.typed.Variable.{Variable}
 use Rattle.sl_ast.specs.declared.typed.Variable.TheVariants as variables
 use Rattle.sl_ast.specs.Typed as T
@@ -31,7 +34,7 @@ use Rattle.sl_meaning.specs.Core as C
 use Rattle.sl_meaning.specs.Core.{Slot, kind_in}
 use Rattle.sl_meaning.specs.Lowered as lowered
 use Rattle.sl_meaning.specs.Lowered.{exprs, put_into, read, with_last}
-use Rattle.mask_codegen.proofs.CorePlaced.{are_few, are_some, Reads, PlacedExpr, PlacedExprs}
+use Rattle.mask_codegen.proofs.CorePlaced.{are_few, are_some, are_triple, Reads, PlacedExpr, PlacedExprs}
 use Rattle.mask_codegen.proofs.LoweredScopes.{types_of, level_kind}
 
 -- a value goes into a variable of its type
@@ -189,13 +192,51 @@ sum_few sums.Ambient (T.more a (T.more b (T.more c (T.more d rest)))) kind us u 
 sum_few sums.Diffuse (T.more a (T.more b (T.more c (T.more d rest)))) kind us u h = absurd (cc h)
 sum_few sums.Specular (T.more a (T.more b (T.more c (T.more d rest)))) kind us u h = absurd (cc h)
 
-pub operated_placed : (operation : Operation) (args : T.Exprs) (kind : NodeType) (g : Around) (us : List Bool) (u : Bool) → is_type kind (rule operation (operands args)) ≡ true → stands g operation args ≡ true
-    → PlacedExprs g.kind (exprs args us u) → PlacedExpr g.kind (lowered.operated operation (exprs args us u))
-operated_placed (operations.Value op) args kind g us u h k p = (operands_few op (exprs args us u) (value_few op args kind us u h), operands_placed g.kind op (exprs args us u) p)
-operated_placed operations.FaceForwardNg args kind g us u h k p =
+-- a look-up has three operands: its name, s and t
+three_there : (args : T.Exprs) (kind : NodeType) (us : List Bool) (u : Bool) → is_type kind (rule (operations.Look looks.At) (operands args)) ≡ true → are_triple (exprs args us u) ≡ true
+three_there T.none kind us u h = absurd (cc h)
+three_there (T.more a T.none) kind us u h = absurd (cc h)
+three_there (T.more a (T.more b T.none)) kind us u h = absurd (cc h)
+three_there (T.more a (T.more b (T.more c T.none))) kind us u h = refl
+three_there (T.more a (T.more b (T.more c (T.more d rest)))) kind us u h = absurd (cc h)
+
+two_more : (args : T.Exprs) (kind : NodeType) (us : List Bool) (u : Bool) (x y : C.Expr) → is_type kind (rule (operations.Look looks.Here) (operands args)) ≡ true → are_triple (with_last (with_last (exprs args us u) x) y) ≡ true
+two_more T.none kind us u x y h = absurd (cc h)
+two_more (T.more a T.none) kind us u x y h = refl
+two_more (T.more a (T.more b T.none)) kind us u x y h = absurd (cc h)
+two_more (T.more a (T.more b (T.more c T.none))) kind us u x y h = absurd (cc h)
+two_more (T.more a (T.more b (T.more c (T.more d rest)))) kind us u x y h = absurd (cc h)
+
+one_more : (args : T.Exprs) (kind : NodeType) (us : List Bool) (u : Bool) (x : C.Expr) → is_type kind (rule (operations.Look looks.First) (operands args)) ≡ true → are_some (with_last (exprs args us u) x) ≡ true
+one_more T.none kind us u x h = refl
+one_more (T.more a T.none) kind us u x h = refl
+one_more (T.more a (T.more b T.none)) kind us u x h = refl
+one_more (T.more a (T.more b (T.more c T.none))) kind us u x h = absurd (cc h)
+one_more (T.more a (T.more b (T.more c (T.more d rest)))) kind us u x h = absurd (cc h)
+
+-- the predefined s and t are there where a surface is
+places_read : (k : SlKind) → has_surface k ≡ true → (reads k true names.S ≡ true) × (reads k true names.T ≡ true)
+places_read Surface h = (refl, refl)
+places_read Displacement h = (refl, refl)
+places_read Light h = absurd (cc h)
+places_read Volume h = absurd (cc h)
+
+looked_placed : (look : Look) (n : ℕ) (args : T.Exprs) (kind : NodeType) (k : SlKind) (us : List Bool) (u : Bool) → is_type kind (rule (operations.Look look) (operands args)) ≡ true → has_surface k ≡ true
+    → PlacedExprs k (exprs args us u) → PlacedExpr k (lowered.looked_up look n (exprs args us u))
+looked_placed looks.At n args kind k us u h has p = (has, (three_there args kind us u h, p))
+looked_placed looks.Here n args kind k us u h has p =
+    let r = places_read k has in
+    (has, (two_more args kind us u _ _ h, with_last_placed k _ (C.read (variables.Predefined names.T)) (with_last_placed k (exprs args us u) (C.read (variables.Predefined names.S)) p r.0) r.1))
+looked_placed looks.First n args kind k us u h has p = (one_more args kind us u _ h, with_last_placed k (exprs args us u) (C.literal (Number (pos 0))) p tt)
+
+pub operated_placed : (operation : Operation) (n : ℕ) (args : T.Exprs) (kind : NodeType) (g : Around) (us : List Bool) (u : Bool) → is_type kind (rule operation (operands args)) ≡ true → stands g operation args ≡ true
+    → PlacedExprs g.kind (exprs args us u) → PlacedExpr g.kind (lowered.operated operation n (exprs args us u))
+operated_placed (operations.Value op) n args kind g us u h k p = (operands_few op (exprs args us u) (value_few op args kind us u h), operands_placed g.kind op (exprs args us u) p)
+operated_placed operations.FaceForwardNg n args kind g us u h k p =
     (normal_few args kind us u _ h, with_last_placed g.kind (exprs args us u) (C.read (variables.Predefined names.Ng)) p (normal_read g.kind (and_parts (has_surface g.kind) (not g.default) k).0))
-operated_placed (operations.Difference d) args kind g us u h k p = difference_placed g.kind d (exprs args us u) (and_parts (has_surface g.kind) _ k).0 p
-operated_placed (operations.Sum s) args kind g us u h k p = ((and_parts (is_surface g.kind) _ k).0, (sum_few s args kind us u h, p))
+operated_placed (operations.Difference d) n args kind g us u h k p = difference_placed g.kind d (exprs args us u) (and_parts (has_surface g.kind) _ k).0 p
+operated_placed (operations.Sum s) n args kind g us u h k p = ((and_parts (is_surface g.kind) _ k).0, (sum_few s args kind us u h, p))
+operated_placed (operations.Look look) n args kind g us u h k p = looked_placed look n args kind g.kind us u h (and_parts (has_surface g.kind) _ k).0 p
 
 pub put_placed : (k : SlKind) (x : Variable) (operator : SetOperator) (e : C.Expr) → Reads k x → PlacedExpr k e → PlacedExpr k (put_into operator x e)
 put_placed k x sets.Set e r h = h

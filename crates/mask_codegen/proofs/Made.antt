@@ -5,7 +5,7 @@ use Rattle.builtins.specs.Values.{shape_of}
 use Rattle.grid_code.specs.declared.code.Register.{Register}
 use Rattle.grid_code.specs.declared.code.Register.TheVariants.{Uniform, Varying}
 use Rattle.grid_code.specs.Names.{reg}
-use Rattle.sl_meaning.specs.Core.{Slot, Expr, literal, read, apply, differ, sum, call, Exprs, none, more, Arguments, no_arguments, argument, Stmt, declare, assign, block, test, repeat, lights, leave, again, Stmts, done, first, formals, after, after_all, is_uniform, stmts_uniform}
+use Rattle.sl_meaning.specs.Core.{Slot, Expr, literal, read, apply, differ, sum, texture, call, Exprs, none, more, Arguments, no_arguments, argument, Stmt, declare, assign, block, test, repeat, lights, leave, again, Stmts, done, first, formals, after, after_all, is_uniform, stmts_uniform}
 use Rattle.core_codegen.specs.Compile.{at, behind}
 use Rattle.core_codegen.specs.Variables.{slot_at}
 
@@ -29,6 +29,7 @@ abbrev mutual
   made (apply op args) ss r = made_exprs args ss r ++ at (apply op args) ss r ∷ []
   made (differ d e) ss r = made e ss r ++ at (differ d e) ss r ∷ []
   made (sum s args) ss r = made_exprs args ss r ++ at (sum s args) ss r ∷ []
+  made (texture k args) ss r = made_exprs args ss r ++ at (texture k args) ss r ∷ []
   made (call args body kind e) ss r =
       made_args args ss r ++ (shared_by body (formals args) (behind (formals args) r body) ++ (made_all body (formals args) r (behind (formals args) r body) ++
       (made e (after_all body (formals args)) (r + length (after_all body (formals args))) ++ at (call args body kind e) ss r ∷ [])))
@@ -78,6 +79,7 @@ abbrev mutual
   load (apply op args) ss = load_exprs args ss + three_unless (is_uniform (apply op args) ss)
   load (differ d e) ss = load e ss + 3
   load (sum s args) ss = load_exprs args ss + 3
+  load (texture k args) ss = load_exprs args ss + three_unless (is_uniform (texture k args) ss)
   load (call args body kind e) ss =
       load_args args ss + (cond (stmts_uniform body (formals args)) 0 5 + (load_all body (formals args) +
       (load e (after_all body (formals args)) + three_unless (is_uniform (call args body kind e) ss))))

@@ -5,7 +5,7 @@ use Rattle.builtins.specs.declared.shape.Shape.TheVariants as shapes
 use Rattle.builtins.specs.Values.{shape_of}
 use Rattle.grid_code.specs.declared.code.Register.{Register}
 use Rattle.grid_code.specs.Names.{reg}
-use Rattle.sl_meaning.specs.Core.{Slot, Expr, literal, read, apply, differ, sum, call, Exprs, none, more, Arguments, no_arguments, argument, Stmt, declare, assign, block, test, repeat, lights, leave, again, Stmts, done, first, formals, after, after_all, is_uniform, stmts_uniform}
+use Rattle.sl_meaning.specs.Core.{Slot, Expr, literal, read, apply, differ, sum, texture, call, Exprs, none, more, Arguments, no_arguments, argument, Stmt, declare, assign, block, test, repeat, lights, leave, again, Stmts, done, first, formals, after, after_all, is_uniform, stmts_uniform}
 use Rattle.core_codegen.specs.Compile.{at, shape_in, behind}
 use Rattle.mask_codegen.proofs.Made.{shared, shared_by, made, made_exprs, made_args, made_stmt, made_all, rows_at, weight, three_unless, load, load_exprs, load_args, load_stmt, load_all}
 
@@ -33,6 +33,7 @@ mutual
   made_load (apply op args) ss r = omega (arith, weight_on (made_exprs args ss r) (at (apply op args) ss r ∷ []), exprs_load args ss r, one_at (apply op args) ss r)
   made_load (differ d e) ss r = omega (arith, weight_on (made e ss r) (at (differ d e) ss r ∷ []), made_load e ss r, one_at (differ d e) ss r)
   made_load (sum s args) ss r = omega (arith, weight_on (made_exprs args ss r) (at (sum s args) ss r ∷ []), exprs_load args ss r, one_at (sum s args) ss r)
+  made_load (texture k args) ss r = omega (arith, weight_on (made_exprs args ss r) (at (texture k args) ss r ∷ []), exprs_load args ss r, one_at (texture k args) ss r)
   made_load (call args body kind e) ss r =
       let fs = formals args in
       let t = behind fs r body in
@@ -75,9 +76,11 @@ mutual
   stmt_load (assign x kind (apply op (more (apply o a) rest))) ss b t = made_load (apply op (more (apply o a) rest)) ss t
   stmt_load (assign x kind (apply op (more (differ d a) rest))) ss b t = made_load (apply op (more (differ d a) rest)) ss t
   stmt_load (assign x kind (apply op (more (sum q a) rest))) ss b t = made_load (apply op (more (sum q a) rest)) ss t
+  stmt_load (assign x kind (apply op (more (texture m a) rest))) ss b t = made_load (apply op (more (texture m a) rest)) ss t
   stmt_load (assign x kind (apply op (more (call a q k e) rest))) ss b t = made_load (apply op (more (call a q k e) rest)) ss t
   stmt_load (assign x kind (differ d e)) ss b t = made_load (differ d e) ss t
   stmt_load (assign x kind (sum q args)) ss b t = made_load (sum q args) ss t
+  stmt_load (assign x kind (texture m args)) ss b t = made_load (texture m args) ss t
   stmt_load (assign x kind (call args body k e)) ss b t = made_load (call args body k e) ss t
   stmt_load (block s) ss b t = all_load s ss b t
   stmt_load (test q x y) ss b t =

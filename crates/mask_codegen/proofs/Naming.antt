@@ -9,7 +9,7 @@ use Rattle.grid_code.specs.declared.code.Source.{Source}
 use Rattle.grid_code.specs.declared.code.Source.TheVariants.{Constant, Copy, Into, Apply}
 use Rattle.grid_code.specs.declared.code.Node.{Node, If, Loop, Lights}
 use Rattle.grid_code.specs.Code as c
-use Rattle.grid_code.specs.Code.{Block, end, put, differ, sum, branch, loops, lights, breaks, continues, ◌then◌}
+use Rattle.grid_code.specs.Code.{Block, end, put, differ, sum, texture, branch, loops, lights, breaks, continues, ◌then◌}
 use Rattle.grid_code.specs.Uses.{source_within, within}
 use Rattle.grid_code.specs.View.{with_node, block_of}
 use Rattle.mask_codegen.specs.Collected.{source_registers, registers_of}
@@ -21,6 +21,7 @@ registers_then end y = refl
 registers_then (put r o x) y = ap (λ l. (r ∷ source_registers o) ++ l) (registers_then x y) ∙ sym (append_assoc (r ∷ source_registers o) (registers_of x) (registers_of y))
 registers_then (differ r d q x) y = ap (λ l. (r ∷ q ∷ []) ++ l) (registers_then x y) ∙ sym (append_assoc (r ∷ q ∷ []) (registers_of x) (registers_of y))
 registers_then (sum r w qs x) y = ap (λ l. (r ∷ qs) ++ l) (registers_then x y) ∙ sym (append_assoc (r ∷ qs) (registers_of x) (registers_of y))
+registers_then (texture r k qs x) y = ap (λ l. (r ∷ qs) ++ l) (registers_then x y) ∙ sym (append_assoc (r ∷ qs) (registers_of x) (registers_of y))
 registers_then (branch t a b x) y =
     let k = t ∷ (registers_of a ++ registers_of b) in
     ap (λ l. k ++ l) (registers_then x y) ∙ sym (append_assoc k (registers_of x) (registers_of y))
@@ -94,6 +95,7 @@ within_named p (put r o x) =
     ap (λ b. p r && b) (sym (list_all-append p (source_registers o) (registers_of x)))
 within_named p (differ r d q x) = ap (λ b. p r && (p q && b)) (within_named p x)
 within_named p (sum r w qs x) = ap (λ b. p r && (list_all p qs && b)) (within_named p x) ∙ ap (λ b. p r && b) (sym (list_all-append p qs (registers_of x)))
+within_named p (texture r k qs x) = ap (λ b. p r && (list_all p qs && b)) (within_named p x) ∙ ap (λ b. p r && b) (sym (list_all-append p qs (registers_of x)))
 within_named p (branch t a b x) =
     let ra = list_all p (registers_of a) in
     let rb = list_all p (registers_of b) in

@@ -1,8 +1,8 @@
--- A core tree of a shader that is neither a surface's nor a displacement's has no differences.
+-- A core tree of a shader that is neither a surface's nor a displacement's has no differences and no look-ups.
 use Rattle.std.proofs.Common.{◌≡◌, Bool, true, false, List}
 use Rattle.sl_ast.specs.declared.kinds.SlKind.{SlKind}
 use Rattle.sl_ast.specs.Names.{has_surface}
-use Rattle.sl_meaning.specs.Core.{Slot, Expr, literal, read, apply, differ, sum, call, Exprs, none, more, Arguments, no_arguments, argument, Stmt, declare, assign, block, test, repeat, lights, leave, again, Stmts, done, first, formals, after}
+use Rattle.sl_meaning.specs.Core.{Slot, Expr, literal, read, apply, differ, sum, texture, call, Exprs, none, more, Arguments, no_arguments, argument, Stmt, declare, assign, block, test, repeat, lights, leave, again, Stmts, done, first, formals, after}
 use Rattle.mask_codegen.proofs.CorePlaced.{PlacedExpr, PlacedExprs, PlacedArgs, PlacedStmt, PlacedAll}
 use Rattle.mask_codegen.proofs.CorePlain.{PlainExpr, PlainExprs, PlainArgs, PlainStmt, PlainAll}
 
@@ -14,6 +14,7 @@ module _ (k : SlKind) (none_of : has_surface k ≡ false) where
     plain_expr (apply op args) h = plain_exprs args h.1
     plain_expr (differ d e) h = let has = h.0 in absurd (cc (none_of, has))
     plain_expr (sum s args) h = plain_exprs args h.1.1
+    plain_expr (texture m args) h = let has = h.0 in absurd (cc (none_of, has))
     plain_expr (call args body kind e) h = (plain_args args h.0, (plain_all body false (formals args) h.1.0, plain_expr e h.1.1))
 
     pub plain_exprs : (args : Exprs) → PlacedExprs k args → PlainExprs args

@@ -55,7 +55,7 @@ among_at (q ∷ qs) (suc i) d h =
 
 -- the sets have all
 
-found : (xs : List ℕ) (x : ℕ) → Contains xs x → list_any (λ k. k == x) xs ≡ true
+pub found : (xs : List ℕ) (x : ℕ) → Contains xs x → list_any (λ k. k == x) xs ≡ true
 found xs x h = list_any_at (λ k. k == x) xs h.0 x h.1 (grind (arith, h.2))
 
 has_one : (varying uniform : RegisterSet) (qs : List Register) → IsSetOf varying false qs → IsSetOf uniform true qs → (q : Register) → Among qs q → has varying uniform q ≡ true

@@ -97,12 +97,12 @@ module _ (t : T.Tree) (typed : well_typed t ≡ true) (settled : IsSettled t) (p
       (subst (λ l. list_all p l ≡ true) (sym (params_frame ps first_free)) of_params) (λ _. all_first p (shared top) made rest) (all_second p (shared top) made rest) in
       all_join p (given_registers t.kind ps) (registers_of code) given (sym (within_named p code) ∙ in_code)
 
-  pub all_weight : weight all_registers ≤ 8 * rows_of t
+  pub all_weight : weight all_registers ≤ 9 * rows_of t
   all_weight =
       let made = made_all (body_of t) (slots_of ps) first_free top in
       let scope = scope_of_params t.params in
       let classes : classes_of (slots_of ps) ≡ local_classes t.params = ap classes_of same ∙ scope.classes in
-      let load : load_all (body_of t) (slots t.params) ≤ 8 * rows_stmts t.body (local_classes t.params) =
+      let load : load_all (body_of t) (slots t.params) ≤ 9 * rows_stmts t.body (local_classes t.params) =
       stmts_rows t.body (in_shader t.kind) (local_types t.params) (local_classes t.params) true (slots t.params) scope (and_parts _ _ typed).1 in
       let here = ap (load_all (body_of t)) same in
       omega (
@@ -125,5 +125,5 @@ module _ (t : T.Tree) (typed : well_typed t ≡ true) (settled : IsSettled t) (p
     pub code_named : within (has varying uniform) code ≡ true
     code_named = within_named (has varying uniform) code ∙ all_second (has varying uniform) (given_registers t.kind ps) (registers_of code) (has_all varying uniform _ v u)
 
-    pub code_few : rows_in varying ≤ 8 * rows_of t
+    pub code_few : rows_in varying ≤ 9 * rows_of t
     code_few = let r = rows_fit varying (given_registers t.kind ps ++ registers_of code) all_registers v among_all in let w = all_weight in omega arith

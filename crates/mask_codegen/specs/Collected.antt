@@ -7,7 +7,7 @@ use Rattle.grid_code.specs.declared.code.Register.TheVariants.{Uniform, Varying}
 use Rattle.grid_code.specs.declared.code.Source.{Source}
 use Rattle.grid_code.specs.declared.code.Source.TheVariants.{Constant, Copy, Into, Apply}
 use Rattle.grid_code.specs.declared.register_set.RegisterSet.{RegisterSet}
-use Rattle.grid_code.specs.Code.{Block, end, put, differ, sum, branch, loops, lights, breaks, continues}
+use Rattle.grid_code.specs.Code.{Block, end, put, differ, sum, texture, branch, loops, lights, breaks, continues}
 use Rattle.grid_code.specs.Masked.{same_shape}
 use Rattle.grid_code.specs.Uses.{numbers_of}
 
@@ -22,6 +22,7 @@ registers_of end = []
 registers_of (put r o x) = (r ∷ source_registers o) ++ registers_of x
 registers_of (differ r d q x) = (r ∷ q ∷ []) ++ registers_of x
 registers_of (sum r which qs x) = (r ∷ qs) ++ registers_of x
+registers_of (texture r k qs x) = (r ∷ qs) ++ registers_of x
 registers_of (branch t a b x) = (t ∷ (registers_of a ++ registers_of b)) ++ registers_of x
 registers_of (loops u d t e a x) = (registers_of d ++ (t ∷ (registers_of e ++ registers_of a))) ++ registers_of x
 registers_of (lights w qs a x) = (qs ++ registers_of a) ++ registers_of x

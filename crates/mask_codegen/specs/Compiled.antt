@@ -1,7 +1,8 @@
 -- A tree with a code that means it.
-use Rattle.std.specs.Prelude.{◌≡◌, ◌*◌, ◌<◌, ◌≤◌, Bool, true, Result, Ok, Err}
+use Rattle.std.specs.Prelude.{◌≡◌, ℕ, ◌*◌, ◌<◌, ◌≤◌, Bool, true, List, map, Result, Ok, Err}
 use Rattle.sl_ast.specs.Registers.{rows_of}
 use Rattle.sl_ast.specs.Settled.{IsSettled}
+use Rattle.sl_ast.specs.Textures.{texture_nodes}
 use Rattle.sl_ast.specs.Typed as T
 use Rattle.sl_ast.specs.TreeView.{tree_of}
 use Rattle.sl_ast.specs.declared.tree.Tree.{Tree}
@@ -20,8 +21,12 @@ use Rattle.mask_codegen.specs.declared.fault.CodeFault.TheVariants.{M9, NoMemory
 use Rattle.core_codegen.specs.Correct.{Means}
 use Rattle.core_codegen.specs.Slots.{slots_of}
 
+-- the numbers of a tree's look-ups, in the order of the text
+abbrev pub look_up_numbers : T.Tree → List ℕ
+look_up_numbers t = map (λ n. n.number) (texture_nodes t)
+
 -- a code of a settled tree: of its kind, with its parameters, meaning its body, with a statement over lights where the tree has one, in at most
--- sixteen rows for each one counted
+-- sixteen rows for each one counted, with the tree's look-ups
 pub record IsCodeOf (t : T.Tree) (c : Code) : Type 0 where
   pub kind : c.kind ≡ t.kind
   pub params : slots_of c.params ≡ slots t.params
@@ -29,6 +34,7 @@ pub record IsCodeOf (t : T.Tree) (c : Code) : Type 0 where
   pub settled : IsSettled t
   pub lights : has_light_statement (block_of c.nodes) ≡ lights_in_all (body_of t)
   pub rows : rows_in c.varying ≤ 16 * rows_of t
+  pub look_ups : c.look_ups.nodes ≡ look_up_numbers t
 
 -- each varying register that code names is in a set
 abbrev pub is_among : RegisterSet → Register → Bool

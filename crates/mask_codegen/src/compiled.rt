@@ -8,12 +8,14 @@ ghost use Rattle.mask_codegen.specs.Compiled.{IsCodeOf, NamesVarying, Compiles};
 
 use crate::fault::CodeFault;
 use crate::lit::is_ambient;
+use crate::looks::look_up_set;
 use crate::named::name_all;
 use crate::sets::set_of;
 use core_codegen::{emit, given_registers, param_slots};
 use fixed_math::{List, NoMemory};
 use grid_code::{Code, RegisterSet};
 use sl_ast::{ParamDecl, Tree};
+use sl_look_ups::binding_params;
 use sl_lowering::lower_body;
 use std::alloc::Global;
 use std::marker::Model;
@@ -36,6 +38,7 @@ fn code_of(alloc: Global, tree: &Tree) -> Result<Code, NoMemory>
     let varying = set_of(alloc, &seen, false)?;
     let uniform = set_of(alloc, &seen, true)?;
     let ambient = is_ambient(tree.kind, &nodes);
+    let look_ups = look_up_set(alloc, tree)?;
     Ok(Code {
         kind: tree.kind,
         params: List(params),
@@ -43,6 +46,7 @@ fn code_of(alloc: Global, tree: &Tree) -> Result<Code, NoMemory>
         ambient,
         varying,
         uniform,
+        look_ups,
     })
 }
 
@@ -63,11 +67,15 @@ pub struct Compiled {
     tree: Tree,
     code: Code,
     named: RegisterSet,
+    binding: Vec<ParamDecl>,
 }
 
 impl Model for Compiled {
     ghost use Rattle.std.specs.Coded.{codes};
+    ghost use Rattle.std.specs.Prelude.{◌≡◌, map};
     ghost use Rattle.sl_ast.specs.TreeView.{tree_of};
+    ghost use Rattle.sl_ast.specs.TypedView.{local_of};
+    ghost use Rattle.sl_look_ups.specs.Naming.{binding_params};
     ghost use Rattle.sl_ast.specs.contracts.typed.TreeExpr as e;
     ghost use Rattle.sl_ast.specs.contracts.typed.TreeStmt as s;
     ghost use Rattle.grid_code.specs.contracts.code.Node as n;
@@ -80,11 +88,13 @@ impl Model for Compiled {
 
     ghost view = { λ c. record { tree = c.tree; code = c.code } };
 
-    ghost invariant = { λ c. IsCodeOf (tree_of c.tree) c.code × NamesVarying c.named (block_of c.code.nodes) };
+    ghost invariant = { λ c. IsCodeOf (tree_of c.tree) c.code × NamesVarying c.named (block_of c.code.nodes) × (map local_of c.binding.items ≡ binding_params (tree_of c.tree)) };
 }
 
 impl Compiled {
-    ghost use Rattle.std.specs.Prelude.{◌≡◌};
+    ghost use Rattle.std.specs.Prelude.{◌≡◌, map};
+    ghost use Rattle.sl_ast.specs.TypedView.{local_of};
+    ghost use Rattle.sl_look_ups.specs.Naming.{binding_params};
     ghost use Rattle.sl_ast.specs.TreeView.{tree_of};
     ghost use Rattle.grid_code.specs.View.{block_of};
     ghost use Rattle.mask_codegen.specs.Compiled.{IsCodeOf, NamesVarying};
@@ -96,8 +106,16 @@ impl Compiled {
         self.tree.params.as_slice()
     }
 
+    /// The parameters as variables of primitives bind to them.
+    pub fn binding_params(&self) -> &[ParamDecl]
+        ensures { map local_of result.now ≡ binding_params (tree_of self.now.tree) }
+    {
+        self.binding.as_slice()
+    }
+
     /// The code, which is one of the tree, a settled one: of its kind, with its parameters, meaning its body, with a
-    /// statement over lights where the tree has one, in at most sixteen rows for each that the tree counts.
+    /// statement over lights where the tree has one, in at most sixteen rows for each that the tree counts. Its
+    /// look-ups are those of the tree, in the order of the text.
     pub fn code(&self) -> &Code
         ensures code { result.now ≡ self.now.code }
         ensures means { IsCodeOf (tree_of self.now.tree) self.now.code }
@@ -125,5 +143,11 @@ pub fn compile(alloc: Global, tree: Tree) -> Result<Compiled, CodeFault>
     }
     let code = code_of(alloc, &tree)?;
     let named = named_in(alloc, &code)?;
-    Ok(Compiled { tree, code, named })
+    let binding = binding_params(alloc, &tree)?;
+    Ok(Compiled {
+        tree,
+        code,
+        named,
+        binding,
+    })
 }

@@ -5,6 +5,7 @@ mod compiled;
 mod fault;
 mod laws;
 mod lit;
+mod looks;
 mod named;
 mod sets;
 

@@ -40,8 +40,12 @@ fn node_has(node: &Node) -> bool
             let c = has_lights(body.as_slice());
             either(a, either(b, c))
         }
-        Node::Put { .. } | Node::Differ { .. } | Node::Sum { .. } | Node::Break | Node::Continue =>
-            false,
+        Node::Put { .. }
+        | Node::Differ { .. }
+        | Node::Sum { .. }
+        | Node::Texture { .. }
+        | Node::Break
+        | Node::Continue => false,
     }
 }
 

@@ -38,7 +38,7 @@ fn name_put(to: Register, source: &Source, seen: &mut Vec<Register>) -> Result<(
     name_source(source, seen)
 }
 
-fn name_sum(to: Register, args: &[Register], seen: &mut Vec<Register>) -> Result<(), NoMemory>
+fn name_with(to: Register, args: &[Register], seen: &mut Vec<Register>) -> Result<(), NoMemory>
     ensures { OnOk result (seen.new.items ≡ seen.old.items ++ to ∷ args.now) }
 {
     name(seen, to)?;
@@ -52,7 +52,8 @@ fn name_node(node: &Node, seen: &mut Vec<Register>) -> Result<(), NoMemory>
     match node {
         Node::Put { to, source } => name_put(*to, source, seen),
         Node::Differ { to, of, .. } => name_each(seen, &[*to, *of]),
-        Node::Sum { to, args, .. } => name_sum(*to, args.as_slice(), seen),
+        Node::Sum { to, args, .. } => name_with(*to, args.as_slice(), seen),
+        Node::Texture { to, args, .. } => name_with(*to, args.as_slice(), seen),
         Node::If {
             test,
             then,

@@ -8,3 +8,4 @@ pub mod Courses
 pub mod Left
 pub mod Obeying
 pub mod Parting
+pub mod Shopping

@@ -317,6 +317,15 @@ draws-in-part o a fault fs i f x y z lines lines_then m n same lt is first left 
     left
     (subst (λ gs. Says (filter_map (summary_of o a) (take i gs)) lines lines_then m n) same said)
 
+-- what fails before the first frame leaves nothing
+pub draws-none : {T : Type 0} (r : Result T DrawFault) (o : RunOptions) (a : AcceptedValue) (x : Option (List Written)) (lines : Option (List (List ℕ))) (n : ℕ) → IfErr r (λ e. DrawsInPart o a e x x lines lines n n)
+draws-none (Ok u) o a x lines n = tt
+draws-none (Err e) o a x lines n = record { ended = 0; told = 0; draws = record { ends = ends-none (frames_of a) x; says = says-none lines n }; behind = inl refl }
+
+pub some-none : {T E : Type 0} (r : Result T E) (ps : List Picture) (x : Option (List Written)) → OnErr r (EndsSome ps x x)
+some-none (Ok u) ps x = tt
+some-none (Err e) ps x = record { ended = 0; ends = ends-none ps x }
+
 -- what holds of the error that is handed on
 pub of-error : {T E : Type 0} (r : Result T E) (given : E) (P : E → Type 0) → IsErrAnd r (λ e. e ≡ given) → P given → IfErr r P
 of-error (Ok u) given P is p = tt

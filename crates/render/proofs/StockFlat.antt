@@ -1,6 +1,7 @@
 -- Leaves under the stock's `constant` are flat.
 use Rattle.std.proofs.Common.{◌≡◌, ℕ, zero, suc, Bool, true, false, not, ◌||◌, List, [], ◌∷◌, map, Option, Some, None, Ok, Err, cond, refl, sym, ap, ◌∙◌, subst}
-use Rattle.std.specs.Prelude.{slice_get, slice_index_or, codes}
+use Rattle.std.specs.Prelude.{slice_get, slice_index_or, codes, option_map}
+use Rattle.std.proofs.lemmas.Option.{slice_get-map}
 use Rattle.std.specs.List.{cons_option}
 use Rattle.std.specs.Str.{bytes_eq}
 use Rattle.outside.specs.Library.{Files, held_as}
@@ -15,8 +16,11 @@ use Rattle.acceptance.specs.Causes.{Cause, Reads, unless, cause_in, or_else}
 use Rattle.acceptance.specs.Shaders.{file_of, text_with, tree_of_text, shader_tree, without, distinct, use_name, shader_names, shaders_refused}
 use Rattle.acceptance.specs.UseFit.{uses_refused}
 use Rattle.acceptance.specs.PrimFit.{prims_refused}
-use Rattle.acceptance.specs.Set.{tree_in, trees_of, place_or, place_in, values_in, set_of, accepted_with}
-use Rattle.acceptance.specs.Accepting.{scene_of_text, accepted_scene, bound_scene}
+use Rattle.texture.specs.Images.{Image}
+use Rattle.acceptance.specs.Places.{place_or, place_in}
+use Rattle.acceptance.specs.Textures.{entry_in, entries_in, images_of}
+use Rattle.acceptance.specs.Set.{tree_in, trees_of, values_in, names_in, names_of_uses, textures_named, set_of, accepted_with}
+use Rattle.acceptance.specs.Accepting.{scene_of_text, accepted_scene, textured_scene, fitting_scene, bound_scene}
 use Rattle.acceptance.specs.Reading.{is_among}
 use Rattle.render.specs.Stocked.{the_constant, StockConstantLaw}
 use Rattle.acceptance.proofs.Names.{same_name, itself}
@@ -32,15 +36,19 @@ unless_ok : {A : Type 0} (cause : Option Cause) (read : Reads A) (x : A) → unl
 unless_ok None read x h = (refl, h)
 unless_ok (Some cause) read x h = absurd (cc h)
 
+textured_from : (files : Files) (scene : SceneValue) (read : Reads (List Image)) (a : AcceptedValue) → textured_scene files scene read ≡ Ok a → (images : List Image) × (a ≡ accepted_with files scene images)
+textured_from files scene (Err cause) a h = absurd (cc h)
+textured_from files scene (Ok images) a h = (images, cc h)
+
 accepted_from : (files : Files) (read : Reads SceneValue) (a : AcceptedValue) → accepted_scene files read ≡ Ok a
-    → (scene : SceneValue) × (a ≡ accepted_with files scene) × (shaders_refused files (shader_names scene.uses) ≡ None)
+    → (scene : SceneValue) × (images : List Image) × (a ≡ accepted_with files scene images) × (shaders_refused files (shader_names scene.uses) ≡ None)
 accepted_from files (Err cause) a h = absurd (cc h)
 accepted_from files (Ok scene) a h =
     let shaders = unless_ok (shaders_refused files (shader_names scene.uses)) (bound_scene files scene) a h in
-    let requests = unless_ok (uses_refused files scene.uses) _ a shaders.1 in
-    let prims = unless_ok (prims_refused (set_of files scene.uses) scene.frames) (Ok (accepted_with files scene)) a requests.1 in
-    let same : a ≡ accepted_with files scene = cc prims.1 in
-    (scene, same, shaders.0)
+    let requests = unless_ok (uses_refused files scene.uses) (fitting_scene files scene) a shaders.1 in
+    let prims = unless_ok (prims_refused (set_of files scene.uses []) scene.frames) (textured_scene files scene (images_of files (textures_named files scene.uses))) a requests.1 in
+    let textured = textured_from files scene (images_of files (textures_named files scene.uses)) a prims.1 in
+    (scene, textured.0, textured.1, shaders.0)
 
 -- ---- names of uses
 -- a name that isn't another one stays where that one is left out
@@ -119,25 +127,31 @@ image_there f [] k u h = absurd (cc h)
 image_there f (v ∷ us) zero u h = let same : v ≡ u = cc h in ap (λ w. Some (f w)) same
 image_there f (v ∷ us) (suc k) u h = image_there f us k u h
 
-bound_there : (files : Files) (uses : List ShaderUse) (k : ℕ) (u : ShaderUse) (t : Tree) → shaders_refused files (shader_names uses) ≡ None → slice_get uses k ≡ Some u
-    → shader_tree files u.name ≡ Ok t → bound_at (set_of files uses) uses k ≡ Some (record { tree = t; values = values_in (shader_tree files u.name) u; space = u.space })
-bound_there files uses k u t none there is =
+bound_there : (files : Files) (images : List Image) (uses : List ShaderUse) (k : ℕ) (u : ShaderUse) (t : Tree) → shaders_refused files (shader_names uses) ≡ None → slice_get uses k ≡ Some u
+    → shader_tree files u.name ≡ Ok t → bound_at (set_of files uses images) uses k ≡ Some (record { tree = t; values = values_in (shader_tree files u.name) u; look_ups = map (entry_in (textures_named files uses)) (names_in (shader_tree files u.name) u); textures = images; space = u.space })
+bound_there files images uses k u t none there is =
     let names : List (List ℕ) = shader_names uses in
     let at : slice_index_or (map (λ v. place_in names v.name) uses) k 0 ≡ place_in names u.name = index_there (λ v. place_in names v.name) uses k u there in
     let tree : slice_get (trees_of files names) (place_in names u.name) ≡ Some t =
     tree_placed files names (place_in names u.name) u.name t none (named_place u.name names (among_distinct u.name (map use_name uses) (use_among uses k u there))) is in
     let values = image_there (λ v. values_in (shader_tree files v.name) v) uses k u there in
-    ap (λ n. bound_with (slice_get (trees_of files names) n) (slice_get (map (λ v. values_in (shader_tree files v.name) v) uses) k) (slice_get uses k)) at
-    ∙ ap (λ o. bound_with o (slice_get (map (λ v. values_in (shader_tree files v.name) v) uses) k) (slice_get uses k)) tree
-    ∙ ap (λ o. bound_with (Some t) o (slice_get uses k)) values
-    ∙ ap (λ o. bound_with (Some t) (Some (values_in (shader_tree files u.name) u)) o) there
+    let all = textures_named files uses in
+    let ess : List (List (Option ℕ)) = entries_in all (names_of_uses files uses) in
+    let looks : slice_get ess k ≡ Some (map (entry_in all) (names_in (shader_tree files u.name) u)) =
+    slice_get-map (λ ns. map (entry_in all) ns) (names_of_uses files uses) k ∙ ap (λ o. option_map (λ ns. map (entry_in all) ns) o) (image_there (λ v. names_in (shader_tree files v.name) v) uses k u there) in
+    ap (λ n. bound_with images (slice_get (trees_of files names) n) (slice_get (map (λ v. values_in (shader_tree files v.name) v) uses) k) (slice_get ess k) (slice_get uses k)) at
+    ∙ ap (λ o. bound_with images o (slice_get (map (λ v. values_in (shader_tree files v.name) v) uses) k) (slice_get ess k) (slice_get uses k)) tree
+    ∙ ap (λ o. bound_with images (Some t) o (slice_get ess k) (slice_get uses k)) values
+    ∙ ap (λ o. bound_with images (Some t) (Some (values_in (shader_tree files u.name) u)) o (slice_get uses k)) looks
+    ∙ ap (λ o. bound_with images (Some t) (Some (values_in (shader_tree files u.name) u)) (Some (map (entry_in all) (names_in (shader_tree files u.name) u))) o) there
 
 pub stock_constant_law : StockConstantLaw
 stock_constant_law files text a l u is free there name none =
     let from = accepted_from files (scene_of_text text) a is in
     let scene : SceneValue = from.0 in
-    let same : a ≡ accepted_with files scene = from.1 in
+    let images : List Image = from.1 in
+    let same : a ≡ accepted_with files scene images = from.2 in
     let used : slice_get scene.uses l.prim.surface ≡ Some u = ap (λ (v : AcceptedValue). slice_get v.scene.uses l.prim.surface) (sym same) ∙ there in
     let tree : shader_tree files u.name ≡ Ok constant_tree = ap (shader_tree files) name ∙ constant_read files free in
     subst (λ (v : AcceptedValue). IsFlat l v.set v.scene.uses) (sym same)
-    (constant_law l (set_of files scene.uses) scene.uses _ (bound_there files scene.uses l.prim.surface u constant_tree from.2 used tree) refl none)
+    (constant_law l (set_of files scene.uses images) scene.uses _ (bound_there files images scene.uses l.prim.surface u constant_tree from.3 used tree) refl none)

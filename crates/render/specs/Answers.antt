@@ -44,7 +44,7 @@ cause_of _ = None
 
 -- the accepted scene with its set
 abbrev pub accepted_in : Accepted → AcceptedValue
-accepted_in a = record { scene = a.scene; set = set_value a.set }
+accepted_in a = record { scene = a.scene; set = set_value a.set a.textures }
 
 -- it is the verdict's, or the verdict's refusal; none where no file has the scene's name
 abbrev pub LoadsNamed : List ℕ → SceneTask → Result (Option Loaded) Refusal → verdicts.Verdict → Type 0

@@ -1,7 +1,7 @@
 -- The note that tells why a command is refused.
 use Rattle.std.specs.Prelude.{ℕ, List, ◌++◌, Option, Some, None, codes, decimal}
 use Rattle.acceptance.specs.declared.refusal.FileId.{FileId}
-use Rattle.acceptance.specs.declared.refusal.FileId.TheVariants.{Scene, Shader}
+use Rattle.acceptance.specs.declared.refusal.FileId.TheVariants.{Scene, Shader, Texture}
 use Rattle.acceptance.specs.Codes.{code_text}
 use Rattle.acceptance.specs.Causes.{Cause, Missing, At}
 use Rattle.command_line.specs.Command.{Source, File, Demo}
@@ -14,6 +14,7 @@ use Rattle.acceptance.specs.Shaders.{file_of}
 abbrev pub name_in_notes : List ℕ → FileId → List ℕ
 name_in_notes scene Scene = scene
 name_in_notes scene (Shader name) = file_of name
+name_in_notes scene (Texture name) = name
 
 abbrev pub fault_line : List ℕ → ℕ → List ℕ → List ℕ
 fault_line file line code = file ++ (codes ":" ++ (decimal line ++ (codes ": " ++ (code ++ codes "\n"))))

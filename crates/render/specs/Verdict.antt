@@ -98,8 +98,9 @@ pictures_of (Accepted Render accepted) = frames_of accepted
 pictures_of (Entries entries) = entries
 pictures_of _ = []
 
--- the names to ask for: that of the scene's file, and where the scene is read those of its shaders' files, up to and with the first that is refused;
--- those of the parts' files, up to and with the first that isn't read
+-- the names to ask for: that of the scene's file, and where the scene is read those of its shaders' files, up to and with the first that is refused,
+-- and where all fits those of its textures' files, up to and with the first that is refused; those of the parts' files, up to and with the first that
+-- isn't read
 abbrev pub asked_for_text : Files → Reads (List ℕ) → List (List ℕ)
 asked_for_text files (Ok text) = asked_for_scene files (scene_of_text text)
 asked_for_text files (Err cause) = []

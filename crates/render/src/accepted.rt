@@ -10,9 +10,9 @@ ghost use Rattle.acceptance.specs.Reading.{tree_read};
 ghost use Rattle.acceptance.specs.declared.refusal.Refusal.TheVariants.{ReadFault};
 ghost use Rattle.displace_shade.specs.Shop.{set_value};
 ghost use Rattle.render.specs.Answers.{accepted_in};
-ghost use Rattle.render.specs.Coded.{tree_compiled};
+ghost use Rattle.render.specs.Coded.{tree_compiled, IsSetOf};
 
-use acceptance::{ReadShader, Refusal, UsedShaders};
+use acceptance::{ReadShader, Refusal, UsedShaders, UsedTextures};
 use displace_shade::ShaderSet;
 use fixed_math::{List, NoMemory};
 use mask_codegen::{CodeFault, Compiled, compile};
@@ -20,12 +20,14 @@ use outside::Library;
 use scene::Scene;
 use sl_ast::Value;
 use std::alloc::Global;
+use texture::Texture;
 
-/// A scene that is right, with the shaders of its requests and what their parameters are bound to.
+/// A scene that is right, with the shaders of its requests, what their parameters are bound to, and the textures that they look up.
 #[derive(Drop)]
 pub struct Accepted {
     pub scene: Scene,
     pub set: ShaderSet,
+    pub textures: List<Texture>,
 }
 
 // The code of a shader that is read.
@@ -55,35 +57,43 @@ fn set_of(
     alloc: Global,
     shaders: UsedShaders,
     bound: List<List<Value>>,
+    look_ups: List<List<Option<u32>>>,
 ) -> Result<ShaderSet, NoMemory>
-    ensures { IfOk result (λ s. set_value s ≡ record { trees = map tree_read shaders.read; of_use = shaders.of_use; bound = bound }) }
+    ensures { IfOk result (IsSetOf shaders bound look_ups) }
 {
     Ok(ShaderSet {
         compiled: List(all_compiled(alloc, shaders.read.0)?),
         of_use: shaders.of_use,
         bound,
+        look_ups,
     })
 }
 
 /// The accepted scene of a text of at most 16,777,216 bytes with its shaders, which are asked of the library by first use, each
-/// once: the file `x.sl` of the shader x, or the stock's text where there is no such file. Or the first fault: of the scene, of its
-/// shaders by first use, then of the parameters of its shader requests (RenderMan Interface 3.2, section 11.3.3), then of the
-/// variables of its primitives. The set of shaders fits the scene, which has at most 1,000 frames, and so do the variables fit it.
+/// once: the file `x.sl` of the shader x, or the stock's text where there is no such file. Then the textures that their look-ups name
+/// are asked of it, by first use, each once. Or the first fault: of the scene, of its shaders by first use, then of the parameters of
+/// its shader requests (RenderMan Interface 3.2, section 11.3.3), then of the variables of its primitives, then of its textures by
+/// first use. The set of shaders fits the scene, which has at most 1,000 frames, and so do the variables fit it.
 pub fn accept<L: Library>(alloc: Global, text: &[u8], library: &mut L) -> Result<Accepted, Refusal>
     requires { length text.now ≤ 16777216 }
     ensures held { L.held library.new ≡ L.held library.old }
     ensures asked { Told (L.held library.old) (λ files. AsksFront (asked_for_scene files (scene_of_text text.now)) (L.asked library.old) (L.asked library.new)) }
     ensures gives { Told (L.held library.old) (λ files. Gives accepted_in result (accepted files text.now)) }
-    ensures fits { IfOk result (λ a. Fits (set_value a.set) a.scene.uses) }
-    ensures variables { IfOk result (λ a. FitPrims (set_value a.set) a.scene.uses a.scene.frames) }
+    ensures fits { IfOk result (λ a. Fits (set_value a.set a.textures) a.scene.uses) }
+    ensures variables { IfOk result (λ a. FitPrims (set_value a.set a.textures) a.scene.uses a.scene.frames) }
     ensures few { IfOk result (λ a. length a.scene.frames ≤ 1000) }
     ensures later { L.faults library.old ≤ L.faults library.new }
     ensures read { IsErrOf result ReadFault → Rose (L.faults library.old) (L.faults library.new) }
 {
     let read = acceptance::accept(alloc, text, library)?;
-    let set = set_of(alloc, read.shaders, read.bound)?;
+    let UsedTextures {
+        read: textures,
+        look_ups,
+    } = read.textures;
+    let set = set_of(alloc, read.shaders, read.bound, look_ups)?;
     Ok(Accepted {
         scene: read.scene,
         set,
+        textures,
     })
 }

@@ -82,8 +82,8 @@ pub(crate) fn load<L: Library>(
     ensures held { L.held library.new ≡ L.held library.old }
     ensures asked { Told (L.held library.old) (λ files. AsksFront (asked_for_command (Some (OnScene (scene_view command.now))) files) (L.asked library.old) (L.asked library.new)) }
     ensures loads { Told (L.held library.old) (λ files. LoadsNamed (scene_name (source_view command.now.source)) (scene_view command.now) result (verdict_of_scene (scene_view command.now) files)) }
-    ensures fits { IfOk result (λ o. IfSome o (λ l. Fits (set_value l.accepted.set) l.accepted.scene.uses)) }
-    ensures variables { IfOk result (λ o. IfSome o (λ l. FitPrims (set_value l.accepted.set) l.accepted.scene.uses l.accepted.scene.frames)) }
+    ensures fits { IfOk result (λ o. IfSome o (λ l. Fits (set_value l.accepted.set l.accepted.textures) l.accepted.scene.uses)) }
+    ensures variables { IfOk result (λ o. IfSome o (λ l. FitPrims (set_value l.accepted.set l.accepted.textures) l.accepted.scene.uses l.accepted.scene.frames)) }
     ensures few { IfOk result (λ o. IfSome o (λ l. length l.accepted.scene.frames ≤ 1000)) }
     ensures later { L.faults library.old ≤ L.faults library.new }
     ensures read { IsErrOf result ReadFault → Rose (L.faults library.old) (L.faults library.new) }

@@ -216,6 +216,10 @@ fn fault_note(
             let name = name.as_str();
             format!(in alloc; "{name}.sl:{line}: {code}\n")?
         }
+        FileId::Texture(name) => {
+            let name = name.as_str();
+            format!(in alloc; "{name}:{line}: {code}\n")?
+        }
     })
 }
 
@@ -314,15 +318,16 @@ fn status(answer: &Answer, note: &Result<Option<String>, NoMemory>) -> u8
 /// of the demonstration scene, 1 to 1,000. B, 4 to 64, is the side in pixels of the buckets in which frames are drawn; G, 289 to
 /// 1,000,000, is the most points of shaded grids that are kept at one time; neither changes a byte of a picture. The scene's
 /// file is asked of the library and read to its end, and then each shader x that a primitive of it uses, once, by first use: the
-/// file `x.sl`, or the stock text of x where there is no such file. With `render` and `demo` the frames then go to the sink, each
-/// a row of buckets at a time; with `check` nothing is written. No frame of the sink may be open. With `--stats`, and always
-/// with `demo`, a line of the notes tells of each frame behind its end how many grids were shaded for it, and in how many epochs.
+/// file `x.sl`, or the stock text of x where there is no such file; and then each texture that a look-up of these names, once, by
+/// first use. With `render` and `demo` the frames then go to the sink, each a row of buckets at a time; with `check` nothing is
+/// written. No frame of the sink may be open. With `--stats`, and always with `demo`, a line of the notes tells of each frame behind
+/// its end how many grids were shaded for it, and in how many epochs.
 ///
 /// The answer is a status: 0 done; 2 the words are no command, or they ask for help; 3 the scene or a shader has a fault of syntax,
-/// or the scene one of nesting; 4 a shader has a fault of types, or a
-/// shader request doesn't fit its shader; 5 the scene has a fault of geometry, or it or a shader passes a limit; 6 the library lacks
-/// the scene, or a shader that the stock lacks too; 7 the library failed; 8 the sink failed; 9 want of memory. With each but 0 a
-/// line goes to the notes, which changes no status.
+/// the scene one of nesting, or a texture's file is none; 4 a shader has a fault of types, or a shader request or a primitive's
+/// variables don't fit a shader; 5 the scene has a fault of geometry, or it, a shader or the textures pass a limit; 6 the library
+/// lacks the scene, a texture, or a shader that the stock lacks too; 7 the library failed; 8 the sink failed; 9 want of memory. With
+/// each but 0 a line goes to the notes, which changes no status.
 pub fn run<'a, L: Library, O: FrameSink, N: Notes>(
     alloc: Global,
     words: &'a [&'a str],

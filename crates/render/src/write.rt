@@ -5,7 +5,7 @@ ghost use Rattle.outside.specs.Frames.{Adds, AddsPart, whole};
 ghost use Rattle.outside.specs.NoteLines.{Says};
 ghost use Rattle.shader_binding.specs.Sets.{Fits};
 ghost use Rattle.shader_binding.specs.Bindings.{FitsPrim};
-ghost use Rattle.displace_shade.specs.Shop.{set_value};
+ghost use Rattle.displace_shade.specs.Shop.{set_value, shop_set};
 ghost use Rattle.acceptance.specs.PrimFit.{FitPrims};
 ghost use Rattle.buckets.specs.TileWalk.{tile_walk};
 ghost use Rattle.buckets.specs.Progress.{drawing_of};
@@ -88,8 +88,8 @@ fn drawn<O: FrameSink>(
 ) -> Result<(u64, u64), DrawFault>
     requires closed { O.is_open sink.old ≡ false }
     requires ranges { LieInRanges options }
-    requires fits { Fits (set_value shop.old.set) shown.now.scene.now.uses }
-    requires variables { All (FitsPrim (set_value shop.old.set) shown.now.scene.now.uses) shown.now.frame.now.prims }
+    requires fits { Fits (shop_set shop.old) shown.now.scene.now.uses }
+    requires variables { All (FitsPrim (shop_set shop.old) shown.now.scene.now.uses) shown.now.frame.now.prims }
     requires count { shop.old.count ≤ 2 ^ 62 }
     requires epochs { report.old.epochs ≤ 2 ^ 62 }
     ensures closed { OnOk result (O.is_open sink.new ≡ false) }
@@ -97,9 +97,9 @@ fn drawn<O: FrameSink>(
     ensures err { OnErr result (AddsPart (picture_of (shaded_by shown.now.scene.now shop.old) shown.now.frame.now) (O.written sink.old) (O.written sink.new)) }
     ensures later { O.faults sink.old ≤ O.faults sink.new }
     ensures failed { IsErrOf result WriteFault → Rose (O.faults sink.old) (O.faults sink.new) }
-    ensures shadings { IfOk result (λ d. d.0 ≡ (tile_walk (drawing_of shown.now.scene.now (set_value shop.old.set) shown.now.frame.now (limits_of options))).shadings) }
-    ensures in_epochs { IfOk result (λ d. d.1 ≡ (tile_walk (drawing_of shown.now.scene.now (set_value shop.old.set) shown.now.frame.now (limits_of options))).epochs) }
-    ensures set { shop.new.set ≡ shop.old.set }
+    ensures shadings { IfOk result (λ d. d.0 ≡ (tile_walk (drawing_of shown.now.scene.now (shop_set shop.old) shown.now.frame.now (limits_of options))).shadings) }
+    ensures in_epochs { IfOk result (λ d. d.1 ≡ (tile_walk (drawing_of shown.now.scene.now (shop_set shop.old) shown.now.frame.now (limits_of options))).epochs) }
+    ensures set { shop_set shop.new ≡ shop_set shop.old }
     ensures count { OnOk result (shop.new.count ≤ shop.old.count + 2 ^ 52) }
     ensures epochs { OnOk result (report.new.epochs ≤ report.old.epochs + 2 ^ 52 + 1) }
 {
@@ -120,8 +120,8 @@ fn finished<O: FrameSink>(
 ) -> Result<Option<String>, DrawFault>
     requires closed { O.is_open sink.old ≡ false }
     requires ranges { LieInRanges options }
-    requires fits { Fits (set_value shop.old.set) shown.now.scene.now.uses }
-    requires variables { All (FitsPrim (set_value shop.old.set) shown.now.scene.now.uses) shown.now.frame.now.prims }
+    requires fits { Fits (shop_set shop.old) shown.now.scene.now.uses }
+    requires variables { All (FitsPrim (shop_set shop.old) shown.now.scene.now.uses) shown.now.frame.now.prims }
     requires count { shop.old.count ≤ 2 ^ 62 }
     requires epochs { report.old.epochs ≤ 2 ^ 62 }
     ensures closed { OnOk result (O.is_open sink.new ≡ false) }
@@ -130,7 +130,7 @@ fn finished<O: FrameSink>(
     ensures later { O.faults sink.old ≤ O.faults sink.new }
     ensures failed { IsErrOf result WriteFault → Rose (O.faults sink.old) (O.faults sink.new) }
     ensures summary { IfOk result (λ l. option_map string_bytes l ≡ summary_of options (shaded_by shown.now.scene.now shop.old) shown.now.frame.now) }
-    ensures set { OnOk result (shop.new.set ≡ shop.old.set) }
+    ensures set { OnOk result (shop_set shop.new ≡ shop_set shop.old) }
     ensures count { OnOk result (shop.new.count ≤ shop.old.count + 2 ^ 52) }
     ensures epochs { OnOk result (report.new.epochs ≤ report.old.epochs + 2 ^ 52 + 1) }
 {
@@ -165,8 +165,8 @@ fn write_frames<O: FrameSink, N: Notes>(
 ) -> Result<(), DrawFault>
     requires closed { O.is_open sink.old ≡ false }
     requires ranges { LieInRanges options }
-    requires fits { Fits (set_value shop.old.set) scene.now.uses }
-    requires variables { FitPrims (set_value shop.old.set) scene.now.uses scene.now.frames }
+    requires fits { Fits (shop_set shop.old) scene.now.uses }
+    requires variables { FitPrims (shop_set shop.old) scene.now.uses scene.now.frames }
     requires few { length scene.now.frames ≤ 1000 }
     requires count { shop.old.count ≡ 0 }
     ensures closed { OnOk result (O.is_open sink.new ≡ false) }
@@ -205,8 +205,8 @@ pub(crate) fn write_pictures<O: FrameSink, N: Notes>(
 ) -> Result<(), DrawFault>
     requires closed { O.is_open sink.old ≡ false }
     requires ranges { LieInRanges options }
-    requires fits { Fits (set_value accepted.set) accepted.scene.uses }
-    requires variables { FitPrims (set_value accepted.set) accepted.scene.uses accepted.scene.frames }
+    requires fits { Fits (set_value accepted.set accepted.textures) accepted.scene.uses }
+    requires variables { FitPrims (set_value accepted.set accepted.textures) accepted.scene.uses accepted.scene.frames }
     requires few { length accepted.scene.frames ≤ 1000 }
     ensures closed { OnOk result (O.is_open sink.new ≡ false) }
     ensures ok { OnOk result (Adds (map whole (frames_of (accepted_in accepted))) (O.written sink.old) (O.written sink.new)) }
@@ -215,7 +215,11 @@ pub(crate) fn write_pictures<O: FrameSink, N: Notes>(
     ensures later { O.faults sink.old ≤ O.faults sink.new }
     ensures failed { IsErrOf result WriteFault → Rose (O.faults sink.old) (O.faults sink.new) }
 {
-    let scene = accepted.scene;
-    let mut shop = Shop::new(alloc, accepted.set);
+    let Accepted {
+        scene,
+        set,
+        textures,
+    } = accepted;
+    let mut shop = Shop::new(alloc, set, textures.as_slice())?;
     write_frames(alloc, sink, notes, &mut shop, &scene, options)
 }

@@ -4,7 +4,7 @@ ghost use Rattle.outside.specs.Causes.{Rose};
 ghost use Rattle.outside.specs.Frames.{Adds, AddsPart, whole};
 ghost use Rattle.shader_binding.specs.Sets.{Fits};
 ghost use Rattle.shader_binding.specs.Bindings.{FitsPrim};
-ghost use Rattle.displace_shade.specs.Shop.{set_value};
+ghost use Rattle.displace_shade.specs.Shop.{set_value, shop_set};
 ghost use Rattle.acceptance.specs.PrimFit.{FitPrims};
 ghost use Rattle.buckets.specs.Shopped.{shaded_by};
 ghost use Rattle.buckets.specs.declared.limits.DrawFault.TheVariants.{WriteFault};
@@ -37,15 +37,15 @@ fn drawn_part<O: FrameSink>(
     requires ranges { LieInRanges options }
     requires task { IsTask options task }
     requires place { shown.now.index < 1000 }
-    requires fits { Fits (set_value shop.old.set) shown.now.scene.now.uses }
-    requires variables { All (FitsPrim (set_value shop.old.set) shown.now.scene.now.uses) shown.now.frame.now.prims }
+    requires fits { Fits (shop_set shop.old) shown.now.scene.now.uses }
+    requires variables { All (FitsPrim (shop_set shop.old) shown.now.scene.now.uses) shown.now.frame.now.prims }
     requires count { shop.old.count ≤ 2 ^ 62 }
     ensures closed { OnOk result (O.is_open sink.new ≡ false) }
     ensures ok { OnOk result (Adds (whole (part_picture task (shaded_by shown.now.scene.now shop.old) (record { place = shown.now.index; frame = shown.now.frame.now })) ∷ []) (O.written sink.old) (O.written sink.new)) }
     ensures err { OnErr result (AddsPart (part_picture task (shaded_by shown.now.scene.now shop.old) (record { place = shown.now.index; frame = shown.now.frame.now })) (O.written sink.old) (O.written sink.new)) }
     ensures later { O.faults sink.old ≤ O.faults sink.new }
     ensures failed { IsErrOf result WriteFault → Rose (O.faults sink.old) (O.faults sink.new) }
-    ensures set { shop.new.set ≡ shop.old.set }
+    ensures set { shop_set shop.new ≡ shop_set shop.old }
     ensures count { OnOk result (shop.new.count ≤ shop.old.count + 2 ^ 52) }
 {
     let name = part_name(alloc, name_of(shown.frame), task.part)?;
@@ -77,8 +77,8 @@ fn write_each<O: FrameSink>(
     requires closed { O.is_open sink.old ≡ false }
     requires ranges { LieInRanges options }
     requires task { IsTask options task }
-    requires fits { Fits (set_value shop.old.set) scene.now.uses }
-    requires variables { FitPrims (set_value shop.old.set) scene.now.uses scene.now.frames }
+    requires fits { Fits (shop_set shop.old) scene.now.uses }
+    requires variables { FitPrims (shop_set shop.old) scene.now.uses scene.now.frames }
     requires few { length scene.now.frames ≤ 1000 }
     requires count { shop.old.count ≡ 0 }
     ensures closed { OnOk result (O.is_open sink.new ≡ false) }
@@ -113,8 +113,8 @@ pub(crate) fn write_parts<O: FrameSink>(
     requires closed { O.is_open sink.old ≡ false }
     requires ranges { LieInRanges options }
     requires below { part < count }
-    requires fits { Fits (set_value accepted.set) accepted.scene.uses }
-    requires variables { FitPrims (set_value accepted.set) accepted.scene.uses accepted.scene.frames }
+    requires fits { Fits (set_value accepted.set accepted.textures) accepted.scene.uses }
+    requires variables { FitPrims (set_value accepted.set accepted.textures) accepted.scene.uses accepted.scene.frames }
     requires few { length accepted.scene.frames ≤ 1000 }
     ensures closed { OnOk result (O.is_open sink.new ≡ false) }
     ensures ok { OnOk result (Adds (map whole (parts_of_frames (task_of part count options text.now) (accepted_in accepted))) (O.written sink.old) (O.written sink.new)) }
@@ -128,7 +128,11 @@ pub(crate) fn write_parts<O: FrameSink>(
         side: options.bucket,
         hash: hash_of(text),
     };
-    let scene = accepted.scene;
-    let mut shop = Shop::new(alloc, accepted.set);
+    let Accepted {
+        scene,
+        set,
+        textures,
+    } = accepted;
+    let mut shop = Shop::new(alloc, set, textures.as_slice())?;
     write_each(alloc, sink, &mut shop, &scene, options, task)
 }

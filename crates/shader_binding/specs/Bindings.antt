@@ -8,6 +8,7 @@ use Rattle.scene.specs.declared.uses.ShaderUse.{ShaderUse}
 use Rattle.sl_ast.specs.declared.kinds.SlType.{SlType}
 use Rattle.sl_ast.specs.declared.kinds.SlType.TheVariants as types
 use Rattle.sl_ast.specs.Typed.{Local}
+use Rattle.sl_look_ups.specs.Naming.{binding_params}
 use Rattle.shader_binding.specs.Sets.{SetValue, Bound, bound_at}
 use Rattle.shader_binding.specs.Predefined.{sets_predefined}
 
@@ -30,7 +31,7 @@ abbrev pub FitVariables : List Local → List VariableValue → Type 0
 FitVariables ps xs = All (λ p. All (λ x. bytes_eq x.name p.name ≡ true → sets_predefined p.name ≡ false → Binds p x) xs) ps
 
 abbrev pub FitUseVariables : SetValue → List ShaderUse → ℕ → List VariableValue → Type 0
-FitUseVariables s uses n xs = (b : Bound) → bound_at s uses n ≡ Some b → FitVariables b.tree.params xs
+FitUseVariables s uses n xs = (b : Bound) → bound_at s uses n ≡ Some b → FitVariables (binding_params b.tree) xs
 
 abbrev pub FitSomeVariables : SetValue → List ShaderUse → Option ℕ → List VariableValue → Type 0
 FitSomeVariables s uses None xs = Unit {0}

@@ -1,5 +1,6 @@
 -- The shaders of a scene: their trees, the tree of each use, and the values that its parameters are bound to.
-use Rattle.std.specs.Prelude.{ℕ, Bool, true, false, List, [], ◌∷◌, Option, Some, None, slice_get, slice_index_or, ◌≡◌}
+use Rattle.std.specs.Prelude.{ℕ, Bool, true, false, List, [], ◌∷◌, length, Option, Some, None, slice_get, slice_index_or, ◌≡◌}
+use Rattle.texture.specs.Images.{Image}
 use Rattle.transforms.specs.Map.{Map}
 use Rattle.scene.specs.Scene.{SceneValue}
 use Rattle.scene.specs.declared.uses.ShaderKind.{ShaderKind}
@@ -8,14 +9,18 @@ use Rattle.scene.specs.declared.uses.ShaderUse.{ShaderUse}
 use Rattle.sl_ast.specs.declared.kinds.SlKind.{SlKind}
 use Rattle.sl_ast.specs.declared.kinds.SlKind.TheVariants as written
 use Rattle.sl_ast.specs.declared.typed.Value.{Value}
+use Rattle.sl_ast.specs.Textures.{texture_nodes}
 use Rattle.sl_ast.specs.Typed.{Local, Tree}
 use Rattle.builtins.specs.Shapes.{shape}
 use Rattle.builtins.specs.Values.{shape_of}
 
+-- `look_ups` has for each use one entry for each look-up of its tree, in their order: the place of a texture, or none
 pub record SetValue : Type 0 where
   pub trees : List Tree
   pub of_use : List ℕ
   pub bound : List (List Value)
+  pub look_ups : List (List (Option ℕ))
+  pub textures : List Image
 
 -- a scene with its shaders
 pub record AcceptedValue : Type 0 where
@@ -45,22 +50,35 @@ FitUses trees [] [] [] = Unit {0}
 FitUses trees (u ∷ us) (n ∷ ns) (vs ∷ vss) = FitsUse u vs (slice_get trees n) × FitUses trees us ns vss
 FitUses trees _ _ _ = ⊥
 
--- the set fits a scene with these uses
-abbrev pub Fits : SetValue → List ShaderUse → Type 0
-Fits s uses = FitUses s.trees uses s.of_use s.bound
+-- one entry for each look-up of each use's tree
+abbrev pub FitsLooks : List (Option ℕ) → Option Tree → Type 0
+FitsLooks es None = ⊥
+FitsLooks es (Some t) = length es ≡ length (texture_nodes t)
 
--- the shader of a use with what it is bound to and its space
+abbrev pub FitLooks : List Tree → List ℕ → List (List (Option ℕ)) → Type 0
+FitLooks trees [] [] = Unit {0}
+FitLooks trees (n ∷ ns) (es ∷ ess) = FitsLooks es (slice_get trees n) × FitLooks trees ns ess
+FitLooks trees _ _ = ⊥
+
+-- the set fits a scene with these uses
+pub record Fits (s : SetValue) (asked : List ShaderUse) : Type 0 where
+  pub uses : FitUses s.trees asked s.of_use s.bound
+  pub look_ups : FitLooks s.trees s.of_use s.look_ups
+
+-- the shader of a use with what it is bound to, its look-ups, the textures and its space
 pub record Bound : Type 0 where
   pub tree : Tree
   pub values : List Value
+  pub look_ups : List (Option ℕ)
+  pub textures : List Image
   pub space : Map
 
-abbrev pub bound_with : Option Tree → Option (List Value) → Option ShaderUse → Option Bound
-bound_with (Some t) (Some vs) (Some u) = Some record { tree = t; values = vs; space = u.space }
-bound_with _ _ _ = None
+abbrev pub bound_with : List Image → Option Tree → Option (List Value) → Option (List (Option ℕ)) → Option ShaderUse → Option Bound
+bound_with ps (Some t) (Some vs) (Some ls) (Some u) = Some record { tree = t; values = vs; look_ups = ls; textures = ps; space = u.space }
+bound_with ps _ _ _ _ = None
 
 abbrev pub bound_at : SetValue → List ShaderUse → ℕ → Option Bound
-bound_at s uses n = bound_with (slice_get s.trees (slice_index_or s.of_use n 0)) (slice_get s.bound n) (slice_get uses n)
+bound_at s uses n = bound_with s.textures (slice_get s.trees (slice_index_or s.of_use n 0)) (slice_get s.bound n) (slice_get s.look_ups n) (slice_get uses n)
 
 abbrev pub bound_for : SetValue → List ShaderUse → Option ℕ → Option Bound
 bound_for s uses None = None

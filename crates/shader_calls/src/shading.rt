@@ -49,7 +49,14 @@ impl Texts<'_> {
         if self.scene.len() > 16777216 {
             return Err("too long a scene")?;
         }
-        let Ok(Accepted { scene, set }) = accept(alloc, self.scene, &mut library) else {
+        let Ok(
+            Accepted {
+                scene,
+                set,
+                textures,
+            },
+        ) = accept(alloc, self.scene, &mut library)
+        else {
             return Err("refused")?;
         };
         let [frame] = scene.frames.as_slice() else {
@@ -58,7 +65,7 @@ impl Texts<'_> {
         if piece.prim as usize >= frame.prims.len() || p > 4 || q > 4 {
             return Err("a leaf of the frame")?;
         }
-        let mut shop = Shop::new(alloc, set);
+        let mut shop = Shop::new(alloc, set, textures.as_slice())?;
         Ok(shop.shade(arena, &scene, 0, piece, p, q)?)
     }
 }

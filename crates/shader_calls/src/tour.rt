@@ -1,5 +1,5 @@
 // The numbers of docs/TOUR.md: the scene of examples/tour.rib from its bytes to its pixels. They were computed from the formulas by a
-// program that shares nothing with this one.
+// program that shares nothing with this one. The bytes of the picture are a stored case of `conformance`.
 ghost use Rattle.std.specs.Prelude.{◌<◌};
 ghost use Rattle.hider.specs.CellValues.{values_of};
 
@@ -10,9 +10,7 @@ use calls::texts::written;
 use filter_ppm::{Sums, pixel_levels, weight};
 use fixed_math::{Num, Vec3};
 use hider::{Cell, CellCorner, Cells, GridCells, Quad, Tile, covers, quad_of, sample_at};
-use outside::{MemoryLibrary, MemoryNotes, MemorySink};
 use patches::{Dyadic, Piece, Surface};
-use render::run;
 use rib_lex::{TokenKind, tokens};
 use rib_reader::{Arg, Values, requests};
 use scene_state::Options;
@@ -247,25 +245,5 @@ fn a_pixel(rt: HostRuntime) -> Result<(), Fail> {
     assert_eq!(rt; written(rt.alloc(), &[mean])?.as_str(), "15140 21645 16384");
     assert_eq!(rt; pixel_levels(&options, mean), [59, 84, 64]);
     assert_eq!(rt; weight(&options, 2051 - 2176, 5300 - 5248).raw(), 26724);
-    Ok(())
-}
-
-#[test]
-fn bytes_of_the_picture(rt: HostRuntime) -> Result<(), Fail> {
-    let mut library = MemoryLibrary::new(rt.alloc());
-    library.add("tour.rib", SCENE)?;
-    library.add("fade.sl", FADE)?;
-    let mut frames = MemorySink::new(rt.alloc(), 65536, 4096)?;
-    let mut notes = MemoryNotes::new(rt.alloc(), 256)?;
-    let words = ["reyes", "render", "tour.rib"];
-    let status = run(rt.alloc(), &words, &mut library, &mut frames, &mut notes);
-    assert_eq!(rt; status, 0);
-    if frames.entries() != 1 {
-        return Err("one picture")?;
-    }
-    let picture = frames.entry(0).bytes;
-    assert_eq!(rt; picture.len(), 3085);
-    assert_eq!(rt; picture.get(0..13), Some(b"P6\n32 32\n255\n".as_slice()));
-    assert_eq!(rt; picture.get(1957..1960), Some([59, 84, 64].as_slice()));
     Ok(())
 }

@@ -3,6 +3,7 @@
 use Rattle.std.specs.Prelude.{Bool, true, false, ◌&&◌, List, [], ◌∷◌, ◌++◌, get_or}
 use Rattle.sl_ast.specs.declared.operations.Operation.{Operation}
 use Rattle.sl_ast.specs.declared.operations.Operation.TheVariants as operations
+use Rattle.sl_ast.specs.declared.operations.Look.TheVariants as looks
 use Rattle.sl_ast.specs.declared.kinds.Predefined.{Predefined}
 use Rattle.sl_ast.specs.declared.kinds.Predefined.TheVariants as names
 use Rattle.sl_ast.specs.declared.typed.Variable.{Variable}
@@ -13,6 +14,8 @@ use Rattle.sl_ast.specs.Typed.{Expr, number, word, variable, apply, call, Exprs,
 -- operations whose value is varying whatever they are given: they read a varying variable, neighbours or lights
 abbrev pub is_plain : Operation → Bool
 is_plain (operations.Value operation) = true
+is_plain (operations.Look looks.At) = true
+is_plain (operations.Look looks.First) = true
 is_plain _ = false
 
 abbrev pub is_uniform_name : Predefined → Bool

@@ -13,3 +13,4 @@ pub mod Registers
 pub mod TreeView
 pub mod Variables
 pub mod Examples
+pub mod Textures

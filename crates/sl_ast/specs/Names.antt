@@ -122,10 +122,12 @@ has_operation kind (operations.Value operation) = true
 has_operation kind operations.FaceForwardNg = true
 has_operation kind (operations.Difference which) = has_surface kind
 has_operation kind (operations.Sum which) = is_surface kind
+has_operation kind (operations.Look look) = has_surface kind
 
 -- the operations that stand in a parameter's default too
 abbrev pub is_constant : Operation → Bool
 is_constant (operations.Value ops.Depth) = false
+is_constant (operations.Look look) = false
 is_constant _ = true
 
 abbrev pub has_lights : SlKind → LightStmt → Bool

@@ -14,6 +14,8 @@ use Rattle.sl_ast.specs.declared.operations.Difference.{Difference}
 use Rattle.sl_ast.specs.declared.operations.Difference.TheVariants as differences
 use Rattle.sl_ast.specs.declared.operations.LightSum.{LightSum}
 use Rattle.sl_ast.specs.declared.operations.LightSum.TheVariants as sums
+use Rattle.sl_ast.specs.declared.operations.Look.{Look}
+use Rattle.sl_ast.specs.declared.operations.Look.TheVariants as looks
 use Rattle.sl_ast.specs.declared.kinds.SetOperator.{SetOperator}
 use Rattle.sl_ast.specs.declared.kinds.SetOperator.TheVariants as sets
 use Rattle.sl_ast.specs.declared.kinds.SpaceName.TheVariants.{Current}
@@ -208,6 +210,20 @@ abbrev pub highlight : Operands → Option NodeType
 highlight (Three a b c) = when (is_triple a && (is_triple b && is_float c)) Color
 highlight _ = None
 
+-- the name of a texture; and that and two places
+abbrev pub one_string : NodeType → Operands → Option NodeType
+one_string kind (One a) = when (is_string a) kind
+one_string kind _ = None
+
+abbrev pub looked_up : Operands → Option NodeType
+looked_up (Three a b c) = when (is_string a && (is_float b && is_float c)) Color
+looked_up _ = None
+
+-- the first part of a colour
+abbrev pub first_part : Operands → Option NodeType
+first_part (One a) = when (is_color a) Float
+first_part _ = None
+
 -- the type of an operation's value, where it takes these operands
 abbrev pub value_rule : ValueOperation → Operands → Option NodeType
 value_rule ops.Negate operands = one_alike operands
@@ -276,11 +292,17 @@ sum_rule sums.Ambient operands = no_operands Color operands
 sum_rule sums.Diffuse operands = one_triple Color operands
 sum_rule sums.Specular operands = highlight operands
 
+abbrev pub look_rule : Look → Operands → Option NodeType
+look_rule looks.At operands = looked_up operands
+look_rule looks.Here operands = one_string Color operands
+look_rule looks.First operands = first_part operands
+
 abbrev pub rule : Operation → Operands → Option NodeType
 rule (operations.Value operation) operands = value_rule operation operands
 rule operations.FaceForwardNg operands = two_triples Vector operands
 rule (operations.Difference which) operands = difference_rule which operands
 rule (operations.Sum which) operands = sum_rule which operands
+rule (operations.Look look) operands = look_rule look operands
 
 -- what `=`, `+=`, `-=`, `*=` and `/=` put into a variable of that type
 abbrev pub put_into : NodeType → SetOperator → NodeType → Option NodeType
@@ -328,3 +350,10 @@ difference_of_points = refl
 
 abbrev component_of_float : value_rule ops.Comp (Two Float Float) ≡ Some Float
 component_of_float = refl
+
+-- a texture's first argument is its name
+abbrev texture_by_name : look_rule looks.Here (One Str) ≡ Some Color
+texture_by_name = refl
+
+abbrev texture_by_number : look_rule looks.At (Three Float Float Float) ≡ None
+texture_by_number = refl

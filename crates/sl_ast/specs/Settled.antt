@@ -6,6 +6,7 @@ use Rattle.sl_ast.specs.declared.kinds.SlType.TheVariants as types
 use Rattle.sl_ast.specs.declared.operations.Operation.{Operation}
 use Rattle.sl_ast.specs.declared.operations.Operation.TheVariants as operations
 use Rattle.sl_ast.specs.declared.operations.ValueOperation.TheVariants as ops
+use Rattle.sl_ast.specs.declared.operations.Look.TheVariants as looks
 use Rattle.sl_ast.specs.declared.kinds.LightStmt.{LightStmt}
 use Rattle.sl_ast.specs.declared.kinds.LightStmt.TheVariants.{Illuminance, Illuminate, Solar}
 use Rattle.sl_ast.specs.declared.kinds.ControlCode.{ControlCode}
@@ -40,9 +41,12 @@ is_string _ = false
 abbrev pub is_varying_string : Bool → SlType → Bool
 is_varying_string uniform kind = not uniform && is_string kind
 
-abbrev pub is_difference : Operation → Bool
-is_difference (operations.Difference which) = true
-is_difference _ = false
+-- the value at a point depends on neighbours
+abbrev pub asks_neighbours : Operation → Bool
+asks_neighbours (operations.Difference which) = true
+asks_neighbours (operations.Look looks.At) = true
+asks_neighbours (operations.Look looks.Here) = true
+asks_neighbours _ = false
 
 abbrev pub is_component : Operation → Bool
 is_component (operations.Value ops.Comp) = true
@@ -92,7 +96,7 @@ settled_word Solar line c lit = unless (lit || c.looped) T9 line (Ok true)
 -- an operation, a declaration and an assignment at their names
 abbrev pub settled_operation : Operation → Exprs → ℕ → List Bool → Spot → Bool → Settles
 settled_operation operation args line us c lit =
-    unless (is_component operation && index_varies args us) T3 line (unless (is_difference operation && not c.uniform) T5 line (Ok lit))
+    unless (is_component operation && index_varies args us) T3 line (unless (asks_neighbours operation && not c.uniform) T5 line (Ok lit))
 
 abbrev pub settled_declare : Bool → SlType → Expr → ℕ → List Bool → Bool → Settles
 settled_declare uniform kind e line us lit = unless (is_varying_string uniform kind || varies_into uniform e us) T3 line (Ok lit)

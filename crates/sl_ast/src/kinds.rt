@@ -83,7 +83,7 @@ pub enum SetOperator {
 /// - `T3`: a varying value goes into a uniform variable, or is the index of `comp`, or a parameter's default; a string is
 ///   varying.
 /// - `T4`: a uniform variable is set under varying control.
-/// - `T5`: `Du`, `Dv` or `calculatenormal` under varying control.
+/// - `T5`: `Du`, `Dv`, `calculatenormal` or `texture` under varying control.
 /// - `T9`: a second `illuminate` or `solar`, or one in a loop.
 /// - `T11`: `illuminance` in `illuminance`.
 #[derive(Clone, Copy, Debug, PartialEq, Eq)]

@@ -20,7 +20,7 @@ pub use kinds::{
     SlKind, SlType, SpaceName,
 };
 pub use operands::Operands;
-pub use operations::{Difference, LightSum, Operation, ValueOperation};
+pub use operations::{Difference, LightSum, Look, Operation, ValueOperation};
 pub use shader::Shader;
 pub use syntax::{Assignment, Cone, Declared, Expr, Function, Group, LightWord, Link, Space, Stmt};
 pub use tree::Tree;

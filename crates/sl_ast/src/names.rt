@@ -4,7 +4,7 @@ ghost use Rattle.sl_ast.specs.Names as spec;
 ghost use Rattle.sl_ast.specs.Classes as classes;
 
 use crate::kinds::{LightStmt, Predefined, SlKind, SlType, SpaceName};
-use crate::operations::{Operation, ValueOperation};
+use crate::operations::{Look, Operation, ValueOperation};
 
 impl Predefined {
     /// The type of the variable.
@@ -68,7 +68,7 @@ impl SlKind {
     {
         match operation {
             Operation::Sum(_) => matches!(self, Self::Surface),
-            Operation::Difference(_) => self.has_surface(),
+            Operation::Difference(_) | Operation::Look(_) => self.has_surface(),
             Operation::Value(_) | Operation::FaceForwardNg => true,
         }
     }
@@ -89,14 +89,14 @@ impl Operation {
     pub fn is_constant(self) -> bool
         ensures { result ≡ spec.is_constant self }
     {
-        !matches!(self, Self::Value(ValueOperation::Depth))
+        !matches!(self, Self::Value(ValueOperation::Depth) | Self::Look(_))
     }
 
     /// Whether the value is uniform where all operands are: the others read a varying variable, neighbours or lights.
     pub fn is_plain(self) -> bool
         ensures { result ≡ classes.is_plain self }
     {
-        matches!(self, Self::Value(_))
+        matches!(self, Self::Value(_) | Self::Look(Look::At | Look::First))
     }
 }
 

@@ -9,6 +9,7 @@ pub enum Operation {
     FaceForwardNg,
     Difference(Difference),
     Sum(LightSum),
+    Look(Look),
 }
 
 /// The operators, conversions and built-in functions whose value is a function of their operands' values.
@@ -81,6 +82,18 @@ pub enum Difference {
     Du,
     Dv,
     CalculateNormal,
+}
+
+/// `texture`, and what stands before it. A look-up's value at a point depends on its operands' values at the point's
+/// neighbours in the grid.
+#[derive(Clone, Copy)]
+pub enum Look {
+    /// `texture` with a name, s and t.
+    At,
+    /// `texture` with a name alone: s and t are the predefined variables, which this operation reads.
+    Here,
+    /// `float` before `texture`: the first part of the colour.
+    First,
 }
 
 /// The built-in functions that are sums over the lights of a surface.

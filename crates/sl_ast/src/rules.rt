@@ -4,12 +4,12 @@ ghost use Rattle.sl_ast.specs.Rules as spec;
 
 use crate::kinds::{NodeType, SetOperator, SlType};
 use crate::operands::Operands;
-use crate::operations::{Difference, LightSum, Operation, ValueOperation};
+use crate::operations::{Difference, LightSum, Look, Operation, ValueOperation};
 use crate::shapes::{
-    channel, components, conversion, difference, equality, highlight, is_color, is_float,
-    is_string, is_triple, lattice, no_operands, one_alike, one_float, one_test, one_triple,
-    selection, some_alike, three_alike, three_floats, three_triples, through_spaces, two_alike,
-    two_floats, two_tests, two_triples,
+    channel, components, conversion, difference, equality, first_part, highlight, is_color,
+    is_float, is_string, is_triple, lattice, looked_up, no_operands, one_alike, one_float,
+    one_string, one_test, one_triple, selection, some_alike, three_alike, three_floats,
+    three_triples, through_spaces, two_alike, two_floats, two_tests, two_triples,
 };
 
 impl SlType {
@@ -108,6 +108,19 @@ impl LightSum {
     }
 }
 
+impl Look {
+    /// The type of a look-up, or of its first part, where it takes these operands.
+    pub fn rule(self, operands: Operands) -> Option<NodeType>
+        ensures { result ≡ spec.look_rule self operands }
+    {
+        match self {
+            Self::At => looked_up(operands),
+            Self::Here => one_string(NodeType::Color, operands),
+            Self::First => first_part(operands),
+        }
+    }
+}
+
 impl Operation {
     /// The type of this operation's value, where it takes these operands.
     pub fn rule(self, operands: Operands) -> Option<NodeType>
@@ -118,6 +131,7 @@ impl Operation {
             Self::FaceForwardNg => two_triples(NodeType::Vector, operands),
             Self::Difference(difference) => difference.rule(operands),
             Self::Sum(sum) => sum.rule(operands),
+            Self::Look(look) => look.rule(operands),
         }
     }
 }

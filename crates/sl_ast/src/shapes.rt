@@ -320,3 +320,33 @@ pub fn highlight(operands: Operands) -> Option<NodeType>
         _ => None,
     }
 }
+
+pub fn one_string(kind: NodeType, operands: Operands) -> Option<NodeType>
+    ensures { result ≡ spec.one_string kind operands }
+{
+    match operands {
+        Operands::One(a) => when(is_string(a), kind),
+        _ => None,
+    }
+}
+
+pub fn looked_up(operands: Operands) -> Option<NodeType>
+    ensures { result ≡ spec.looked_up operands }
+{
+    match operands {
+        Operands::Three(a, b, c) => when(
+            both(is_string(a), both(is_float(b), is_float(c))),
+            NodeType::Color,
+        ),
+        _ => None,
+    }
+}
+
+pub fn first_part(operands: Operands) -> Option<NodeType>
+    ensures { result ≡ spec.first_part operands }
+{
+    match operands {
+        Operands::One(a) => when(is_color(a), NodeType::Float),
+        _ => None,
+    }
+}

@@ -1,6 +1,6 @@
 -- A settled default is constant: a typed one sees no variable of the point and no light, and a uniform one has no neighbour, no sum over
 -- lights and no varying loop.
-use Rattle.std.proofs.Common.{◌≡◌, ◌<◌, ℕ, zero, suc, Bool, true, false, ◌&&◌, not, cond, Some, None, List, [], ◌∷◌, length, get_or, refl, sym, subst, arith}
+use Rattle.std.proofs.Common.{◌≡◌, ◌<◌, ℕ, zero, suc, Bool, true, false, ◌&&◌, ◌||◌, not, cond, Some, None, List, [], ◌∷◌, length, get_or, refl, sym, subst, arith}
 use Rattle.std.proofs.lemmas.Bool.{and_parts}
 use Rattle.sl_ast.specs.declared.kinds.NodeType.{NodeType}
 use Rattle.sl_ast.specs.declared.kinds.Predefined.{Predefined}
@@ -18,9 +18,9 @@ use Rattle.sl_ast.specs.declared.typed.Variable.TheVariants as variables
 use Rattle.sl_ast.specs.Typed as T
 use Rattle.sl_ast.specs.Typed.{number, word, variable, apply, call, none, more, empty, leave, again, block, group, declare, start, assign, test, test_else, repeat, steps, lights, done, first}
 use Rattle.sl_ast.specs.Classes.{is_plain, class_of, formal_classes, all_uniform, after, after_all, is_uniform, are_uniform, stmt_uniform, stmts_uniform, leaves_together, leave_together, is_uniform_loop}
-use Rattle.sl_ast.specs.Names.{reads, writes, has_lights}
+use Rattle.sl_ast.specs.Names.{reads, writes, has_surface, has_lights}
 use Rattle.sl_ast.specs.Rules.{node_type, is_test, takes}
-use Rattle.sl_ast.specs.WellTyped.{Around, in_function, in_loop, is_type, kind_of, read_type, set_type, fits, formal_types, types_after, types_after_all, is_set, typed, typed_args, typed_stmt, typed_stmts}
+use Rattle.sl_ast.specs.WellTyped.{Around, in_function, in_loop, is_type, kind_of, read_type, set_type, fits, stands, formal_types, types_after, types_after_all, is_set, typed, typed_args, typed_stmt, typed_stmts}
 use Rattle.sl_meaning.specs.Core as C
 use Rattle.sl_meaning.specs.CoreView.{expr_of, exprs_of, args_of, stmt_of, stmts_of}
 use Rattle.sl_meaning.specs.Lowered as L
@@ -83,11 +83,17 @@ operands_constant (ops.VTransform from into) es k = last_constant es k
 operands_constant (ops.NTransform from into) es k = last_constant es k
 operands_constant op es k = k
 
-operated_constant : (op : Operation) (es : C.Exprs) → is_plain op ≡ true → AreConstant es → IsConstant (L.operated op es)
-operated_constant (operations.Value op) es h k = operands_constant op es k
-operated_constant operations.FaceForwardNg es h k = absurd (cc h)
-operated_constant (operations.Difference d) es h k = absurd (cc h)
-operated_constant (operations.Sum s) es h k = absurd (cc h)
+no_look : (has default : Bool) → default ≡ true → (has && (false || not default)) ≡ true → ⊥
+no_look true true d h = absurd (cc h)
+no_look false true d h = absurd (cc h)
+no_look has false d h = absurd (cc d)
+
+operated_constant : (g : Around) (op : Operation) (args : T.Exprs) (n : ℕ) (es : C.Exprs) → g.default ≡ true → stands g op args ≡ true → is_plain op ≡ true → AreConstant es → IsConstant (L.operated op n es)
+operated_constant g (operations.Value op) args n es d s h k = operands_constant op es k
+operated_constant g operations.FaceForwardNg args n es d s h k = absurd (cc h)
+operated_constant g (operations.Difference which) args n es d s h k = absurd (cc h)
+operated_constant g (operations.Sum which) args n es d s h k = absurd (cc h)
+operated_constant g (operations.Look look) args n es d s h k = absurd (no_look (has_surface g.kind) g.default d s)
 
 put_constant : (operator : SetOperator) (x : Variable) (e : C.Expr) → IsLevel x → IsConstant e → IsConstant (L.put_into operator x e)
 put_constant sets.Set x e h k = k
@@ -149,7 +155,8 @@ mutual
   expr_constant g ks (variable x kind p) us u d b c t h = variable_constant g ks x kind b t
   expr_constant g ks (apply operation args kind p) us u d b c t h =
       let a = and_parts (is_plain operation) (are_uniform args us) h in
-      operated_constant operation (L.exprs args us u) a.0 (exprs_constant g ks args us u d b c (and_parts _ _ (and_parts _ _ t).1).1 a.1)
+      let e = and_parts (stands g operation args) (typed_args g ks args) (and_parts _ _ t).1 in
+      operated_constant g operation args p.number (L.exprs args us u) d e.0 a.0 (exprs_constant g ks args us u d b c e.1 a.1)
   expr_constant g ks (call args formals body returned value kind p) us u d b c t h =
       let t1 = and_parts (fits formals args) _ t in
       let t2 = and_parts (typed_args g ks args) _ t1.1 in

@@ -1,6 +1,6 @@
 -- How great core trees are: by this their evaluation ends.
 use Rattle.std.proofs.Common.{◌≡◌, ◌+◌, ◌<◌, ℕ, zero, suc, List, [], ◌∷◌, length, get_or, ap, arith}
-use Rattle.sl_meaning.specs.Core.{Expr, literal, read, apply, differ, sum, call, Exprs, none, more, Arguments, no_arguments, argument, Stmt, declare, assign, block, test, repeat, lights, leave, again, Stmts, done, first}
+use Rattle.sl_meaning.specs.Core.{Expr, literal, read, apply, differ, sum, texture, call, Exprs, none, more, Arguments, no_arguments, argument, Stmt, declare, assign, block, test, repeat, lights, leave, again, Stmts, done, first}
 use Rattle.sl_meaning.specs.CoreView.{expr_of, exprs_of, args_of, stmt_of, stmts_of}
 use Rattle.sl_meaning.specs.declared.core_tree.Argument.{Argument}
 use Rattle.sl_meaning.specs.declared.core_tree.CoreExpr.{CoreExpr}
@@ -14,6 +14,7 @@ abbrev mutual
   expr_size (apply op args) = 1 + exprs_size args
   expr_size (differ d e) = 1 + expr_size e
   expr_size (sum s args) = 1 + exprs_size args
+  expr_size (texture k args) = 1 + exprs_size args
   expr_size (call args body kind e) = 1 + (args_size args + (all_size body + expr_size e))
 
   pub exprs_size : Exprs → ℕ

@@ -3,7 +3,7 @@
 use Rattle.std.specs.Prelude.{◌≡◌, true}
 use Rattle.sl_ast.specs.declared.typed.Variable.{Variable}
 use Rattle.sl_ast.specs.declared.typed.Variable.TheVariants as variables
-use Rattle.sl_meaning.specs.Core.{Expr, literal, read, apply, differ, sum, call, Exprs, none, more, Arguments, no_arguments, argument, Stmt, declare, assign, block, test, repeat, lights, leave, again, Stmts, done, first}
+use Rattle.sl_meaning.specs.Core.{Expr, literal, read, apply, differ, sum, texture, call, Exprs, none, more, Arguments, no_arguments, argument, Stmt, declare, assign, block, test, repeat, lights, leave, again, Stmts, done, first}
 
 -- a formal or a local
 abbrev pub IsLevel : Variable → Type 0
@@ -17,6 +17,7 @@ abbrev mutual
   IsConstant (apply op args) = AreConstant args
   IsConstant (differ d e) = ⊥
   IsConstant (sum s args) = ⊥
+  IsConstant (texture k args) = ⊥
   IsConstant (call args body kind e) = ArgumentsConstant args × (AllConstant body × IsConstant e)
 
   pub AreConstant : Exprs → Type 0

@@ -84,9 +84,10 @@ pub fn value(
             scope.exchange(outer);
             Ok(result)
         }
-        CoreExpr::Read(Variable::Predefined(_)) | CoreExpr::Differ(..) | CoreExpr::Sum(..) => {
-            unreachable!()
-        }
+        CoreExpr::Read(Variable::Predefined(_))
+        | CoreExpr::Differ(..)
+        | CoreExpr::Sum(..)
+        | CoreExpr::Texture(..) => unreachable!(),
     }
 }
 

@@ -17,6 +17,8 @@ use Rattle.sl_ast.specs.declared.kinds.NodeType.{NodeType}
 use Rattle.sl_ast.specs.declared.operations.Operation.{Operation}
 use Rattle.sl_ast.specs.declared.operations.Operation.TheVariants as operations
 use Rattle.sl_ast.specs.declared.operations.ValueOperation.TheVariants as ops
+use Rattle.sl_ast.specs.declared.operations.Look.{Look}
+use Rattle.sl_ast.specs.declared.operations.Look.TheVariants as looks
 use Rattle.sl_ast.specs.declared.kinds.Predefined.{Predefined}
 use Rattle.sl_ast.specs.declared.kinds.Prefix.{Prefix}
 use Rattle.sl_ast.specs.declared.kinds.SpaceName.{SpaceName}
@@ -99,11 +101,32 @@ abbrev pub refuses_space : SlType → Option Space → Bool
 refuses_space types.Float (Some s) = true
 refuses_space kind space = false
 
+-- a call, and a look-up
+abbrev pub is_call_node : U.Expr → Bool
+is_call_node (U.call name args line) = true
+is_call_node _ = false
+
+abbrev pub is_look : Operation → Bool
+is_look (operations.Look look) = true
+is_look _ = false
+
+abbrev pub is_look_up : T.Expr → Bool
+is_look_up (T.apply operation args kind line) = is_look operation
+is_look_up _ = false
+
+-- what a type before a value does: `float` directly before a look-up takes the first part of its colour
+abbrev pub takes_first : SlType → Bool → T.Expr → Bool
+takes_first types.Float call t = call && is_look_up t
+takes_first kind call t = false
+
+abbrev pub conversion : SlType → SpaceName → Bool → T.Expr → Operation
+conversion kind s call t = if takes_first kind call t then operations.Look looks.First else operations.Value (ops.Convert kind s)
+
 -- a type before a value: its own fault, then that of the space, then those of the value
-abbrev pub converted : W.Around → SlType → Option Space → ℕ → Found T.Expr → Found T.Expr
-converted g kind space line part =
-    if refuses part (λ t. refuses_space kind space || misfits (operations.Value (ops.Convert kind Current)) (t ∷ [])) then Err (T2, line) else
-    (space_of g kind space >>= λ s. part >>= λ t. applied (operations.Value (ops.Convert kind s)) line (t ∷ []))
+abbrev pub converted : W.Around → SlType → Option Space → Bool → ℕ → Found T.Expr → Found T.Expr
+converted g kind space call line part =
+    if refuses part (λ t. refuses_space kind space || misfits (conversion kind Current call t) (t ∷ [])) then Err (T2, line) else
+    (space_of g kind space >>= λ s. part >>= λ t. applied (conversion kind s call t) line (t ∷ []))
 
 -- a type before three components
 abbrev pub tripled : W.Around → SlType → Option Space → ℕ → Found (List T.Expr) → Found T.Expr
@@ -146,19 +169,45 @@ spaces_of g line (into ∷ e ∷ []) = space_in g line into >>= λ s. Ok (Curren
 spaces_of g line (from ∷ into ∷ e ∷ []) = both_spaces g line from into
 spaces_of g line _ = Ok (Current, Current)
 
--- an operation with the spaces that its arguments name; `faceforward` of two arguments reads Ng
-abbrev pub operation_in : W.Around → Operation → ℕ → List U.Expr → Found Operation
-operation_in g (operations.Value (ops.Transform a b)) line es = spaces_of g line es >>= λ s. Ok (operations.Value (ops.Transform s.0 s.1))
-operation_in g (operations.Value (ops.VTransform a b)) line es = spaces_of g line es >>= λ s. Ok (operations.Value (ops.VTransform s.0 s.1))
-operation_in g (operations.Value (ops.NTransform a b)) line es = spaces_of g line es >>= λ s. Ok (operations.Value (ops.NTransform s.0 s.1))
-operation_in g op line es = Ok op
+-- what names a texture: a string that is written out, or a parameter that nothing assigns; parentheses don't count. A name that isn't known, or
+-- that is no string, has another fault.
+abbrev pub is_movable : SlType → Bool → Bool
+is_movable types.Str fixed = not fixed
+is_movable kind fixed = false
+
+abbrev pub named_by : ℕ → Option (ℕ × Local) → Found Bool
+named_by line None = Ok true
+named_by line (Some at) = if is_movable at.1.kind at.1.fixed then Err (T11, line) else Ok true
+
+abbrev pub texture_named : List Local → ℕ → U.Expr → Found Bool
+texture_named ls line (U.string text at) = Ok true
+texture_named ls line (U.name name at) = named_by at (level_of name ls)
+texture_named ls line (U.paren e at) = texture_named ls line e
+texture_named ls line _ = Err (T11, line)
+
+abbrev pub first_named : List Local → ℕ → List U.Expr → Found Bool
+first_named ls line [] = Ok true
+first_named ls line (e ∷ es) = texture_named ls line e
+
+-- an operation with the spaces that its arguments name, or the texture; `faceforward` of two arguments reads Ng, and `texture` of one s and t
+abbrev pub operation_in : W.Around → List Local → Operation → ℕ → List U.Expr → Found Operation
+operation_in g ls (operations.Value (ops.Transform a b)) line es = spaces_of g line es >>= λ s. Ok (operations.Value (ops.Transform s.0 s.1))
+operation_in g ls (operations.Value (ops.VTransform a b)) line es = spaces_of g line es >>= λ s. Ok (operations.Value (ops.VTransform s.0 s.1))
+operation_in g ls (operations.Value (ops.NTransform a b)) line es = spaces_of g line es >>= λ s. Ok (operations.Value (ops.NTransform s.0 s.1))
+operation_in g ls (operations.Look look) line es = first_named ls line es >>= λ _. Ok (operations.Look look)
+operation_in g ls op line es = Ok op
 
 abbrev pub facing : List T.Expr → Operation
 facing (a ∷ b ∷ []) = operations.FaceForwardNg
 facing args = operations.Value ops.FaceForward
 
+abbrev pub looking : Look → List T.Expr → Look
+looking looks.At (a ∷ []) = looks.Here
+looking look args = look
+
 abbrev pub by_count : Operation → List T.Expr → Operation
 by_count (operations.Value ops.FaceForward) args = facing args
+by_count (operations.Look look) args = operations.Look (looking look args)
 by_count op args = op
 
 -- what can't be called at that place: `depth` in a default, `noise` directly behind a type
@@ -184,31 +233,31 @@ abbrev pub is_amiss : W.Around → Operation → List T.Expr → Bool
 is_amiss g op args = misfits (by_count op args) args || lacks g (by_count op args)
 
 -- a call of a built-in: its own faults, the lower code first, then those of the spaces, then those of the arguments
-abbrev pub operated : W.Around → Bool → ℕ → List U.Expr → Found (List T.Expr) → Operation → Found T.Expr
-operated g behind line es args op =
+abbrev pub operated : W.Around → Bool → List Local → ℕ → List U.Expr → Found (List T.Expr) → Operation → Found T.Expr
+operated g behind ls line es args op =
     if refuses args (is_amiss g op) then Err (T2, line) else
-    (allowed g behind op line >>= λ _. operation_in g op line es >>= λ o. args >>= λ ts. applied (by_count o ts) line ts)
+    (allowed g behind op line >>= λ _. operation_in g ls op line es >>= λ o. args >>= λ ts. applied (by_count o ts) line ts)
 
-abbrev pub built : W.Around → Bool → ℕ → List U.Expr → Found (List T.Expr) → Option Builtin → Found T.Expr
-built g behind line es args None = Err (T1, line)
-built g behind line es args (Some LeftOut) = Err (T11, line)
-built g behind line es args (Some (Plain op)) = operated g behind line es args op
+abbrev pub built : W.Around → Bool → List Local → ℕ → List U.Expr → Found (List T.Expr) → Option Builtin → Found T.Expr
+built g behind ls line es args None = Err (T1, line)
+built g behind ls line es args (Some LeftOut) = Err (T11, line)
+built g behind ls line es args (Some (Plain op)) = operated g behind ls line es args op
 
 -- a function that calls itself
 abbrev pub calls_itself : List Local → ℕ → Found (List T.Expr) → Found T.Expr
 calls_itself formals line args = if refuses args (λ ts. not (fits formals ts)) then Err (T2, line) else Err (T7, line)
 
 -- a function hides a built-in of its name
-abbrev pub resolved : W.Around → Bool → List ℕ → ℕ → List U.Expr → Found (List T.Expr) → Option (ℕ × Callee) → Found T.Expr
-resolved g behind name line es args (Some c) = called g.default c.0 c.1 line args
-resolved g behind name line es args None = built g behind line es args (entry_of builtin_names name)
+abbrev pub resolved : W.Around → Bool → List Local → List ℕ → ℕ → List U.Expr → Found (List T.Expr) → Option (ℕ × Callee) → Found T.Expr
+resolved g behind ls name line es args (Some c) = called g.default c.0 c.1 line args
+resolved g behind ls name line es args None = built g behind ls line es args (entry_of builtin_names name)
 
-abbrev pub call_with : Around → Bool → List ℕ → ℕ → List U.Expr → Found (List T.Expr) → Option (List Local) → Found T.Expr
-call_with g behind name line es args (Some formals) = calls_itself formals line args
-call_with g behind name line es args None = resolved g.at behind name line es args (callee_named name g.known)
+abbrev pub call_with : Around → Bool → List Local → List ℕ → ℕ → List U.Expr → Found (List T.Expr) → Option (List Local) → Found T.Expr
+call_with g behind ls name line es args (Some formals) = calls_itself formals line args
+call_with g behind ls name line es args None = resolved g.at behind ls name line es args (callee_named name g.known)
 
-abbrev pub call_of : Around → Bool → List ℕ → ℕ → List U.Expr → Found (List T.Expr) → Found T.Expr
-call_of g behind name line es args = call_with g behind name line es args (formals_in name g.own)
+abbrev pub call_of : Around → Bool → List Local → List ℕ → ℕ → List U.Expr → Found (List T.Expr) → Found T.Expr
+call_of g behind ls name line es args = call_with g behind ls name line es args (formals_in name g.own)
 
 abbrev pub three : Found T.Expr → Found T.Expr → Found T.Expr → Found (List T.Expr)
 three x y z = x >>= λ a. y >>= λ b. z >>= λ c. Ok (a ∷ b ∷ c ∷ [])
@@ -224,11 +273,11 @@ abbrev mutual
   typed_expr g behind ls (U.number text line) = Ok (T.number (number_value text) line)
   typed_expr g behind ls (U.string text line) = Ok (T.word text line)
   typed_expr g behind ls (U.name name line) = named g.at name line (level_of name ls)
-  typed_expr g behind ls (U.call name args line) = call_of g behind name line (listed args) (typed_args g ls args)
+  typed_expr g behind ls (U.call name args line) = call_of g behind ls name line (listed args) (typed_args g ls args)
   typed_expr g behind ls (U.paren e line) = typed_expr g false ls e
   typed_expr g behind ls (U.triple kind space x y z line) =
       tripled g.at kind space line (three (typed_expr g false ls x) (typed_expr g false ls y) (typed_expr g false ls z))
-  typed_expr g behind ls (U.typed kind space e line) = converted g.at kind space line (typed_expr g true ls e)
+  typed_expr g behind ls (U.typed kind space e line) = converted g.at kind space (is_call_node e) line (typed_expr g true ls e)
   typed_expr g behind ls (U.prefixed operator e line) = prefixed operator line (typed_expr g false ls e)
   typed_expr g behind ls (U.chain row e rest) = typed_expr g false ls e >>= λ t. typed_links g ls t rest
   typed_expr g behind ls (U.choice t a b line) =

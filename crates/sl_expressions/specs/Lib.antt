@@ -9,3 +9,4 @@ pub mod Exprs
 pub mod Measures
 pub mod Views
 pub mod TypedExamples
+pub mod TextureExamples

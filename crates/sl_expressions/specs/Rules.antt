@@ -5,6 +5,7 @@ use Rattle.sl_ast.specs.declared.operations.Operation.TheVariants as operations
 use Rattle.sl_ast.specs.declared.operations.ValueOperation.TheVariants as ops
 use Rattle.sl_ast.specs.declared.operations.Difference.TheVariants as differences
 use Rattle.sl_ast.specs.declared.operations.LightSum.TheVariants as sums
+use Rattle.sl_ast.specs.declared.operations.Look.TheVariants as looks
 use Rattle.sl_ast.specs.declared.kinds.Operator.{Operator}
 use Rattle.sl_ast.specs.declared.kinds.Operator.TheVariants as operators
 use Rattle.sl_ast.specs.declared.kinds.Prefix.{Prefix}
@@ -78,11 +79,11 @@ builtin_names =
     ∷ (codes "ambient", Plain (operations.Sum sums.Ambient))
     ∷ (codes "diffuse", Plain (operations.Sum sums.Diffuse))
     ∷ (codes "specular", Plain (operations.Sum sums.Specular))
+    ∷ (codes "texture", Plain (operations.Look looks.At))
     ∷ (codes "asin", LeftOut)
     ∷ (codes "acos", LeftOut)
     ∷ (codes "atan", LeftOut)
     ∷ (codes "spline", LeftOut)
     ∷ (codes "printf", LeftOut)
     ∷ (codes "bump", LeftOut)
-    ∷ (codes "texture", LeftOut)
     ∷ []

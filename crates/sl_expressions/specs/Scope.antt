@@ -7,11 +7,12 @@ use Rattle.sl_ast.specs.WellTyped as W
 use Rattle.sl_expressions.specs.Found.{Found}
 use Rattle.sl_expressions.specs.Typed.{Body}
 
--- a parameter, formal or local
+-- a parameter, formal or local, and whether it is a parameter that nothing assigns
 pub record Local : Type 0 where
   pub uniform : Bool
   pub kind : SlType
   pub name : List ℕ
+  pub fixed : Bool
   pub line : ℕ
 
 -- the last of a name among things in the order of their declaration, with how many stand before it: the last of the rest, one further, else

@@ -1,5 +1,5 @@
 -- Worked values: the last of a name, and a chain of two operators.
-use Rattle.std.specs.Prelude.{◌≡◌, ℕ, true, [], ◌∷◌, pos, Some, None, refl}
+use Rattle.std.specs.Prelude.{◌≡◌, ℕ, true, false, [], ◌∷◌, pos, Some, None, refl}
 use Rattle.sl_ast.specs.declared.kinds.SlType.TheVariants as types
 use Rattle.sl_ast.specs.declared.kinds.NodeType.TheVariants.{Float}
 use Rattle.sl_ast.specs.declared.operations.Operation.TheVariants.{Value}
@@ -8,7 +8,7 @@ use Rattle.sl_expressions.specs.Typed as T
 use Rattle.sl_expressions.specs.Scope.{Local, level_of}
 
 abbrev variable : ℕ → ℕ → Local
-variable name line = record { uniform = true; kind = types.Float; name = name ∷ []; line = line }
+variable name line = record { uniform = true; kind = types.Float; name = name ∷ []; fixed = false; line = line }
 
 -- of two variables of a name the later one, with its level
 abbrev later : level_of (7 ∷ []) (variable 7 1 ∷ variable 8 2 ∷ variable 7 3 ∷ []) ≡ Some (2, variable 7 3)

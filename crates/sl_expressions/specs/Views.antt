@@ -35,7 +35,7 @@ GivesAll view (Err (At code line)) found = found ≡ Err (code, line)
 GivesAll view (Err NoMemory) found = Unit {0}
 
 abbrev pub local_of : Local → S.Local
-local_of l = record { uniform = l.uniform; kind = l.kind; name = l.name.now; line = l.line }
+local_of l = record { uniform = l.uniform; kind = l.kind; name = l.name.now; fixed = l.fixed; line = l.line }
 
 -- a chain of operators behind what stands before
 abbrev pub chain_of : T.Expr → Vec TypedLink Global → T.Expr

@@ -7,7 +7,7 @@ ghost use Rattle.sl_expressions.specs.Names.{entry_of};
 ghost use Rattle.sl_expressions.specs.Scope as scopes;
 ghost use Rattle.sl_expressions.specs.Typed as T;
 ghost use Rattle.sl_expressions.specs.TypedView.{typed_of};
-ghost use Rattle.sl_expressions.specs.Views.{Gives, GivesAll, OfParts, spot_of, around_of, own_of, callee_of, local_of, literal_from};
+ghost use Rattle.sl_expressions.specs.Views.{Gives, GivesAll, OfParts, spot_of, around_of, own_of, callee_of, local_of, found_of, literal_from};
 
 use crate::faults::{TypeCode, TypeFault, fault};
 use crate::names::{find, same};
@@ -15,9 +15,10 @@ use crate::operations::{applied, kind_of, misfits};
 use crate::places::{Around, Body, Faulty, Known, Local, Own, Spot};
 use crate::predefined::space_named;
 use crate::rules::{Builtin, builtin_names};
+use crate::scope::Scope;
 use crate::typed::TypedExpr;
 use fixed_math::{List, Text};
-use sl_ast::{Expr, NodeType, Operation, SpaceName, ValueOperation};
+use sl_ast::{Expr, Look, NodeType, Operation, SlType, SpaceName, ValueOperation};
 use std::alloc::Global;
 
 // Whether those values go into those formals.
@@ -140,14 +141,52 @@ fn spaces_of(g: &Spot, line: u32, es: &[Expr]) -> Result<(SpaceName, SpaceName),
     }
 }
 
-// An operation with the spaces that its arguments name.
+// Whether a variable is a string that isn't a parameter that nothing assigns.
+fn is_movable(kind: SlType, fixed: bool) -> bool
+    ensures { result ≡ spec.is_movable kind fixed }
+{
+    matches!(kind, SlType::Str) && !fixed
+}
+
+fn named_by(line: u32, at: Option<(usize, Local<'_>)>) -> Result<(), TypeFault>
+    ensures { Gives (λ _. true) result (spec.named_by line (option_map found_of at.entry)) }
+{
+    match at {
+        Some((_, local)) if is_movable(local.kind, local.fixed) => fault(TypeCode::T11, line),
+        _ => Ok(()),
+    }
+}
+
+// Refuses what doesn't name a texture.
+fn texture_named(scope: &Scope<'_>, line: u32, e: &Expr) -> Result<(), TypeFault>
+    ensures { Gives (λ _. true) result (spec.texture_named (map local_of scope.now) line (expr_of e.now)) }
+{
+    match e {
+        Expr::Str { .. } => Ok(()),
+        Expr::Name { name, line: at } => named_by(*at, scope.level(name)),
+        Expr::Paren { inner, .. } => texture_named(scope, line, inner),
+        _ => fault(TypeCode::T11, line),
+    }
+}
+
+fn first_named(scope: &Scope<'_>, line: u32, es: &[Expr]) -> Result<(), TypeFault>
+    ensures { Gives (λ _. true) result (spec.first_named (map local_of scope.now) line (map expr_of es.now)) }
+{
+    match es {
+        [] => Ok(()),
+        [name, ..] => texture_named(scope, line, name),
+    }
+}
+
+// An operation with the spaces that its arguments name, or the texture.
 fn operation_in(
     g: &Spot,
+    scope: &Scope<'_>,
     operation: Operation,
     line: u32,
     es: &[Expr],
 ) -> Result<Operation, TypeFault>
-    ensures { Gives (λ o. o) result (spec.operation_in (spot_of g.now) operation line (map expr_of es.now)) }
+    ensures { Gives (λ o. o) result (spec.operation_in (spot_of g.now) (map local_of scope.now) operation line (map expr_of es.now)) }
 {
     match operation {
         Operation::Value(ValueOperation::Transform(_, _)) => {
@@ -162,16 +201,21 @@ fn operation_in(
             let (from, into) = spaces_of(g, line, es)?;
             Ok(Operation::Value(ValueOperation::NTransform(from, into)))
         }
+        Operation::Look(_) => {
+            first_named(scope, line, es)?;
+            Ok(operation)
+        }
         _ => Ok(operation),
     }
 }
 
-// `faceforward` by the number of its arguments.
+// `faceforward` and `texture` by the number of their arguments.
 fn by_count(operation: Operation, args: &[TypedExpr]) -> Operation
     ensures { result ≡ spec.by_count operation (map typed_of args.now) }
 {
     match (operation, args) {
         (Operation::Value(ValueOperation::FaceForward), [_, _]) => Operation::FaceForwardNg,
+        (Operation::Look(Look::At), [_]) => Operation::Look(Look::Here),
         _ => operation,
     }
 }
@@ -216,18 +260,19 @@ fn is_amiss(g: &Spot, operation: Operation, args: &[TypedExpr]) -> bool
 fn operated(
     g: &Spot,
     behind: bool,
+    scope: &Scope<'_>,
     line: u32,
     es: &[Expr],
     args: Result<Vec<TypedExpr>, TypeFault>,
     operation: Operation,
 ) -> Result<TypedExpr, TypeFault>
-    ensures { (found : Found (List T.Expr)) → GivesAll typed_of args found → Gives typed_of result (spec.operated (spot_of g.now) behind line (map expr_of es.now) found operation) }
+    ensures { (found : Found (List T.Expr)) → GivesAll typed_of args found → Gives typed_of result (spec.operated (spot_of g.now) behind (map local_of scope.now) line (map expr_of es.now) found operation) }
 {
     match args {
         Err(TypeFault::NoMemory) => Err(TypeFault::NoMemory),
         Err(TypeFault::At { code, line: at }) => {
             allowed(g, behind, operation, line)?;
-            operation_in(g, operation, line, es)?;
+            operation_in(g, scope, operation, line, es)?;
             fault(code, at)
         }
         Ok(args) => {
@@ -235,7 +280,7 @@ fn operated(
                 return fault(TypeCode::T2, line);
             }
             allowed(g, behind, operation, line)?;
-            let operation = operation_in(g, operation, line, es)?;
+            let operation = operation_in(g, scope, operation, line, es)?;
             let operation = by_count(operation, args.as_slice());
             applied(operation, line, args)
         }
@@ -245,17 +290,18 @@ fn operated(
 fn built(
     g: &Spot,
     behind: bool,
+    scope: &Scope<'_>,
     line: u32,
     es: &[Expr],
     args: Result<Vec<TypedExpr>, TypeFault>,
     builtin: Option<Builtin>,
 ) -> Result<TypedExpr, TypeFault>
-    ensures { (found : Found (List T.Expr)) → GivesAll typed_of args found → Gives typed_of result (spec.built (spot_of g.now) behind line (map expr_of es.now) found builtin) }
+    ensures { (found : Found (List T.Expr)) → GivesAll typed_of args found → Gives typed_of result (spec.built (spot_of g.now) behind (map local_of scope.now) line (map expr_of es.now) found builtin) }
 {
     match builtin {
         None => fault(TypeCode::T1, line),
         Some(Builtin::LeftOut) => fault(TypeCode::T11, line),
-        Some(Builtin::Plain(operation)) => operated(g, behind, line, es, args, operation),
+        Some(Builtin::Plain(operation)) => operated(g, behind, scope, line, es, args, operation),
     }
 }
 
@@ -293,16 +339,20 @@ fn own_formals<'a, 'b>(name: &Text, own: &Option<Own<'a, 'b>>) -> Option<&'a [Lo
 fn resolved(
     g: &Around<'_, '_>,
     behind: bool,
+    scope: &Scope<'_>,
     name: &Text,
     line: u32,
     es: &[Expr],
     args: Result<Vec<TypedExpr>, TypeFault>,
 ) -> Result<TypedExpr, TypeFault>
-    ensures { OfParts args (λ found. spec.resolved (spot_of g.now.at) behind name.now line (map expr_of es.now) found (scopes.callee_named name.now (map callee_of g.now.known.now))) result }
+    ensures { OfParts args (λ found. spec.resolved (spot_of g.now.at) behind (map local_of scope.now) name.now line (map expr_of es.now) found (scopes.callee_named name.now (map callee_of g.now.known.now))) result }
 {
     match g.known.find(name) {
         Some((k, known)) => called(g.at.default, k, known, line, args),
-        None => built(&g.at, behind, line, es, args, find(builtin_names(), name)),
+        None => {
+            let builtin = find(builtin_names(), name);
+            built(&g.at, behind, scope, line, es, args, builtin)
+        },
     }
 }
 
@@ -310,15 +360,16 @@ fn resolved(
 pub fn call_of(
     g: &Around<'_, '_>,
     behind: bool,
+    scope: &Scope<'_>,
     name: &Text,
     line: u32,
     es: &[Expr],
     args: Result<Vec<TypedExpr>, TypeFault>,
 ) -> Result<TypedExpr, TypeFault>
-    ensures { (found : Found (List T.Expr)) → GivesAll typed_of args found → Gives typed_of result (spec.call_of (around_of g.now) behind name.now line (map expr_of es.now) found) }
+    ensures { (found : Found (List T.Expr)) → GivesAll typed_of args found → Gives typed_of result (spec.call_of (around_of g.now) behind (map local_of scope.now) name.now line (map expr_of es.now) found) }
 {
     match own_formals(name, &g.own) {
         Some(formals) => calls_itself(formals, line, args),
-        None => resolved(g, behind, name, line, es, args),
+        None => resolved(g, behind, scope, name, line, es, args),
     }
 }

@@ -67,6 +67,12 @@ fn predefined_at(g: &Spot, line: u32, name: Option<Predefined>) -> Result<TypedE
     }
 }
 
+fn is_call_node(e: &Expr) -> bool
+    ensures { result ≡ spec.is_call_node (expr_of e.now) }
+{
+    matches!(e, Expr::Call { .. })
+}
+
 // A name in an expression.
 fn named(
     g: &Spot,
@@ -147,11 +153,11 @@ pub fn expr(
             line,
         } => {
             let part = expr(value, alloc, g, true, scope);
-            converted(alloc, &g.at, *kind, space, *line, part)
+            converted(alloc, &g.at, *kind, space, is_call_node(value), *line, part)
         }
         Expr::Call { name, args, line } => {
             let parts = exprs(args.as_slice(), alloc, g, scope);
-            call_of(g, behind, name, *line, args.as_slice(), parts)
+            call_of(g, behind, scope, name, *line, args.as_slice(), parts)
         }
     }
 }

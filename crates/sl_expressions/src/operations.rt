@@ -1,5 +1,5 @@
 // Operators, conversions and built-ins on typed operands.
-ghost use Rattle.std.specs.Prelude.{List, ◌≡◌, [], ◌∷◌, map};
+ghost use Rattle.std.specs.Prelude.{Bool, List, ◌≡◌, [], ◌∷◌, map};
 ghost use Rattle.std.specs.Str.{bytes_eq};
 ghost use Rattle.sl_ast.specs.Rules.{rule};
 ghost use Rattle.sl_expressions.specs.Exprs as spec;
@@ -16,7 +16,9 @@ use crate::predefined::space_named;
 use crate::rules::prefix_operation;
 use crate::typed::{TypedExpr, TypedLink};
 use fixed_math::{List, Text};
-use sl_ast::{NodeType, Operands, Operation, Prefix, SlType, Space, SpaceName, ValueOperation};
+use sl_ast::{
+    Look, NodeType, Operands, Operation, Prefix, SlType, Space, SpaceName, ValueOperation,
+};
 use std::alloc::Global;
 
 pub fn kind_of(e: &TypedExpr) -> NodeType
@@ -238,16 +240,58 @@ fn refuses_space(kind: SlType, space: &Option<Space>) -> bool
     }
 }
 
-// A type before a value.
+fn is_look(operation: Operation) -> bool
+    ensures { result ≡ spec.is_look operation }
+{
+    matches!(operation, Operation::Look(_))
+}
+
+// Whether a value is a look-up.
+fn is_look_up(e: &TypedExpr) -> bool
+    ensures { result ≡ spec.is_look_up (typed_of e.now) }
+{
+    match e {
+        TypedExpr::Number { .. } => false,
+        TypedExpr::Word { .. } => false,
+        TypedExpr::Variable { .. } => false,
+        TypedExpr::Apply { operation, .. } => is_look(*operation),
+        TypedExpr::Chain { operation, .. } => is_look(*operation),
+        TypedExpr::Call { .. } => false,
+    }
+}
+
+// Whether a type takes the first part of the colour that it stands before.
+fn takes_first(kind: SlType, call: bool, e: &TypedExpr) -> bool
+    ensures { result ≡ spec.takes_first kind call (typed_of e.now) }
+{
+    match kind {
+        SlType::Float => call && is_look_up(e),
+        _ => false,
+    }
+}
+
+// What a type before a value does.
+fn conversion(kind: SlType, space: SpaceName, first_part: bool) -> Operation
+    ensures { (call : Bool) (t : T.Expr) → first_part ≡ spec.takes_first kind call t → result ≡ spec.conversion kind space call t }
+{
+    if first_part {
+        Operation::Look(Look::First)
+    } else {
+        Operation::Value(ValueOperation::Convert(kind, space))
+    }
+}
+
+// A type before a value, and whether that is a call.
 pub fn converted(
     alloc: Global,
     g: &Spot,
     kind: SlType,
     space: &Option<Space>,
+    call: bool,
     line: u32,
     part: Result<TypedExpr, TypeFault>,
 ) -> Result<TypedExpr, TypeFault>
-    ensures { (found : Found T.Expr) → Gives typed_of part found → Gives typed_of result (spec.converted (spot_of g.now) kind space.now line found) }
+    ensures { (found : Found T.Expr) → Gives typed_of part found → Gives typed_of result (spec.converted (spot_of g.now) kind space.now call line found) }
 {
     let space_found = space_of(g, kind, space);
     match part {
@@ -257,10 +301,11 @@ pub fn converted(
             Ok(_) => fault(code, line),
         },
         Ok(value) => {
+            let first_part = takes_first(kind, call, &value);
             let args = one(alloc, value)?;
             if refuses_space(kind, space)
                 || misfits(
-                    Operation::Value(ValueOperation::Convert(kind, SpaceName::Current)),
+                    conversion(kind, SpaceName::Current, first_part),
                     args.as_slice(),
                 )
             {
@@ -274,11 +319,7 @@ pub fn converted(
             }
             match space_found {
                 Err(first) => left(args, first),
-                Ok(space) => applied(
-                    Operation::Value(ValueOperation::Convert(kind, space)),
-                    line,
-                    args,
-                ),
+                Ok(space) => applied(conversion(kind, space, first_part), line, args),
             }
         }
     }

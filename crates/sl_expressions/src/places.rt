@@ -5,12 +5,13 @@ use crate::typed::{TypedExpr, TypedStmt};
 use fixed_math::{List, Text};
 use sl_ast::{SlKind, SlType};
 
-/// A parameter, formal or local, with the line of its name.
+/// A parameter, formal or local, with the line of its name. `fixed` says that it is a parameter that nothing assigns.
 #[derive(Clone, Copy)]
 pub struct Local<'a> {
     pub uniform: bool,
     pub kind: SlType,
     pub name: &'a Text,
+    pub fixed: bool,
     pub line: u32,
 }
 

@@ -4,7 +4,7 @@ ghost use Rattle.sl_expressions.specs.Names.{plain};
 ghost use Rattle.sl_expressions.specs.Rules as spec;
 
 use crate::entry::Entry;
-use sl_ast::{Difference, LightSum, Operation, Operator, Prefix, SpaceName, ValueOperation};
+use sl_ast::{Difference, LightSum, Look, Operation, Operator, Prefix, SpaceName, ValueOperation};
 
 /// What the name of a built-in function stands for: an operation, or one that is left out.
 #[derive(Clone, Copy)]
@@ -225,6 +225,10 @@ pub fn builtin_names() -> &'static [Entry<Builtin>]
             value: Builtin::Plain(Operation::Sum(LightSum::Specular)),
         },
         Entry {
+            name: "texture",
+            value: Builtin::Plain(Operation::Look(Look::At)),
+        },
+        Entry {
             name: "asin",
             value: Builtin::LeftOut,
         },
@@ -246,10 +250,6 @@ pub fn builtin_names() -> &'static [Entry<Builtin>]
         },
         Entry {
             name: "bump",
-            value: Builtin::LeftOut,
-        },
-        Entry {
-            name: "texture",
             value: Builtin::LeftOut,
         },
     ]

@@ -64,3 +64,6 @@ last_operand all xs x h = ap (λ l. last (exprs_of l)) h ∙ last_is xs x
 pub with_last_operand : (xs : List CoreExpr) (x : CoreExpr) → exprs_of (xs ++ x ∷ []) ≡ with_last (exprs_of xs) (expr_of x)
 with_last_operand [] x = refl
 with_last_operand (y ∷ xs) x = ap (C.more (expr_of y)) (with_last_operand xs x)
+
+pub with_last_two : (xs : List CoreExpr) (x y : CoreExpr) → exprs_of ((xs ++ x ∷ []) ++ y ∷ []) ≡ with_last (with_last (exprs_of xs) (expr_of x)) (expr_of y)
+with_last_two xs x y = with_last_operand (xs ++ x ∷ []) y ∙ ap (λ es. with_last es (expr_of y)) (with_last_operand xs x)

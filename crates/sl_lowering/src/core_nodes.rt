@@ -1,6 +1,7 @@
 // Nodes of the core tree from their parts.
-ghost use Rattle.std.specs.Prelude.{◌≡◌, IfOk};
+ghost use Rattle.std.specs.Prelude.{◌≡◌, pos, IfOk};
 ghost use Rattle.fixed_math.specs.Fixed.{sat};
+ghost use Rattle.sl_ast.specs.declared.operations.Look.TheVariants as looks;
 ghost use Rattle.sl_ast.specs.declared.operations.ValueOperation.TheVariants as operations;
 ghost use Rattle.sl_ast.specs.declared.typed.Value.TheVariants as values;
 ghost use Rattle.sl_ast.specs.declared.typed.Variable.TheVariants as variables;
@@ -11,8 +12,8 @@ ghost use Rattle.sl_meaning.specs.Lowered as spec;
 
 use fixed_math::{List, NoMemory, Num, Text};
 use sl_ast::{
-    Difference, LightStmt, LightSum, NodeType, Operation, Predefined, SetOperator, SlType, Value,
-    ValueOperation, Variable,
+    Difference, LightStmt, LightSum, Look, NodeType, Operation, Predefined, SetOperator, SlType,
+    Value, ValueOperation, Variable,
 };
 use sl_meaning::{Argument, CoreExpr, CoreLoop, CoreStmt};
 use std::alloc::Global;
@@ -123,13 +124,51 @@ fn face_node(mut args: Vec<CoreExpr>) -> Result<CoreExpr, NoMemory>
     Ok(apply_node(ValueOperation::FaceForward, args))
 }
 
-// An operation of a typed tree on its operands.
+#[tactic(auto, using(sl_meaning::proofs::CoreRows::held_exprs))]
+fn texture_node(node: u32, args: Vec<CoreExpr>) -> CoreExpr
+    ensures { expr_of result ≡ C.texture node (exprs_of args.items) }
+{
+    CoreExpr::Texture(node, List(args))
+}
+
+// A look-up by its name alone, at the predefined s and t.
+#[tactic(auto, using(crate::proofs::CoreParts::with_last_two))]
+fn here_node(node: u32, mut args: Vec<CoreExpr>) -> Result<CoreExpr, NoMemory>
+    ensures { IfOk result (λ e. expr_of e ≡ spec.looked_up looks.Here node (exprs_of args.items)) }
+{
+    args.push(CoreExpr::Read(Variable::Predefined(Predefined::S)))?;
+    args.push(CoreExpr::Read(Variable::Predefined(Predefined::T)))?;
+    Ok(texture_node(node, args))
+}
+
+// The first part of a colour.
+#[tactic(auto, using(crate::proofs::CoreParts::with_last_operand))]
+fn first_node(mut args: Vec<CoreExpr>) -> Result<CoreExpr, NoMemory>
+    ensures { IfOk result (λ e. expr_of e ≡ C.apply operations.Comp (spec.with_last (exprs_of args.items) (C.literal (values.Number (pos 0))))) }
+{
+    args.push(number(0))?;
+    Ok(apply_node(ValueOperation::Comp, args))
+}
+
+// A look-up of that node, or the first part of one.
+fn looked_up(look: Look, node: u32, args: Vec<CoreExpr>) -> Result<CoreExpr, NoMemory>
+    ensures { IfOk result (λ e. expr_of e ≡ spec.looked_up look node (exprs_of args.items)) }
+{
+    match look {
+        Look::At => Ok(texture_node(node, args)),
+        Look::Here => here_node(node, args),
+        Look::First => first_node(args),
+    }
+}
+
+// An operation of that node of a typed tree on its operands.
 pub(crate) fn operated(
     alloc: Global,
     operation: Operation,
+    node: u32,
     args: Vec<CoreExpr>,
 ) -> Result<CoreExpr, NoMemory>
-    ensures { IfOk result (λ e. expr_of e ≡ spec.operated operation (exprs_of args.items)) }
+    ensures { IfOk result (λ e. expr_of e ≡ spec.operated operation node (exprs_of args.items)) }
 {
     match operation {
         Operation::Value(operation) => {
@@ -139,6 +178,7 @@ pub(crate) fn operated(
         Operation::FaceForwardNg => face_node(args),
         Operation::Difference(difference) => differ_node(alloc, difference, args),
         Operation::Sum(sum) => Ok(sum_node(sum, args)),
+        Operation::Look(look) => looked_up(look, node, args),
     }
 }
 

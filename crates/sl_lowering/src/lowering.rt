@@ -34,10 +34,11 @@ fn expr(e: &TreeExpr, alloc: Global, us: &[bool], uniform: bool) -> Result<CoreE
         TreeExpr::Apply {
             operation,
             args,
+            place,
             ..
         } => {
             let operands = exprs(args.as_slice(), alloc, us, uniform)?;
-            operated(alloc, *operation, operands)
+            operated(alloc, *operation, place.number, operands)
         }
         TreeExpr::Call {
             args,

@@ -1,5 +1,5 @@
 -- What a node of the core tree that holds a list shows is what the list's items show.
-use Rattle.std.proofs.Common.{◌≡◌, List, refl, ap, ◌∙◌}
+use Rattle.std.proofs.Common.{◌≡◌, ℕ, List, refl, ap, ◌∙◌}
 use Rattle.std.specs.declared.alloc.Global.{Global}
 use Rattle.std.specs.declared.boxed.Box.{Box}
 use Rattle.sl_ast.specs.declared.kinds.SlType.{SlType}
@@ -10,7 +10,7 @@ use Rattle.sl_meaning.specs.Core as C
 use Rattle.sl_meaning.specs.CoreView.{expr_of, stmt_of, row_exprs, row_args, row_stmts, exprs_of, args_of, stmts_of, loop_of}
 use Rattle.sl_meaning.specs.declared.core_tree.Argument.{Argument}
 use Rattle.sl_meaning.specs.declared.core_tree.CoreLoop.{CoreLoop}
-use Rattle.sl_meaning.specs.declared.core_tree.CoreExpr.{CoreExpr, Apply, Sum, Call, Row_of-CoreExpr, end_of-CoreExpr, more_of-CoreExpr, items-the_row-CoreExpr, Row_of-Argument, end_of-Argument, more_of-Argument, items-the_row-Argument}
+use Rattle.sl_meaning.specs.declared.core_tree.CoreExpr.{CoreExpr, Apply, Sum, Texture, Call, Row_of-CoreExpr, end_of-CoreExpr, more_of-CoreExpr, items-the_row-CoreExpr, Row_of-Argument, end_of-Argument, more_of-Argument, items-the_row-Argument}
 use Rattle.sl_meaning.specs.declared.core_tree.CoreStmt.{CoreStmt, Block, Test, Repeat, Lights, Row_of-CoreStmt, end_of-CoreStmt, more_of-CoreStmt, items-the_row-CoreStmt}
 use Rattle.sl_meaning.specs.declared.core_tree.CoreExpr.TheBlock.{hidden-the_row-CoreExpr-0, items_hidden-the_row-CoreExpr-0, hidden-the_row-CoreStmt-2, items_hidden-the_row-CoreStmt-2, hidden-the_row-Argument-1, items_hidden-the_row-Argument-1}
 
@@ -40,6 +40,9 @@ apply_shown e op args h = ap expr_of h ∙ ap (C.apply op) (held_exprs args)
 
 pub sum_shown : (e : CoreExpr) (s : LightSum) (args : List CoreExpr) → e ≡ Sum s args → expr_of e ≡ C.sum s (exprs_of args)
 sum_shown e s args h = ap expr_of h ∙ ap (C.sum s) (held_exprs args)
+
+pub texture_shown : (e : CoreExpr) (k : ℕ) (args : List CoreExpr) → e ≡ Texture k args → expr_of e ≡ C.texture k (exprs_of args)
+texture_shown e k args h = ap expr_of h ∙ ap (C.texture k) (held_exprs args)
 
 pub call_shown : (e : CoreExpr) (args : List Argument) (body : List CoreStmt) (kind : SlType) (r : Box CoreExpr Global) →
     e ≡ Call args body kind r → expr_of e ≡ C.call (args_of args) (stmts_of body) kind (expr_of r.value)

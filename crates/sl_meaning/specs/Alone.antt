@@ -2,6 +2,7 @@
 -- declaration are taken from left to right, each once. `n` only bounds the definition: each turn of a loop takes one from a budget that
 -- is at most as great.
 use Rattle.std.specs.Prelude.{ℕ, zero, suc, Bool, true, cond, nat_lt, List, [], ◌∷◌, map}
+use Rattle.fixed_math.specs.Axes.{origin}
 use Rattle.fixed_math.specs.Fixed.{sub}
 use Rattle.fixed_math.specs.declared.vec3.Vec3.{Vec3}
 use Rattle.sl_ast.specs.declared.kinds.LightStmt.{LightStmt}
@@ -12,7 +13,7 @@ use Rattle.sl_ast.specs.declared.typed.Value.TheVariants.{Triple}
 use Rattle.builtins.specs.Triples.{each_two}
 use Rattle.builtins.specs.Values.{as_kind, is_true, triple_of}
 use Rattle.builtins.specs.Table.{applied}
-use Rattle.sl_meaning.specs.Core.{Expr, literal, read, apply, differ, sum, call, Exprs, none, more, Arguments, no_arguments, argument, Stmt, declare, assign, block, test, repeat, lights, leave, again, Stmts, done, first}
+use Rattle.sl_meaning.specs.Core.{Expr, literal, read, apply, differ, sum, texture, call, Exprs, none, more, Arguments, no_arguments, argument, Stmt, declare, assign, block, test, repeat, lights, leave, again, Stmts, done, first}
 use Rattle.sl_meaning.specs.Environment.{Env, Around, Signal, Next, Break, Continue, read_of, with_name, with_variable, declared, budget, spend, scope_of, cut_to}
 use Rattle.builtins.specs.Lights.{Light, is_in_cone, seen, sum_of}
 
@@ -106,8 +107,10 @@ abbrev mutual
   value (literal v) g n e = (v, e)
   value (read x) g n e = (read_of x e, e)
   value (apply op args) g n e = on_value (applied op g.spaces) (all_values args g n) e
+  -- differences and look-ups stand in no varying control, where a point has no neighbours
   value (differ d a) g n e = value a g n e
   value (sum s args) g n e = summed g (sum_of s) (all_values args g n) e
+  value (texture k args) g n e = on_value (λ vs. Triple origin) (all_values args g n) e
   value (call args body kind r) g n e = inlined (arg_values args g n) (run_all body g n) (on_value (as_kind kind) (value r g n)) e
 
   pub all_values : Exprs → Around → ℕ → Gives (List Value)

@@ -1,6 +1,6 @@
--- The core tree: the typed tree with loops marked by the rules of control classes, short forms written out, and neither lines nor numbers.
+-- The core tree: the typed tree with loops marked by the rules of control classes, short forms written out, and without places but the numbers of look-ups.
 -- Meaning is given to it, and code is made of it.
-use Rattle.std.specs.Prelude.{Bool, true, false, ◌&&◌, List, [], ◌∷◌, ◌++◌, get_or}
+use Rattle.std.specs.Prelude.{ℕ, Bool, true, false, ◌&&◌, List, [], ◌∷◌, ◌++◌, get_or}
 use Rattle.sl_ast.specs.declared.kinds.SlType.{SlType}
 use Rattle.sl_ast.specs.declared.kinds.SlType.TheVariants as types
 use Rattle.sl_ast.specs.declared.kinds.LightStmt.{LightStmt}
@@ -20,6 +20,8 @@ mutual
     apply : ValueOperation → Exprs → Expr
     differ : Difference → Expr → Expr
     sum : LightSum → Exprs → Expr
+    -- a look-up by the number of its node: its name, s and t
+    texture : ℕ → Exprs → Expr
     -- arguments, body, and the value of the `return` with its type
     call : Arguments → Stmts → SlType → Expr → Expr
 
@@ -90,6 +92,7 @@ abbrev mutual
   is_uniform (apply op args) ss = are_uniform args ss
   is_uniform (differ d e) ss = false
   is_uniform (sum s args) ss = false
+  is_uniform (texture k args) ss = are_uniform args ss
   is_uniform (call args body kind e) ss = args_uniform args ss && (all_uniform (formals args) && (stmts_uniform body (formals args) && is_uniform e (after_all body (formals args))))
 
   pub are_uniform : Exprs → List Slot → Bool

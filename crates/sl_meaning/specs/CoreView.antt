@@ -13,6 +13,7 @@ abbrev mutual
   expr_of (e.Apply' operation n args) = C.apply operation (row_exprs args)
   expr_of (e.Differ' difference p x) = C.differ difference (expr_of x)
   expr_of (e.Sum' sum n args) = C.sum sum (row_exprs args)
+  expr_of (e.Texture' number n args) = C.texture number (row_exprs args)
   expr_of (e.Call' n args m body kind p value) = C.call (row_args args) (row_stmts body) kind (expr_of value)
 
   pub row_exprs : {m : _} → e.Row_of-CoreExpr m → C.Exprs

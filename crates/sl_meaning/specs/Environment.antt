@@ -1,6 +1,7 @@
 -- What a shader works on at a point, and what no statement changes.
-use Rattle.std.specs.Prelude.{ℕ, ◌-◌, ◌==◌, pos, Bool, true, false, cond, List, [], ◌∷◌, ◌++◌, length, get_or, set, take}
+use Rattle.std.specs.Prelude.{ℕ, ◌-◌, ◌==◌, pos, Bool, true, false, cond, List, [], ◌∷◌, ◌++◌, length, get_or, set, take, Option}
 use Rattle.fixed_math.specs.declared.vec3.Vec3.{Vec3}
+use Rattle.texture.specs.Images.{Image}
 use Rattle.transforms.specs.declared.spaces.Spaces.{Spaces}
 use Rattle.builtins.specs.Names.{place_of}
 use Rattle.builtins.specs.Differences.{Lines}
@@ -20,11 +21,12 @@ pub record Env : Type 0 where
   pub own : ℕ
   pub lit : Bool
 
--- what no statement changes: the lines of the grid, the named spaces, and the lights
+-- what no statement changes: the lines of the grid, the named spaces, the lights, and the image that each look-up names, by the number of its node
 pub record Around : Type 0 where
   pub lines : Lines
   pub spaces : Spaces
   pub lights : List (Vec3 → Light)
+  pub images : ℕ → Option Image
 
 -- a statement ends, or leaves the innermost loop, or goes on with its next turn
 pub data Signal : Type 0 where

@@ -5,10 +5,11 @@ use Rattle.sl_ast.specs.declared.kinds.Predefined.TheVariants as names
 use Rattle.sl_ast.specs.declared.typed.Value.{Value}
 use Rattle.builtins.specs.Values.{as_kind, is_true}
 use Rattle.builtins.specs.Table.{applied}
-use Rattle.sl_meaning.specs.Core.{Slot, Expr, literal, read, apply, differ, sum, call, Exprs, none, more, Arguments, no_arguments, argument, Stmt, declare, assign, block, test, repeat, lights, leave, again, Stmts, done, first, formals, after, is_uniform}
+use Rattle.sl_meaning.specs.Core.{Slot, Expr, literal, read, apply, differ, sum, texture, call, Exprs, none, more, Arguments, no_arguments, argument, Stmt, declare, assign, block, test, repeat, lights, leave, again, Stmts, done, first, formals, after, is_uniform}
 use Rattle.sl_meaning.specs.Environment.{Env, Around, Signal, Next, Break, Continue, read_of, with_variable, declared, spend, scope_of, cut_to}
 use Rattle.builtins.specs.Lights.{Light, sum_of}
 use Rattle.builtins.specs.Differences.{difference}
+use Rattle.builtins.specs.Textures.{textured}
 use Rattle.sl_meaning.specs.Alone.{Runs, answers_at, over_lights, inside, run, run_all}
 
 -- an environment for each place of the grid; places go by rows
@@ -76,6 +77,7 @@ abbrev mutual
   values (apply op args) g n es = on_all (applied op g.spaces) (all_of args g n) es
   values (differ d a) g n es = let x = values a g n es in (difference d g.lines g.spaces.flip x.0, x.1)
   values (sum s args) g n es = summed_all g (sum_of s) (all_of args g n) es
+  values (texture k args) g n es = let x = all_of args g n es in (textured g.lines (g.images k) x.0, x.1)
   values (call args body kind r) g n es = inlined_all (args_of args g n) (grid_all body (formals args) g n) (on_all (as_kind kind) (values r g n)) es
 
   pub all_of : Exprs → Around → ℕ → GivesAll (List Value)

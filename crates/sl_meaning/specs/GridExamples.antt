@@ -1,5 +1,5 @@
 -- Worked values of the meaning on a grid, of statements over lights and of a light's answer.
-use Rattle.std.specs.Prelude.{ℕ, pos, neg_ℤ, codes, true, false, [], ◌∷◌, get_or, List, ◌≡◌, refl}
+use Rattle.std.specs.Prelude.{ℕ, pos, neg_ℤ, None, codes, true, false, [], ◌∷◌, get_or, List, ◌≡◌, refl}
 use Rattle.fixed_math.specs.declared.vec3.Vec3.{Vec3}
 use Rattle.transforms.specs.declared.spaces.Spaces.{Spaces}
 use Rattle.builtins.specs.Differences.{along_u}
@@ -37,7 +37,7 @@ level k = read (Level k)
 
 -- two columns and two rows, half a unit of u from one column to the next
 abbrev small : Spaces → Around
-small sp = record { lines = record { columns = 2; rows = 2; du = pos 32768; dv = pos 65536 }; spaces = sp; lights = [] }
+small sp = record { lines = record { columns = 2; rows = 2; du = pos 32768; dv = pos 65536 }; spaces = sp; lights = []; images = λ k. None }
 
 -- one variable that is 1, 3, 10 and 20 at the four places
 abbrev four : Envs

@@ -1,5 +1,5 @@
 -- The core tree of a typed tree. `us` are the classes of the variables in scope (`true` for uniform), and `u` says that control is uniform.
-use Rattle.std.specs.Prelude.{pos, Bool, true, false, ◌&&◌, List, [], ◌∷◌}
+use Rattle.std.specs.Prelude.{ℕ, pos, Bool, true, false, ◌&&◌, List, [], ◌∷◌}
 use Rattle.sl_ast.specs.declared.kinds.NodeType.{NodeType}
 use Rattle.sl_ast.specs.declared.kinds.NodeType.TheVariants as nodes
 use Rattle.sl_ast.specs.declared.kinds.Predefined.TheVariants as names
@@ -8,6 +8,8 @@ use Rattle.sl_ast.specs.declared.kinds.SetOperator.TheVariants as sets
 use Rattle.sl_ast.specs.declared.kinds.SlType.{SlType}
 use Rattle.sl_ast.specs.declared.kinds.SlType.TheVariants as types
 use Rattle.sl_ast.specs.declared.operations.Difference.{Difference}
+use Rattle.sl_ast.specs.declared.operations.Look.{Look}
+use Rattle.sl_ast.specs.declared.operations.Look.TheVariants as looks
 use Rattle.sl_ast.specs.declared.operations.Operation.{Operation}
 use Rattle.sl_ast.specs.declared.operations.Operation.TheVariants as operations
 use Rattle.sl_ast.specs.declared.operations.ValueOperation.{ValueOperation}
@@ -64,12 +66,19 @@ abbrev pub difference_of : Difference → C.Exprs → C.Expr
 difference_of d C.none = C.literal (Number (pos 0))
 difference_of d (C.more e rest) = C.differ d e
 
--- an operation on its operands; `faceforward` of two reads the geometric normal
-abbrev pub operated : Operation → C.Exprs → C.Expr
-operated (operations.Value op) es = C.apply op (operands op es)
-operated operations.FaceForwardNg es = C.apply ops.FaceForward (with_last es (C.read (variables.Predefined names.Ng)))
-operated (operations.Difference d) es = difference_of d es
-operated (operations.Sum s) es = C.sum s es
+-- a look-up of that node, of a name alone at the predefined s and t; and the first part of one
+abbrev pub looked_up : Look → ℕ → C.Exprs → C.Expr
+looked_up looks.At k es = C.texture k es
+looked_up looks.Here k es = C.texture k (with_last (with_last es (C.read (variables.Predefined names.S))) (C.read (variables.Predefined names.T)))
+looked_up looks.First k es = C.apply ops.Comp (with_last es (C.literal (Number (pos 0))))
+
+-- an operation of that node on its operands; `faceforward` of two reads the geometric normal
+abbrev pub operated : Operation → ℕ → C.Exprs → C.Expr
+operated (operations.Value op) k es = C.apply op (operands op es)
+operated operations.FaceForwardNg k es = C.apply ops.FaceForward (with_last es (C.read (variables.Predefined names.Ng)))
+operated (operations.Difference d) k es = difference_of d es
+operated (operations.Sum s) k es = C.sum s es
+operated (operations.Look look) k es = looked_up look k es
 
 -- what `=`, `+=`, `-=`, `*=` and `/=` put into a variable
 abbrev pub combined : ValueOperation → Variable → C.Expr → C.Expr
@@ -91,7 +100,7 @@ abbrev mutual
   expr (T.number x p) us u = C.literal (Number x)
   expr (T.word text p) us u = C.literal (Word text)
   expr (T.variable x kind p) us u = read x
-  expr (T.apply operation args kind p) us u = operated operation (exprs args us u)
+  expr (T.apply operation args kind p) us u = operated operation p.number (exprs args us u)
   expr (T.call args formals body returned value kind p) us u =
       C.call (arguments args formals us u) (stmts body (formal_classes formals) u) (value_type kind) (expr value (after_all body (formal_classes formals)) u)
 

@@ -7,10 +7,11 @@ use Rattle.sl_ast.specs.declared.kinds.SetOperator.TheVariants as sets
 use Rattle.sl_ast.specs.declared.kinds.SlKind.TheVariants.{Surface}
 use Rattle.sl_ast.specs.declared.kinds.SlType.TheVariants as types
 use Rattle.sl_ast.specs.declared.kinds.SpaceName.TheVariants as spaces
+use Rattle.sl_ast.specs.declared.operations.Look.TheVariants as looks
 use Rattle.sl_ast.specs.declared.operations.Operation.TheVariants as operations
 use Rattle.sl_ast.specs.declared.operations.ValueOperation.{ValueOperation}
 use Rattle.sl_ast.specs.declared.operations.ValueOperation.TheVariants as ops
-use Rattle.sl_ast.specs.declared.typed.Value.TheVariants.{Number, Triple}
+use Rattle.sl_ast.specs.declared.typed.Value.TheVariants.{Number, Triple, Word}
 use Rattle.sl_ast.specs.declared.typed.Variable.TheVariants.{Predefined, Level}
 use Rattle.sl_ast.specs.Examples.{at, one, local_at}
 use Rattle.sl_ast.specs.Typed as T
@@ -79,6 +80,14 @@ incident = T.variable (Predefined names.I) nodes.Vector (at 2)
 faced : expr (T.apply operations.FaceForwardNg (T.more normal (T.more incident T.none)) nodes.Vector (at 0)) [] true ≡
     C.apply ops.FaceForward (C.more (C.read (Predefined names.N)) (C.more (C.read (Predefined names.I)) (C.more (C.read (Predefined names.Ng)) C.none)))
 faced = refl
+
+-- texture("a"), the node of number 0
+abbrev by_name : T.Exprs
+by_name = T.more (T.word (codes "a") (at 1)) T.none
+
+looked : expr (T.apply (operations.Look looks.Here) by_name nodes.Color (at 0)) [] true ≡
+    C.texture 0 (C.more (C.literal (Word (codes "a"))) (C.more (C.read (Predefined names.S)) (C.more (C.read (Predefined names.T)) C.none)))
+looked = refl
 
 -- a call of `float next(uniform float k) { k += 1; return k; }` on `PI`
 abbrev next_of_pi : T.Expr

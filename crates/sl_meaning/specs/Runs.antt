@@ -13,7 +13,7 @@ use Rattle.sl_ast.specs.Names.{name_type, writes}
 use Rattle.sl_ast.specs.Variables.{Row, Start, given, zero, copied, variables, row_named}
 use Rattle.builtins.specs.Values.{as_kind, triple_of}
 use Rattle.builtins.specs.Lights as answers
-use Rattle.sl_meaning.specs.Core.{Expr, literal, read, apply, differ, sum, call, Exprs, none, more, Arguments, no_arguments, argument, Stmt, declare, assign, block, test, repeat, lights, leave, again, Stmts, done, first}
+use Rattle.sl_meaning.specs.Core.{Expr, literal, read, apply, differ, sum, texture, call, Exprs, none, more, Arguments, no_arguments, argument, Stmt, declare, assign, block, test, repeat, lights, leave, again, Stmts, done, first}
 use Rattle.sl_meaning.specs.Environment.{Env, Around, zero_value}
 use Rattle.sl_meaning.specs.Alone.{run_all}
 use Rattle.sl_meaning.specs.Grid.{inside_all, grid_all}
@@ -65,6 +65,7 @@ abbrev mutual
   lights_in (apply op args) = lights_in_exprs args
   lights_in (differ d e) = lights_in e
   lights_in (sum s args) = lights_in_exprs args
+  lights_in (texture k args) = lights_in_exprs args
   lights_in (call args body kind e) = lights_in_args args || (lights_in_all body || lights_in e)
 
   pub lights_in_exprs : Exprs → Bool

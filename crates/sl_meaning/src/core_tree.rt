@@ -12,6 +12,8 @@ pub enum CoreExpr {
     Apply(ValueOperation, List<CoreExpr>),
     Differ(Difference, Box<CoreExpr>),
     Sum(LightSum, List<CoreExpr>),
+    /// A look-up, with the number of its node in the typed tree: its name, s and t.
+    Texture(u32, List<CoreExpr>),
     /// An inlined call: its arguments, its body, and the type and the value of its `return`.
     Call(List<Argument>, List<CoreStmt>, SlType, Box<CoreExpr>),
 }

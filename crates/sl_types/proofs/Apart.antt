@@ -9,6 +9,7 @@ use Rattle.sl_ast.specs.declared.kinds.SlType.{SlType}
 use Rattle.sl_expressions.specs.Found.{Found}
 use Rattle.sl_expressions.specs.Scope.{Local, one_further, level_of, Around}
 use Rattle.sl_typing.specs.Stmts.{typed_rows}
+use Rattle.sl_typing.specs.Assigned.{assigned_in}
 use Rattle.sl_typing.specs.Functions.{known_from, Param, locals_of, by_default, default_in, typed_param, typed_params, typed_groups, Program, in_body, program}
 use Rattle.sl_types.specs.Distinct.{are_distinct}
 use Rattle.sl_types.specs.Inline.{declared_of, tree_of}
@@ -50,25 +51,25 @@ push_apart ps p h e =
     ap are_distinct (names_push ps p)
     ∙ distinct_push (names_in (locals_of ps)) name h (level_place name (locals_of ps) ∙ none_placed (level_of name (locals_of ps)) e)
 
-param_apart : (g : Around) (uniform : Bool) (type : SlType) (ps : List Param) (d : U.Declared) → Apart ps → Good (typed_param g uniform type ps d) Apart
-param_apart g uniform type ps d h =
+param_apart : (g : Around) (assigned : List (List ℕ)) (uniform : Bool) (type : SlType) (ps : List Param) (d : U.Declared) → Apart ps → Good (typed_param g assigned uniform type ps d) Apart
+param_apart g assigned uniform type ps d h =
     cond_both (is_some (level_of d.name (locals_of ps))) _ _ (λ x. Good x Apart) (λ e. tt)
     (λ e. good_bind (default_in g type d.set_line d.value) _ (λ t. Unit {0}) Apart (good_any (default_in g type d.set_line d.value)) (λ t p. push_apart ps _ h e))
 
-params_apart : (g : Around) (uniform : Bool) (type : SlType) (ps : List Param) (ds : List U.Declared) → Apart ps → Good (typed_params g uniform type ps ds) Apart
-params_apart g uniform type ps [] h = h
-params_apart g uniform type ps (d ∷ ds) h =
-    good_bind (typed_param g uniform type ps d) _ Apart Apart (param_apart g uniform type ps d h) (λ x p. params_apart g uniform type x ds p)
+params_apart : (g : Around) (assigned : List (List ℕ)) (uniform : Bool) (type : SlType) (ps : List Param) (ds : List U.Declared) → Apart ps → Good (typed_params g assigned uniform type ps ds) Apart
+params_apart g assigned uniform type ps [] h = h
+params_apart g assigned uniform type ps (d ∷ ds) h =
+    good_bind (typed_param g assigned uniform type ps d) _ Apart Apart (param_apart g assigned uniform type ps d h) (λ x p. params_apart g assigned uniform type x ds p)
 
-groups_apart : (g : Around) (ps : List Param) (gs : List U.Group) → Apart ps → Good (typed_groups g ps gs) Apart
-groups_apart g ps [] h = h
-groups_apart g ps (x ∷ xs) h =
-    good_bind (typed_params g _ x.kind ps x.names) _ Apart Apart (params_apart g _ x.kind ps x.names h) (λ y p. groups_apart g y xs p)
+groups_apart : (g : Around) (assigned : List (List ℕ)) (ps : List Param) (gs : List U.Group) → Apart ps → Good (typed_groups g assigned ps gs) Apart
+groups_apart g assigned ps [] h = h
+groups_apart g assigned ps (x ∷ xs) h =
+    good_bind (typed_params g assigned _ x.kind ps x.names) _ Apart Apart (params_apart g assigned _ x.kind ps x.names h) (λ y p. groups_apart g assigned y xs p)
 
 program_apart : (s : U.Shader) → Good (program s) (λ p. Apart p.params)
 program_apart s =
     good_bind (known_from s.kind [] s.functions) _ (λ known. Unit {0}) (λ p. Apart p.params) (good_any (known_from s.kind [] s.functions))
-    (λ known u. good_bind (typed_groups (by_default s.kind known) [] s.params) _ Apart (λ p. Apart p.params) (groups_apart (by_default s.kind known) [] s.params refl)
+    (λ known u. good_bind (typed_groups (by_default s.kind known) (assigned_in s.body) [] s.params) _ Apart (λ p. Apart p.params) (groups_apart (by_default s.kind known) (assigned_in s.body) [] s.params refl)
     (λ params h. good_bind (typed_rows (in_body s.kind known) (length params) (locals_of params) s.body) _ (λ rows. Unit {0}) (λ p. Apart p.params)
     (good_any (typed_rows (in_body s.kind known) (length params) (locals_of params) s.body)) (λ rows q. h)))
 

@@ -1,10 +1,10 @@
 -- The typed tree of an expression is well typed once functions stand in place of their calls.
-use Rattle.std.proofs.Common.{◌≡◌, ◌<◌, ℕ, zero, suc, ◌+◌, Bool, true, ◌&&◌, ◌||◌, not, cond, List, [], ◌∷◌, map, get_or, length, Option, Some, None, Ok, Err, codes, refl, ap, ap₂, ◌∙◌, subst, arith}
-use Rattle.std.proofs.lemmas.Bool.{cond_both}
+use Rattle.std.proofs.Common.{◌≡◌, ◌<◌, ℕ, zero, suc, ◌+◌, Bool, true, false, ◌&&◌, ◌||◌, not, cond, List, [], ◌∷◌, map, get_or, length, Option, Some, None, Ok, Err, codes, refl, ap, ap₂, ◌∙◌, subst, arith}
+use Rattle.std.proofs.lemmas.Bool.{cond_both, and_parts}
 use Rattle.std.specs.Str.{bytes_eq}
 use Rattle.sl_ast.specs.Syntax as U
 use Rattle.sl_ast.specs.WellTyped as W
-use Rattle.sl_ast.specs.Names.{name_type, has_space, is_light, space_named, stands_before}
+use Rattle.sl_ast.specs.Names.{name_type, has_surface, has_space, is_light, space_named, stands_before}
 use Rattle.sl_ast.specs.Rules.{node_type, rule}
 use Rattle.sl_ast.specs.declared.kinds.SlKind.{SlKind}
 use Rattle.sl_ast.specs.declared.kinds.SlType.{SlType}
@@ -14,6 +14,7 @@ use Rattle.sl_ast.specs.declared.kinds.NodeType.TheVariants as nodes
 use Rattle.sl_ast.specs.declared.operations.Operation.{Operation}
 use Rattle.sl_ast.specs.declared.operations.Operation.TheVariants as operations
 use Rattle.sl_ast.specs.declared.operations.ValueOperation.TheVariants as ops
+use Rattle.sl_ast.specs.declared.operations.Look.TheVariants as looks
 use Rattle.sl_ast.specs.declared.kinds.Operator.{Operator}
 use Rattle.sl_ast.specs.declared.kinds.Operator.TheVariants as operators
 use Rattle.sl_ast.specs.declared.kinds.Prefix.{Prefix}
@@ -31,7 +32,7 @@ use Rattle.sl_expressions.specs.Predefined.{predefined_names, is_read, is_own}
 use Rattle.sl_expressions.specs.Rules.{operation_of, prefix_operation}
 use Rattle.sl_expressions.specs.Typed as T
 use Rattle.sl_expressions.specs.Scope.{Local, Callee, callee_named, body_in}
-use Rattle.sl_expressions.specs.Exprs.{named, predefined_at, operands_of, ruled, applied, misfits, space_at, space_of, refuses_space, converted, tripled, literal_of}
+use Rattle.sl_expressions.specs.Exprs.{named, predefined_at, operands_of, ruled, applied, misfits, space_at, space_of, refuses_space, is_look_up, takes_first, conversion, converted, tripled, literal_of}
 use Rattle.sl_typing.specs.Functions.{spot_within}
 use Rattle.sl_types.specs.Inline.{Built, nothing, count, inline, inline_args, tree_formal}
 use Rattle.sl_expressions.proofs.Named.{StandsAt, stands_at}
@@ -197,13 +198,40 @@ space_fits g types.Point (Some s) = space_found s.line (space_named g.kind g.def
 space_fits g types.Vector (Some s) = space_found s.line (space_named g.kind g.default s.name) (SpaceFits g types.Vector) (space_has g.kind g.default s.name)
 space_fits g types.Normal (Some s) = space_found s.line (space_named g.kind g.default s.name) (SpaceFits g types.Normal) (space_has g.kind g.default s.name)
 
-pub converted_fine : (g : W.Around) (ks : List SlType) (fs : List Built) (kind : SlType) (space : Option Space) (line : ℕ) (part : Found T.Expr) → Good part (Fine g ks fs)
-    → Good (converted g kind space line part) (Fine g ks fs)
-converted_fine g ks fs kind space line (Err e) h = good_bind (space_of g kind space) _ (λ s. Unit {0}) (Fine g ks fs) (good_any (space_of g kind space)) (λ s u. tt)
-converted_fine g ks fs kind space line (Ok t) h =
-    cond_both (refuses_space kind space || misfits (operations.Value (ops.Convert kind Current)) (t ∷ [])) _ _ (λ r. Good r (Fine g ks fs)) (λ e. tt)
+-- where a look-up may stand, so may the first part of its colour
+first_stands : (g : W.Around) (ks : List SlType) (fs : List Built) (t : T.Expr) → is_look_up t ≡ true → Fine g ks fs t → (has_surface g.kind && not g.default) ≡ true
+first_stands g ks fs (T.apply (operations.Look look) args kind line) e h = (and_parts _ _ (and_parts _ _ (h 0)).1).0
+first_stands g ks fs (T.apply (operations.Value op) args kind line) e h = absurd (cc e)
+first_stands g ks fs (T.apply operations.FaceForwardNg args kind line) e h = absurd (cc e)
+first_stands g ks fs (T.apply (operations.Difference which) args kind line) e h = absurd (cc e)
+first_stands g ks fs (T.apply (operations.Sum which) args kind line) e h = absurd (cc e)
+first_stands g ks fs (T.number x line) e h = absurd (cc e)
+first_stands g ks fs (T.word x line) e h = absurd (cc e)
+first_stands g ks fs (T.variable x kind line) e h = absurd (cc e)
+first_stands g ks fs (T.call k args kind line) e h = absurd (cc e)
+
+takes_look_up : (kind : SlType) (call : Bool) (t : T.Expr) → takes_first kind call t ≡ true → is_look_up t ≡ true
+takes_look_up types.Float call t h = (and_parts call (is_look_up t) h).1
+takes_look_up types.Color call t h = absurd (cc h)
+takes_look_up types.Point call t h = absurd (cc h)
+takes_look_up types.Vector call t h = absurd (cc h)
+takes_look_up types.Normal call t h = absurd (cc h)
+takes_look_up types.Str call t h = absurd (cc h)
+
+converts : (g : W.Around) (ks : List SlType) (fs : List Built) (kind : SlType) (s : SpaceName) (call : Bool) (line : ℕ) (t : T.Expr) → SpaceFits g kind s → Fine g ks fs t
+    → Good (applied (conversion kind s call t) line (t ∷ [])) (Fine g ks fs)
+converts g ks fs kind s call line t p h =
+    cond_both (takes_first kind call t) (operations.Look looks.First) (operations.Value (ops.Convert kind s)) (λ o. Good (applied o line (t ∷ [])) (Fine g ks fs))
+    (λ e. applied_fine g ks fs (operations.Look looks.First) line (t ∷ []) (λ k is n. first_stands g ks fs t (takes_look_up kind call t e) h) (h, tt))
+    (λ e. applied_fine g ks fs (operations.Value (ops.Convert kind s)) line (t ∷ []) (λ k is n. p) (h, tt))
+
+pub converted_fine : (g : W.Around) (ks : List SlType) (fs : List Built) (kind : SlType) (space : Option Space) (call : Bool) (line : ℕ) (part : Found T.Expr) → Good part (Fine g ks fs)
+    → Good (converted g kind space call line part) (Fine g ks fs)
+converted_fine g ks fs kind space call line (Err e) h = good_bind (space_of g kind space) _ (λ s. Unit {0}) (Fine g ks fs) (good_any (space_of g kind space)) (λ s u. tt)
+converted_fine g ks fs kind space call line (Ok t) h =
+    cond_both (refuses_space kind space || misfits (conversion kind Current call t) (t ∷ [])) _ _ (λ r. Good r (Fine g ks fs)) (λ e. tt)
     (λ e. good_bind (space_of g kind space) _ (SpaceFits g kind) (Fine g ks fs) (space_fits g kind space)
-    (λ s p. applied_fine g ks fs (operations.Value (ops.Convert kind s)) line (t ∷ []) (λ k is n. p) (h, tt)))
+    (λ s p. converts g ks fs kind s call line t p h))
 
 pub tripled_fine : (g : W.Around) (ks : List SlType) (fs : List Built) (kind : SlType) (space : Option Space) (line : ℕ) (parts : Found (List T.Expr)) → Good parts (AllFine g ks fs)
     → Good (tripled g kind space line parts) (Fine g ks fs)

@@ -15,6 +15,7 @@ use Rattle.sl_expressions.specs.Typed.{kind_of}
 use Rattle.sl_expressions.specs.Scope.{Local, level_of, Callee, callee_named, Around, body_in}
 use Rattle.sl_expressions.specs.Exprs.{typed_expr}
 use Rattle.sl_typing.specs.Stmts.{value_in, typed_rows}
+use Rattle.sl_typing.specs.Assigned.{assigned_in}
 use Rattle.sl_typing.specs.Functions.{gives_any, given_last, but_last, returned, ended, typed_body, formals_of, scope_from, body_of, spot_within, within, callee_in, known_from, Param, locals_of, by_default, default_in, typed_param, typed_params, typed_groups, Program, in_body, program}
 use Rattle.sl_types.specs.Inline.{Built, count, count_params, inline, inline_stmts, tree_formal, built_in, built_from, declared_of, defaults_at, tree_of}
 use Rattle.sl_types.proofs.WellScope.{Good, good_bind, good_as, good_any, types_of}
@@ -186,26 +187,26 @@ default_fine kind known fs r type set_line None = tt
 default_fine kind known fs r type set_line (Some e) =
     value_fine (W.in_default kind) [] fs type set_line (typed_expr (by_default kind known) false [] e) (expr_fine (by_default kind known) fs r false [] e)
 
-param_fine : (kind : SlKind) (known : List Callee) (fs : List Built) → Ready kind true known fs → (uniform : Bool) (type : SlType) (ps : List Param) (d : U.Declared) → ParamsFine kind fs ps
-    → Good (typed_param (by_default kind known) uniform type ps d) (ParamsFine kind fs)
-param_fine kind known fs r uniform type ps d h =
+param_fine : (kind : SlKind) (known : List Callee) (fs : List Built) → Ready kind true known fs → (assigned : List (List ℕ)) (uniform : Bool) (type : SlType) (ps : List Param) (d : U.Declared) → ParamsFine kind fs ps
+    → Good (typed_param (by_default kind known) assigned uniform type ps d) (ParamsFine kind fs)
+param_fine kind known fs r assigned uniform type ps d h =
     cond_both (is_some (level_of d.name (locals_of ps))) _ _ (λ x. Good x (ParamsFine kind fs)) (λ e. tt)
     (λ e. good_bind (default_in (by_default kind known) type d.set_line d.value) _ (λ t. (takes type (kind_of t) ≡ true) × Fine (W.in_default kind) [] fs t) (ParamsFine kind fs)
     (default_fine kind known fs r type d.set_line d.value) (λ t p. params_push kind fs ps _ h p))
 
-params_fine : (kind : SlKind) (known : List Callee) (fs : List Built) → Ready kind true known fs → (uniform : Bool) (type : SlType) (ps : List Param) (ds : List U.Declared) → ParamsFine kind fs ps
-    → Good (typed_params (by_default kind known) uniform type ps ds) (ParamsFine kind fs)
-params_fine kind known fs r uniform type ps [] h = h
-params_fine kind known fs r uniform type ps (d ∷ ds) h =
-    good_bind (typed_param (by_default kind known) uniform type ps d) _ (ParamsFine kind fs) (ParamsFine kind fs) (param_fine kind known fs r uniform type ps d h)
-    (λ x p. params_fine kind known fs r uniform type x ds p)
+params_fine : (kind : SlKind) (known : List Callee) (fs : List Built) → Ready kind true known fs → (assigned : List (List ℕ)) (uniform : Bool) (type : SlType) (ps : List Param) (ds : List U.Declared) → ParamsFine kind fs ps
+    → Good (typed_params (by_default kind known) assigned uniform type ps ds) (ParamsFine kind fs)
+params_fine kind known fs r assigned uniform type ps [] h = h
+params_fine kind known fs r assigned uniform type ps (d ∷ ds) h =
+    good_bind (typed_param (by_default kind known) assigned uniform type ps d) _ (ParamsFine kind fs) (ParamsFine kind fs) (param_fine kind known fs r assigned uniform type ps d h)
+    (λ x p. params_fine kind known fs r assigned uniform type x ds p)
 
-groups_fine : (kind : SlKind) (known : List Callee) (fs : List Built) → Ready kind true known fs → (ps : List Param) (gs : List U.Group) → ParamsFine kind fs ps
-    → Good (typed_groups (by_default kind known) ps gs) (ParamsFine kind fs)
-groups_fine kind known fs r ps [] h = h
-groups_fine kind known fs r ps (x ∷ xs) h =
-    good_bind (typed_params (by_default kind known) _ x.kind ps x.names) _ (ParamsFine kind fs) (ParamsFine kind fs) (params_fine kind known fs r _ x.kind ps x.names h)
-    (λ y p. groups_fine kind known fs r y xs p)
+groups_fine : (kind : SlKind) (known : List Callee) (fs : List Built) → Ready kind true known fs → (assigned : List (List ℕ)) (ps : List Param) (gs : List U.Group) → ParamsFine kind fs ps
+    → Good (typed_groups (by_default kind known) assigned ps gs) (ParamsFine kind fs)
+groups_fine kind known fs r assigned ps [] h = h
+groups_fine kind known fs r assigned ps (x ∷ xs) h =
+    good_bind (typed_params (by_default kind known) assigned _ x.kind ps x.names) _ (ParamsFine kind fs) (ParamsFine kind fs) (params_fine kind known fs r assigned _ x.kind ps x.names h)
+    (λ y p. groups_fine kind known fs r assigned y xs p)
 
 defaults_fine : (kind : SlKind) (fs : List Built) (ps : List Param) → ParamsFine kind fs ps → (n : ℕ) → W.typed_defaults kind (map declared_of ps) (defaults_at fs n ps) ≡ true
 defaults_fine kind fs [] h n = refl
@@ -220,8 +221,8 @@ local_types_are (p ∷ ps) = ap (λ ks. p.local.kind ∷ ks) (local_types_are ps
 pub program_fine : (s : U.Shader) → Good (program s) (λ p. W.well_typed (tree_of s p) ≡ true)
 program_fine s =
     good_bind (known_from s.kind [] s.functions) _ (BothReady s.kind) (λ p. W.well_typed (tree_of s p) ≡ true) (known_ready s.kind [] s.functions (tt, tt))
-    (λ known r. good_bind (typed_groups (by_default s.kind known) [] s.params) _ (ParamsFine s.kind (built_from true [] known)) (λ p. W.well_typed (tree_of s p) ≡ true)
-    (groups_fine s.kind known (built_from true [] known) r.0 [] s.params tt)
+    (λ known r. good_bind (typed_groups (by_default s.kind known) (assigned_in s.body) [] s.params) _ (ParamsFine s.kind (built_from true [] known)) (λ p. W.well_typed (tree_of s p) ≡ true)
+    (groups_fine s.kind known (built_from true [] known) r.0 (assigned_in s.body) [] s.params tt)
     (λ params h. good_bind (typed_rows (in_body s.kind known) (length params) (locals_of params) s.body) _ (GoodRows (W.in_shader s.kind) (built_from false [] known) (types_of (locals_of params)))
     (λ p. W.well_typed (tree_of s p) ≡ true)
     (rows_fine (in_body s.kind known) (built_from false [] known) r.1 (length params) (locals_of params) s.body)

@@ -16,7 +16,7 @@ use Rattle.sl_types.specs.Placing.{weighing}
 use Rattle.sl_types.specs.Inline.{Built, at, tree_formal, built_from, inline, inline_stmt}
 
 abbrev formal : Local
-formal = record { uniform = false; kind = types.Float; name = []; line = 1 }
+formal = record { uniform = false; kind = types.Float; name = []; fixed = false; line = 1 }
 
 abbrev same : T.Body
 same = record { stmts = T.done; returned = 2; value = T.variable (Level 0) Float 2 }

@@ -50,9 +50,9 @@ formals_step before xs i x low is =
     ∙ sym (append_assoc before (formals_named (is_uniform x.class) x.kind (map declared_of x.names)) rest)
 
 -- one parameter of those that are left, and those behind it
-pub params_step : (g : Around) (uniform : Bool) (kind : SlType) (ps : List Param) (xs : List Declared) (i : ℕ) (x : Declared) → i < length xs → x ≡ get_or xs i x
-    → typed_params g uniform kind ps (map declared_of (drop i xs))
-    ≡ typed_param g uniform kind ps (declared_of x) >>= λ r. typed_params g uniform kind r (map declared_of (drop (i + 1) xs))
-params_step g uniform kind ps xs i x low is =
-    at_drop_more (λ ys. typed_params g uniform kind ps (map declared_of ys)) xs i x low
-    ∙ ap (λ y. typed_params g uniform kind ps (declared_of y ∷ map declared_of (drop (i + 1) xs))) (sym is)
+pub params_step : (g : Around) (assigned : List (List ℕ)) (uniform : Bool) (kind : SlType) (ps : List Param) (xs : List Declared) (i : ℕ) (x : Declared) → i < length xs → x ≡ get_or xs i x
+    → typed_params g assigned uniform kind ps (map declared_of (drop i xs))
+    ≡ typed_param g assigned uniform kind ps (declared_of x) >>= λ r. typed_params g assigned uniform kind r (map declared_of (drop (i + 1) xs))
+params_step g assigned uniform kind ps xs i x low is =
+    at_drop_more (λ ys. typed_params g assigned uniform kind ps (map declared_of ys)) xs i x low
+    ∙ ap (λ y. typed_params g assigned uniform kind ps (declared_of y ∷ map declared_of (drop (i + 1) xs))) (sym is)

@@ -6,3 +6,5 @@ pub mod Ends
 pub mod Learned
 pub mod StmtRows
 pub mod LightArgs
+pub mod SetNames
+pub mod Programs

@@ -1,6 +1,6 @@
 -- The typed functions and parameters of a file, or the first fault: each function over those before it, its own faults told where it is first
 -- called (Shading Language, RenderMan Interface 3.2, sections 11 and 16).
-use Rattle.std.specs.Prelude.{ℕ, Bool, true, false, not, ◌||◌, List, [], ◌∷◌, ◌++◌, map, length, is_some, Option, Some, None, Ok, Err, if◌then◌else◌}
+use Rattle.std.specs.Prelude.{ℕ, Bool, true, false, not, ◌||◌, List, [], ◌∷◌, ◌++◌, map, length, is_some, is_none, Option, Some, None, Ok, Err, if◌then◌else◌}
 use Rattle.sl_ast.specs.Syntax as U
 use Rattle.sl_ast.specs.WellTyped as W
 use Rattle.sl_ast.specs.declared.kinds.SlKind.{SlKind}
@@ -10,6 +10,8 @@ use Rattle.sl_expressions.specs.Found.{Found, ◌>>=◌}
 use Rattle.sl_expressions.specs.Typed as T
 use Rattle.sl_expressions.specs.Scope.{Local, level_of, Callee, callee_named, Around}
 use Rattle.sl_expressions.specs.Exprs.{typed_expr}
+use Rattle.fixed_math.specs.Names.{last_place}
+use Rattle.sl_typing.specs.Assigned.{assigned_in}
 use Rattle.sl_typing.specs.Stmts.{is_uniform, is_varying, value_in, typed_rows}
 
 -- whether a `return` stands anywhere
@@ -62,7 +64,7 @@ typed_body g from kind line ls ss = ended g from kind line ls ss (given_last ss)
 -- formals are varying where nothing else is said
 abbrev pub formals_named : Bool → SlType → List U.Declared → List Local
 formals_named uniform kind [] = []
-formals_named uniform kind (d ∷ ds) = record { uniform = uniform; kind = kind; name = d.name; line = d.line } ∷ formals_named uniform kind ds
+formals_named uniform kind (d ∷ ds) = record { uniform = uniform; kind = kind; name = d.name; fixed = false; line = d.line } ∷ formals_named uniform kind ds
 
 abbrev pub formals_of : List U.Group → List Local
 formals_of [] = []
@@ -122,18 +124,19 @@ abbrev pub default_in : Around → SlType → ℕ → Option U.Expr → Found T.
 default_in g kind set_line None = Err (T2, set_line)
 default_in g kind set_line (Some e) = value_in kind set_line (typed_expr g false [] e)
 
-abbrev pub typed_param : Around → Bool → SlType → List Param → U.Declared → Found (List Param)
-typed_param g uniform kind ps d =
+-- a parameter behind others, in a shader whose body assigns the parameters of these names
+abbrev pub typed_param : Around → List (List ℕ) → Bool → SlType → List Param → U.Declared → Found (List Param)
+typed_param g assigned uniform kind ps d =
     if is_some (level_of d.name (locals_of ps)) then Err (T10, d.line) else
-    (default_in g kind d.set_line d.value >>= λ t. Ok (ps ++ record { local = record { uniform = uniform; kind = kind; name = d.name; line = d.line }; value = t } ∷ []))
+    (default_in g kind d.set_line d.value >>= λ t. Ok (ps ++ record { local = record { uniform = uniform; kind = kind; name = d.name; fixed = is_none (last_place d.name assigned); line = d.line }; value = t } ∷ []))
 
-abbrev pub typed_params : Around → Bool → SlType → List Param → List U.Declared → Found (List Param)
-typed_params g uniform kind ps [] = Ok ps
-typed_params g uniform kind ps (d ∷ ds) = typed_param g uniform kind ps d >>= λ r. typed_params g uniform kind r ds
+abbrev pub typed_params : Around → List (List ℕ) → Bool → SlType → List Param → List U.Declared → Found (List Param)
+typed_params g assigned uniform kind ps [] = Ok ps
+typed_params g assigned uniform kind ps (d ∷ ds) = typed_param g assigned uniform kind ps d >>= λ r. typed_params g assigned uniform kind r ds
 
-abbrev pub typed_groups : Around → List Param → List U.Group → Found (List Param)
-typed_groups g ps [] = Ok ps
-typed_groups g ps (x ∷ xs) = typed_params g (not (is_varying x.class)) x.kind ps x.names >>= λ r. typed_groups g r xs
+abbrev pub typed_groups : Around → List (List ℕ) → List Param → List U.Group → Found (List Param)
+typed_groups g assigned ps [] = Ok ps
+typed_groups g assigned ps (x ∷ xs) = typed_params g assigned (not (is_varying x.class)) x.kind ps x.names >>= λ r. typed_groups g assigned r xs
 
 -- a file: its functions, each with what it does or the first fault in it, and the parameters and the body of its shader
 pub record Program : Type 0 where
@@ -147,11 +150,11 @@ in_body kind known = record { at = W.in_shader kind; own = None; known = known }
 -- the parameters and the body of a shader, over its functions
 abbrev pub params_and_body : U.Shader → List Callee → Found (List Param × List T.Stmt)
 params_and_body s known =
-    typed_groups (by_default s.kind known) [] s.params >>= λ params.
+    typed_groups (by_default s.kind known) (assigned_in s.body) [] s.params >>= λ params.
     typed_rows (in_body s.kind known) (length params) (locals_of params) s.body >>= λ rows. Ok (params, rows.0)
 
 abbrev pub program : U.Shader → Found Program
 program s =
-    known_from s.kind [] s.functions >>= λ known. typed_groups (by_default s.kind known) [] s.params >>= λ params.
+    known_from s.kind [] s.functions >>= λ known. typed_groups (by_default s.kind known) (assigned_in s.body) [] s.params >>= λ params.
     typed_rows (in_body s.kind known) (length params) (locals_of params) s.body >>= λ rows.
     Ok (record { known = known; params = params; body = rows.0 })

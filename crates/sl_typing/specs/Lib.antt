@@ -1,3 +1,4 @@
+pub mod Assigned
 pub mod Stmts
 pub mod Functions
 pub mod Measures

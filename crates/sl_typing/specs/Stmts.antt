@@ -64,7 +64,7 @@ declared g uniform kind ls line set_line (Some e) = value_in kind set_line (type
 abbrev pub typed_name : Around → ℕ → Bool → SlType → List Local → U.Declared → Rows
 typed_name g from uniform kind ls d =
     if is_since from (level_of d.name ls) then Err (T10, d.line) else
-    (declared g uniform kind ls d.line d.set_line d.value >>= λ s. Ok (s ∷ [], ls ++ record { uniform = uniform; kind = kind; name = d.name; line = d.line } ∷ []))
+    (declared g uniform kind ls d.line d.set_line d.value >>= λ s. Ok (s ∷ [], ls ++ record { uniform = uniform; kind = kind; name = d.name; fixed = false; line = d.line } ∷ []))
 
 abbrev pub typed_names : Around → ℕ → Bool → SlType → List Local → List U.Declared → Rows
 typed_names g from uniform kind ls [] = Ok ([], ls)

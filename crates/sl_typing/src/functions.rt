@@ -110,6 +110,7 @@ fn formals_named<'a>(
             uniform,
             kind,
             name: &d.name,
+            fixed: false,
             line: d.line,
         })?;
     }

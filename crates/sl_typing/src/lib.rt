@@ -2,6 +2,7 @@
 //! number of its function.
 #![tactic(auto)]
 
+mod assigned;
 mod compound;
 mod file;
 mod functions;

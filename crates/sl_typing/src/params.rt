@@ -7,10 +7,12 @@ ghost use Rattle.sl_expressions.specs.Views.{Gives, around_of, local_of, callee_
 ghost use Rattle.sl_typing.specs.Functions as spec;
 ghost use Rattle.sl_typing.specs.Views.{GivesParams, param_of, program_of};
 
+use crate::assigned::assigned_in;
 use crate::file::{Param, Program};
 use crate::functions::learn_all;
 use crate::sets::{is_varying, value_in};
 use crate::stmts::rows;
+use fixed_math::Names;
 use sl_ast::{Declared, Expr, Group, Shader, SlKind, SlType};
 use sl_expressions::{
     Around, Functions, Local, Scope, Spot, TypeCode, TypeFault, TypedExpr, TypedStmt, expr, fault,
@@ -41,10 +43,11 @@ fn param<'a>(
     kind: SlType,
     params: &mut Vec<Param<'a>>,
     scope: &mut Scope<'a>,
+    assigned: &Names<'_>,
     d: &'a Declared,
 ) -> Result<(), TypeFault>
     requires { map local_of scope.old ≡ spec.locals_of (map param_of params.old.items) }
-    ensures { GivesParams result params.new.items scope.new (spec.typed_param (around_of g.now) uniform kind (map param_of params.old.items) (declared_of d.now)) }
+    ensures { GivesParams result params.new.items scope.new (spec.typed_param (around_of g.now) assigned.now uniform kind (map param_of params.old.items) (declared_of d.now)) }
 {
     if scope.level(&d.name).is_some() {
         return fault(TypeCode::T10, d.line);
@@ -53,6 +56,7 @@ fn param<'a>(
         uniform,
         kind,
         name: &d.name,
+        fixed: assigned.place_of(&d.name).is_none(),
         line: d.line,
     };
     scope.push(local)?;
@@ -68,13 +72,14 @@ fn group<'a>(
     kind: SlType,
     params: &mut Vec<Param<'a>>,
     scope: &mut Scope<'a>,
+    assigned: &Names<'_>,
     ds: &'a [Declared],
 ) -> Result<(), TypeFault>
     requires { map local_of scope.old ≡ spec.locals_of (map param_of params.old.items) }
-    ensures { GivesParams result params.new.items scope.new (spec.typed_params (around_of g.now) uniform kind (map param_of params.old.items) (map declared_of ds.now)) }
+    ensures { GivesParams result params.new.items scope.new (spec.typed_params (around_of g.now) assigned.now uniform kind (map param_of params.old.items) (map declared_of ds.now)) }
 {
     for d in ds {
-        param(alloc, g, uniform, kind, params, scope, d)?;
+        param(alloc, g, uniform, kind, params, scope, assigned, d)?;
     }
     Ok(())
 }
@@ -85,10 +90,11 @@ fn groups<'a>(
     g: &Around<'_, 'a>,
     params: &mut Vec<Param<'a>>,
     scope: &mut Scope<'a>,
+    assigned: &Names<'_>,
     groups: &'a [Group],
 ) -> Result<(), TypeFault>
     requires { map local_of scope.old ≡ spec.locals_of (map param_of params.old.items) }
-    ensures { GivesParams result params.new.items scope.new (spec.typed_groups (around_of g.now) (map param_of params.old.items) (map group_of groups.now)) }
+    ensures { GivesParams result params.new.items scope.new (spec.typed_groups (around_of g.now) assigned.now (map param_of params.old.items) (map group_of groups.now)) }
 {
     for one in groups {
         let uniform = !is_varying(one.class);
@@ -99,6 +105,7 @@ fn groups<'a>(
             one.kind,
             params,
             scope,
+            assigned,
             one.names.as_slice(),
         )?;
     }
@@ -151,7 +158,15 @@ fn params_and_body<'a>(
 {
     let mut scope = Scope::new(alloc);
     let around = by_default(shader.kind, known);
-    match groups(alloc, &around, params, &mut scope, shader.params.as_slice()) {
+    let assigned = assigned_in(alloc, shader.body.as_slice())?;
+    match groups(
+        alloc,
+        &around,
+        params,
+        &mut scope,
+        &assigned,
+        shader.params.as_slice(),
+    ) {
         Err(fault) => Err(fault),
         Ok(()) => {
             let inside = in_body(shader.kind, known);

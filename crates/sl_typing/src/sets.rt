@@ -117,6 +117,7 @@ fn name<'a>(
         uniform,
         kind,
         name: &d.name,
+        fixed: false,
         line: d.line,
     })?;
     Ok(())

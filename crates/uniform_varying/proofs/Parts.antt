@@ -17,7 +17,7 @@ use Rattle.sl_ast.specs.declared.typed.TreeFormal.{TreeFormal}
 use Rattle.sl_ast.specs.declared.typed.Variable.{Variable}
 use Rattle.sl_ast.specs.Typed.{Expr, apply, call, Exprs, more, Stmt, declare, start, assign, test, test_else, repeat, steps, lights, Stmts, first, Tree}
 use Rattle.sl_ast.specs.Classes.{class_of, formal_classes, local_classes, after as scope_after, after_all, is_uniform, is_uniform_loop, leaves_together}
-use Rattle.sl_ast.specs.Settled.{Spot, Settles, ◌then◌, unless, is_varying_string, is_difference, is_component, index_varies, varies_into, goes_wrong, settled_formals, in_control, in_loop, in_lights, settled_word, settled_operation, settled_declare, settled_set, settled_expr, settled_args, settled_stmt, settled_stmts, outermost, settled_defaults, fault_of, settles, IsSettled}
+use Rattle.sl_ast.specs.Settled.{Spot, Settles, ◌then◌, unless, is_varying_string, asks_neighbours, is_component, index_varies, varies_into, goes_wrong, settled_formals, in_control, in_loop, in_lights, settled_word, settled_operation, settled_declare, settled_set, settled_expr, settled_args, settled_stmt, settled_stmts, outermost, settled_defaults, fault_of, settles, IsSettled}
 
 -- both of two that are looked at one after another
 pub then_parts : (r : Settles) (next : Bool → Settles) (after : Bool) → r then next ≡ Ok after → (mid : Bool) × ((r ≡ Ok mid) × (next mid ≡ Ok after))
@@ -50,15 +50,15 @@ own_loop e s us u h = ap (λ b. b && (is_uniform e us && leaves_together s us tr
 -- a varying operand is no index of `comp`, and neighbours are asked in uniform control alone
 pub record ApplyParts (operation : Operation) (args : Exprs) (us : List Bool) (c : Spot) (lit after : Bool) : Type 0 where
   pub index_uniform : (is_component operation && index_varies args us) ≡ false
-  pub control_uniform : (is_difference operation && not c.uniform) ≡ false
+  pub control_uniform : (asks_neighbours operation && not c.uniform) ≡ false
   pub args_settled : settled_args args us c lit ≡ Ok after
 
 pub apply_parts : (operation : Operation) (args : Exprs) (kind : NodeType) (p : Place) (us : List Bool) (c : Spot) (lit after : Bool)
     → settled_expr (apply operation args kind p) us c lit ≡ Ok after → ApplyParts operation args us c lit after
 apply_parts operation args kind p us c lit after h =
     let t = then_parts (settled_operation operation args p.line us c lit) (settled_args args us c) after h in
-    let index = unless_parts (is_component operation && index_varies args us) T3 p.line (unless (is_difference operation && not c.uniform) T5 p.line (Ok lit)) t.0 t.1.0 in
-    let control = unless_parts (is_difference operation && not c.uniform) T5 p.line (Ok lit) t.0 index.1 in
+    let index = unless_parts (is_component operation && index_varies args us) T3 p.line (unless (asks_neighbours operation && not c.uniform) T5 p.line (Ok lit)) t.0 t.1.0 in
+    let control = unless_parts (asks_neighbours operation && not c.uniform) T5 p.line (Ok lit) t.0 index.1 in
     let same : lit ≡ t.0 = same_ok lit t.0 (Ok lit) refl control.1 in
     record { index_uniform = index.0; control_uniform = control.0; args_settled = subst (λ b. settled_args args us c b ≡ Ok after) (sym same) t.1.1 }
 

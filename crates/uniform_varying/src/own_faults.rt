@@ -9,7 +9,9 @@ ghost use Rattle.uniform_varying.specs.Gives.{Gives, spot_of};
 use crate::fault::{Stop, refuse};
 use crate::spot::Spot;
 use crate::uniform::is_uniform;
-use sl_ast::{ControlCode, LightStmt, Operation, SlType, TreeExpr, TreeFormal, ValueOperation};
+use sl_ast::{
+    ControlCode, LightStmt, Look, Operation, SlType, TreeExpr, TreeFormal, ValueOperation,
+};
 use std::alloc::{AllocError, Global};
 
 // Whether a varying string is declared.
@@ -19,10 +21,14 @@ pub fn is_varying_string(uniform: bool, kind: SlType) -> bool
     !uniform && matches!(kind, SlType::Str)
 }
 
-pub fn is_difference(operation: Operation) -> bool
-    ensures { result ≡ spec.is_difference operation }
+// Whether an operation's value at a point depends on its neighbours.
+pub fn asks_neighbours(operation: Operation) -> bool
+    ensures { result ≡ spec.asks_neighbours operation }
 {
-    matches!(operation, Operation::Difference(_))
+    matches!(
+        operation,
+        Operation::Difference(_) | Operation::Look(Look::At | Look::Here)
+    )
 }
 
 pub fn is_component(operation: Operation) -> bool
@@ -132,7 +138,7 @@ pub fn settle_operation(
     let varies = is_component(operation) && index_varies(args, alloc, us)?;
     refuse(varies, ControlCode::T3, line)?;
     refuse(
-        is_difference(operation) && !spot.uniform,
+        asks_neighbours(operation) && !spot.uniform,
         ControlCode::T5,
         line,
     )?;

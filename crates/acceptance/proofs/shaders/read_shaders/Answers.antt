@@ -5,7 +5,7 @@ use Rattle.outside.specs.Causes.{Told}
 use Rattle.acceptance.specs.Shaders.{shader_names}
 use Rattle.acceptance.specs.Reading.{ReadsShaders, name_of, named_use}
 use Rattle.acceptance.proofs.Places.{uses_placed}
-use Rattle.acceptance.proofs.SoFar.{SoFar, so_far-start, so_far-next, so_far-refused, so_far-asked, so_far-names, so_far-behind}
+use Rattle.acceptance.proofs.SoFar.{SoFar, so_far-start, so_far-next, so_far-refused, so_far-asked, so_far-names, so_far-behind, so_far-all_asked}
 use Rattle.acceptance.proofs.shaders.read_shaders.Goals as goal
 
 pub loop-shader-init : goal.loop-shader-init
@@ -69,6 +69,12 @@ returns-clause-asked g c =
     so_far-behind c.args.uses.now c.loop-shader.shader-index c.loop-shader.shaders.items (g.L.Library.held c.args.library.now) (g.L.Library.held c.loop-shader.library)
     (g.L.Library.asked c.args.library.now) (g.L.Library.asked c.loop-shader.library) (g.L.Library.faults c.args.library.now) (g.L.Library.faults c.loop-shader.library)
     c.loop-shader.invariant.read
+
+pub returns-clause-asked_all : goal.returns-clause-asked_all
+returns-clause-asked_all g c =
+    so_far-all_asked c.args.uses.now c.loop-shader.shader-index c.loop-shader.shaders.items (g.L.Library.held c.args.library.now) (g.L.Library.held c.loop-shader.library)
+    (g.L.Library.asked c.args.library.now) (g.L.Library.asked c.loop-shader.library) (g.L.Library.faults c.args.library.now) (g.L.Library.faults c.loop-shader.library)
+    c.loop-shader.invariant.read (omega (arith, c.loop-shader-test.false))
 
 pub returns-clause-names : goal.returns-clause-names
 returns-clause-names g c =

@@ -1,12 +1,11 @@
 use Rattle.std.proofs.Common.{◌≡◌, ◌∙◌, ◌+◌, ◌-◌, ◌<◌, ◌≤◌, sym, ap, subst, arith, ℕ, refl, []}
 use Rattle.outside.proofs.Puts.{on_err}
-use Rattle.displace_shade.specs.Shop.{set_value}
-use Rattle.displace_shade.specs.declared.set.ShaderSet.{ShaderSet}
 use Rattle.buckets.specs.declared.limits.Report.{Report}
 use Rattle.buckets.specs.TileWalk.{tile_count, tile_walk}
 use Rattle.buckets.specs.Rows.{PutsTo, TellsSamples}
 use Rattle.buckets.specs.Progress.{Stands, DoneInPart, next_of, report_before}
 use Rattle.buckets.proofs.Bounds.{few_shadings, few_epochs}
+use Rattle.buckets.proofs.Stock.{keeps_stock}
 use Rattle.buckets.proofs.Skipping.{tells_skip}
 use Rattle.buckets.proofs.SharePuts.{puts_begin, puts_end, puts_part}
 use Rattle.buckets.proofs.StepsOn.{stands_epochs, tells_none}
@@ -33,6 +32,7 @@ loop-progress-init g c =
       ended = λ is. absurd (omega (arith, at', is, some));
       samples = subst (λ (k : ℕ). TellsSamples b k c.args.report.now.most_samples) (sym at') (tells_skip b 0 c.args.first c.args.report.now.most_samples q.1.0 (tells_none b 0 c.args.report.now.most_samples refl (ap (λ (r : Report). r.most_samples) q.1.1.1.1.1.0)));
       set = refl;
+      textures = refl;
       open' = q.1.1.1.1.1.1.1;
       put = subst (λ (k : ℕ). PutsTo b k now) (sym at') (puts_begin b c.args.first now q.0.drawable q.1.0 q.1.1.1.1.1.1.0);
       later = omega arith;
@@ -47,7 +47,7 @@ run_epoch-requires g c = λ κs h.
     let few = few_epochs b.drawing q.0.drawable in
     let most = stands_epochs (next_of b c.loop-progress.report) c.loop-progress.progress [] c.loop-progress.shop.count low (i.full low) in
     let first = q.0.epochs in
-    (h, (q.0, (ap (λ (s : ShaderSet). set_value s) i.set ∙ q.1.1.1.0, (omega (arith, few, most.1, first), (i.full low, (i.open', (i.put, i.samples)))))))
+    (h, (q.0, (keeps_stock c.loop-progress.shop c.args.shop.now i.set i.textures ∙ q.1.1.1.0, (omega (arith, few, most.1, first), (i.full low, (i.open', (i.put, i.samples)))))))
 
 pub loop-progress-smaller : goal.loop-progress-smaller
 loop-progress-smaller g c =

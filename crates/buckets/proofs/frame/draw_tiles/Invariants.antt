@@ -11,6 +11,7 @@ invariant-loop-progress g l = record {
   ended : l.progress.drawing.at ≡ tile_count g.begun.drawing → Done g.begun.drawing g.begun.count l.shop.count (report_before g.begun) l.report;
   samples : TellsSamples g.begun l.progress.drawing.at l.report.most_samples;
   set : l.shop.set ≡ l.initial.shop.set;
+  textures : l.shop.cache.textures ≡ l.initial.shop.cache.textures;
   open' : g.O.FrameSink.is_open l.sink ≡ true;
   put : PutsTo g.begun l.progress.drawing.at (g.O.FrameSink.written l.sink);
   later : g.O.FrameSink.faults l.initial.sink ≤ g.O.FrameSink.faults l.sink;

@@ -96,6 +96,7 @@ loop-progress-preserved g c =
       stands = c.in_ok-finish_tile.ensures.stands c.fill.new.epoch.kept c.fill.new.shop.count (goes_done e new.at new.tile c.fill.new.epoch.kept c.fill.new.shop.count goes);
       limit = c.fill.ensures.limit ∙ i.limit;
       set = c.fill.ensures.set ∙ i.set;
+      textures = c.fill.ensures.textures ∙ i.textures;
       epochs = c.finish_tile.ensures.epochs ∙ i.epochs;
       points = c.finish_tile.ensures.points ∙ i.points;
       samples = c.in_ok-finish_tile.ensures.samples;

@@ -8,6 +8,7 @@ invariant-loop-progress g l = record {
   stands : Stands g.at_epoch l.progress l.epoch.kept l.shop.count;
   limit : l.epoch.limit ≡ l.initial.epoch.limit;
   set : l.shop.set ≡ l.initial.shop.set;
+  textures : l.shop.cache.textures ≡ l.initial.shop.cache.textures;
   epochs : l.report.epochs ≡ l.initial.report.epochs;
   points : l.report.most_points ≡ l.initial.report.most_points;
   samples : TellsSamples g.at_epoch.begun l.progress.drawing.at l.report.most_samples;

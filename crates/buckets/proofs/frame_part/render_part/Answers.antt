@@ -2,7 +2,7 @@ use Rattle.std.proofs.Common.{◌≡◌, ◌++◌, subst, [], ◌∷◌, Some, a
 use Rattle.std.specs.Prelude.{slice_get}
 use Rattle.outside.specs.Frames.{Adds, AddsPart, whole}
 use Rattle.outside.proofs.Puts.{on_err}
-use Rattle.displace_shade.specs.Shop.{set_value}
+use Rattle.displace_shade.specs.Shop.{shop_set}
 use Rattle.scene.specs.Scene.{FrameValue}
 use Rattle.buckets.specs.Rows.{all_by}
 use Rattle.buckets.specs.TileWalk.{Drawing}
@@ -17,7 +17,7 @@ returns-in_err-begin-clause-shaded g c = λ f at. record { least = omega arith; 
 pub returns-in_err-put_part-clause-err : goal.returns-in_err-put_part-clause-err
 returns-in_err-put_part-clause-err g c =
     let s = c.shown_in-shown.result in
-    let set = set_value c.args.shop.now.set in
+    let set = shop_set c.args.shop.now in
     let d = share_of s.scene.now set s.frame.now s.limits s.share in
     let to : (f : FrameValue) → slice_get c.args.scene.now.frames c.args.frame ≡ Some f → d ≡ part_of c.args.scene.now set f c.args.limits c.args.part = λ f at.
     let there = s.there in
@@ -36,7 +36,7 @@ returns-in_err-put_part-clause-err g c =
 pub returns-in_err-put_part-clause-shaded : goal.returns-in_err-put_part-clause-shaded
 returns-in_err-put_part-clause-shaded g c =
     let s = c.shown_in-shown.result in
-    let set = set_value c.args.shop.now.set in
+    let set = shop_set c.args.shop.now in
     let d = share_of s.scene.now set s.frame.now s.limits s.share in
     let to : (f : FrameValue) → slice_get c.args.scene.now.frames c.args.frame ≡ Some f → d ≡ part_of c.args.scene.now set f c.args.limits c.args.part = λ f at.
     let there = s.there in
@@ -48,7 +48,7 @@ returns-in_err-put_part-clause-shaded g c =
 pub returns-in_err-end-clause-err : goal.returns-in_err-end-clause-err
 returns-in_err-end-clause-err g c =
     let s = c.shown_in-shown.result in
-    let set = set_value c.args.shop.now.set in
+    let set = shop_set c.args.shop.now in
     let d = share_of s.scene.now set s.frame.now s.limits s.share in
     let to : (f : FrameValue) → slice_get c.args.scene.now.frames c.args.frame ≡ Some f → d ≡ part_of c.args.scene.now set f c.args.limits c.args.part = λ f at.
     let there = s.there in
@@ -68,7 +68,7 @@ returns-in_err-end-clause-err g c =
 pub returns-in_err-end-clause-shaded : goal.returns-in_err-end-clause-shaded
 returns-in_err-end-clause-shaded g c =
     let s = c.shown_in-shown.result in
-    let set = set_value c.args.shop.now.set in
+    let set = shop_set c.args.shop.now in
     let d = share_of s.scene.now set s.frame.now s.limits s.share in
     let to : (f : FrameValue) → slice_get c.args.scene.now.frames c.args.frame ≡ Some f → d ≡ part_of c.args.scene.now set f c.args.limits c.args.part = λ f at.
     let there = s.there in
@@ -80,7 +80,7 @@ returns-in_err-end-clause-shaded g c =
 pub returns-clause-ok : goal.returns-clause-ok
 returns-clause-ok g c =
     let s = c.shown_in-shown.result in
-    let set = set_value c.args.shop.now.set in
+    let set = shop_set c.args.shop.now in
     let d = share_of s.scene.now set s.frame.now s.limits s.share in
     let to : (f : FrameValue) → slice_get c.args.scene.now.frames c.args.frame ≡ Some f → d ≡ part_of c.args.scene.now set f c.args.limits c.args.part = λ f at.
     let there = s.there in
@@ -99,7 +99,7 @@ returns-clause-ok g c =
 pub returns-clause-shaded : goal.returns-clause-shaded
 returns-clause-shaded g c =
     let s = c.shown_in-shown.result in
-    let set = set_value c.args.shop.now.set in
+    let set = shop_set c.args.shop.now in
     let d = share_of s.scene.now set s.frame.now s.limits s.share in
     let to : (f : FrameValue) → slice_get c.args.scene.now.frames c.args.frame ≡ Some f → d ≡ part_of c.args.scene.now set f c.args.limits c.args.part = λ f at.
     let there = s.there in

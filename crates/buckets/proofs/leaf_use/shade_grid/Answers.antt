@@ -2,7 +2,7 @@ use Rattle.std.proofs.Common.{◌≡◌, ◌∙◌, ◌*◌, ap}
 use Rattle.std.specs.Prelude.{slice_get, Some}
 use Rattle.scene.specs.Scene.{FrameValue}
 use Rattle.displace_shade.specs.Shaded.{GridValue}
-use Rattle.displace_shade.specs.Shop.{set_value}
+use Rattle.displace_shade.specs.Shop.{shop_set}
 use Rattle.buckets.proofs.Using.{shaded_points}
 use Rattle.buckets.proofs.leaf_use.shade_grid.Goals as goal
 
@@ -12,4 +12,4 @@ returns-clause-points g c =
     let leaf = c.args.leaf.now in
     let there : slice_get shown.frame.now.prims leaf.piece.prim ≡ Some c.args.prim.now = ap (λ (f : FrameValue). slice_get f.prims leaf.piece.prim) c.requires.0.frame ∙ c.requires.1.1.0 in
     ap (λ (v : GridValue). v.columns * v.rows) (c.in_ok-grid.ensures.grid shown.frame.now c.args.prim.now shown.there there)
-    ∙ shaded_points shown.frame.now c.args.prim.now leaf.piece leaf.p leaf.q (set_value c.args.shop.now.set) shown.scene.now.uses
+    ∙ shaded_points shown.frame.now c.args.prim.now leaf.piece leaf.p leaf.q (shop_set c.args.shop.now) shown.scene.now.uses

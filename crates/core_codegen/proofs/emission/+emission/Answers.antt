@@ -2,20 +2,20 @@ use Rattle.std.proofs.Common.{arith, refl, ◌≡◌, ◌++◌, length, sym, ap,
 use Rattle.std.specs.Prelude.{◌&&◌}
 use Rattle.std.proofs.lemmas.Result.{IfOk-weaker, on_ok_weaker}
 use Rattle.builtins.specs.Values.{shape_of}
-use Rattle.core_codegen.specs.Registers.{applied_at}
+use Rattle.core_codegen.specs.Registers.{applied_at, looked_at}
 use Rattle.grid_code.specs.Code.{◌then◌}
 use Rattle.grid_code.specs.Names.{reg}
 use Rattle.grid_code.specs.View.{block_of}
 use Rattle.sl_meaning.specs.Core.{formals, after_all, stmt_uniform, stmts_uniform}
 use Rattle.sl_meaning.specs.CoreView.{expr_of, exprs_of, args_of, stmt_of, stmts_of, loop_of}
-use Rattle.sl_meaning.proofs.CoreRows.{apply_shown, sum_shown, call_shown, block_shown, test_shown, repeat_shown, lights_shown}
+use Rattle.sl_meaning.proofs.CoreRows.{apply_shown, sum_shown, texture_shown, call_shown, block_shown, test_shown, repeat_shown, lights_shown}
 use Rattle.core_codegen.specs.Compile.{at, all_at, expr_code, exprs_code, args_code, locals, all_locals, behind, stmt_code, all_code}
 use Rattle.grid_code.specs.Shapes.{register_class, are_uniform_registers}
 use Rattle.core_codegen.specs.Sizes.{ScopedExpr, ScopedExprs, ScopedArgs, ScopedStmt, ScopedAll, expr_size, exprs_size, args_size, stmt_size, all_size}
 use Rattle.core_codegen.specs.Room.{expr_room, exprs_room, args_room, stmt_room, all_room, temps, all_temps}
 use Rattle.core_codegen.specs.Slots.{scope_of}
 use Rattle.core_codegen.proofs.Emitting.{operands_step, operands_end, passed_uniform, passing_step, passing_end, running_step, running_end, scope_ends, all_slack, length_formals, length_after_all}
-use Rattle.core_codegen.proofs.Emitted.{apply_at, apply_code, differ_code, sum_code, call_at, call_code, declare_code, assign_code, test_code, repeat_code, lights_code, class_of, classes_of, both_of, assigned_class}
+use Rattle.core_codegen.proofs.Emitted.{apply_at, apply_code, differ_code, sum_code, look_at, look_code, call_at, call_code, declare_code, assign_code, test_code, repeat_code, lights_code, class_of, classes_of, both_of, assigned_class}
 use Rattle.core_codegen.proofs.emission.+emission.Goals as goal
 
 pub expressions-loop-e-preserved : goal.expressions-loop-e-preserved
@@ -68,6 +68,18 @@ expression-expressions-requires-in-Sum t c =
     let z = ap expr_size q in
     let zr = ap expr_room q in
     let d = c.as_slice-in-Sum.ensures in
+    let dr = ap (λ l. exprs_room (exprs_of l)) d in
+    let dz = ap (λ l. exprs_size (exprs_of l)) d in
+    (omega (arith, c.decreases), (subst (λ l. ScopedExprs (exprs_of l) ss) (sym d) s, (c.requires.frame, omega arith)))
+
+pub expression-expressions-requires-in-Texture : goal.expression-expressions-requires-in-Texture
+expression-expressions-requires-in-Texture t c =
+    let ss = scope_of c.args.scope.now in
+    let q = texture_shown c.args.e.now c.in-Texture.node c.in-Texture.args c.in-Texture.is in
+    let s = subst (λ x. ScopedExpr x ss) q c.requires.scoped in
+    let z = ap expr_size q in
+    let zr = ap expr_room q in
+    let d = c.as_slice-in-Texture.ensures in
     let dr = ap (λ l. exprs_room (exprs_of l)) d in
     let dz = ap (λ l. exprs_size (exprs_of l)) d in
     (omega (arith, c.decreases), (subst (λ l. ScopedExprs (exprs_of l) ss) (sym d) s, (c.requires.frame, omega arith)))
@@ -492,3 +504,25 @@ repeat-returns-clause-code t c =
     (ap block_of c.new-body.ensures.items) (c.in_ok-b.ensures.code ∙ ap (λ x. block_of c.new-body.result.items then all_code (stmts_of x) ss1 base c.args.temps) c.as_slice-2.ensures)
     h)
     c.looped.ensures.code
+
+pub expression-returns-in_ok-operands-in-Texture-clause-at : goal.expression-returns-in_ok-operands-in-Texture-clause-at
+expression-returns-in_ok-operands-in-Texture-clause-at t c =
+    let ss = scope_of c.args.scope.now in
+    let next = c.args.next in
+    IfOk-weaker c.texture.result (λ q. q ≡ looked_at c.in_ok-operands-in-Texture.operands.items next) (λ q. q ≡ at (expr_of c.args.e.now) ss next)
+    (λ q h. look_at ss c.args.base next c.in-Texture.node (exprs_of c.in-Texture.args) c.in_ok-operands-in-Texture.operands.items q
+    (c.in_ok-operands-in-Texture.ensures.at ∙ ap (λ l. all_at (exprs_of l) ss next) c.as_slice-in-Texture.ensures) h
+    ∙ ap (λ x. at x ss next) (sym (texture_shown c.args.e.now c.in-Texture.node c.in-Texture.args c.in-Texture.is)))
+    c.texture.ensures.at
+
+pub expression-returns-in_ok-operands-in-Texture-clause-code : goal.expression-returns-in_ok-operands-in-Texture-clause-code
+expression-returns-in_ok-operands-in-Texture-clause-code t c =
+    let ss = scope_of c.args.scope.now in
+    let next = c.args.next in
+    let o = block_of c.args.code.now.items in
+    on_ok_weaker c.texture.result
+    (λ h. look_code ss c.args.base next c.in-Texture.node (exprs_of c.in-Texture.args) c.in_ok-operands-in-Texture.operands.items o _ _
+    (c.in_ok-operands-in-Texture.ensures.code ∙ ap (λ l. o then exprs_code (exprs_of l) ss c.args.base next) c.as_slice-in-Texture.ensures)
+    (c.in_ok-operands-in-Texture.ensures.at ∙ ap (λ l. all_at (exprs_of l) ss next) c.as_slice-in-Texture.ensures) h
+    ∙ ap (λ x. o then expr_code x ss c.args.base next) (sym (texture_shown c.args.e.now c.in-Texture.node c.in-Texture.args c.in-Texture.is)))
+    c.texture.ensures.code

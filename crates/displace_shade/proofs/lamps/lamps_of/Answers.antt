@@ -13,7 +13,7 @@ loop-k-preserved c =
     let t = subst (λ m. c.loop-k.k < m) c.len-k-end.ensures c.loop-k-test.true in
     record {
       lights =
-          lamps_more l (set_value c.args.set.now) c.args.uses.now l.prim.lights c.loop-k.k n c.in_ok-lamp.lamp c.loop-k.lamps.items c.push.new.self.items (subst (λ xs. c.loop-k.k < length xs) e t) (c.at.ensures ∙ ap (λ xs. get_or xs c.loop-k.k 0) e) c.in_ok-lamp.ensures.found
+          lamps_more l (set_value c.args.set.now c.args.textures.now) c.args.uses.now l.prim.lights c.loop-k.k n c.in_ok-lamp.lamp c.loop-k.lamps.items c.push.new.self.items (subst (λ xs. c.loop-k.k < length xs) e t) (c.at.ensures ∙ ap (λ xs. get_or xs c.loop-k.k 0) e) c.in_ok-lamp.ensures.found
           c.in_ok-push.ensures.items c.loop-k.invariant.lights;
       each = subst (All (IsLamp l)) (sym c.in_ok-push.ensures.items) (All-push (IsLamp l) c.loop-k.lamps.items c.in_ok-lamp.lamp c.loop-k.invariant.each c.in_ok-lamp.ensures.light);
     }

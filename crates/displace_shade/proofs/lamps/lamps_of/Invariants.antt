@@ -6,6 +6,6 @@ use Rattle.displace_shade.proofs.lamps.lamps_of.Given as goal
 
 abbrev pub invariant-loop-k : goal.invariant-loop-k
 invariant-loop-k l = record {
-  lights : map (lamp_light l.leaf) l.lamps.items ≡ lights_from l.leaf (set_value l.set) l.uses (take l.k l.leaf.prim.lights);
+  lights : map (lamp_light l.leaf) l.lamps.items ≡ lights_from l.leaf (set_value l.set l.textures) l.uses (take l.k l.leaf.prim.lights);
   each : All (IsLamp l.leaf) l.lamps.items;
 }

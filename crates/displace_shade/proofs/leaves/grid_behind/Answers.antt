@@ -3,7 +3,7 @@ use Rattle.scene.specs.declared.uses.ShaderKind.TheVariants as requested
 use Rattle.displace_shade.specs.Diced.{Hold}
 use Rattle.displace_shade.specs.Shaded.{lights_from, shaded_by, displaced}
 use Rattle.shader_binding.specs.Sets.{bound_at, bound_for}
-use Rattle.displace_shade.specs.Shop.{set_value}
+use Rattle.displace_shade.specs.Stages.{set_in}
 use Rattle.displace_shade.specs.Stages.{ServesIf}
 use Rattle.displace_shade.proofs.Stages.{grid_result}
 use Rattle.displace_shade.proofs.leaves.grid_behind.Goals as goal
@@ -22,10 +22,10 @@ grid_of-requires-clause-colours c = c.in_ok-last.ensures.coloured.colours
 pub grid_of-requires-clause-opacities : goal.grid_of-requires-clause-opacities
 grid_of-requires-clause-opacities c = c.in_ok-last.ensures.coloured.opacities
 
-pub returns : goal.returns
-returns c =
+pub returns-clause-grid : goal.returns-clause-grid
+returns-clause-grid c =
     let l = c.args.leaf.now in
-    let s = set_value c.args.shaders.now.set.now in
+    let s = set_in c.args.shaders.now in
     let uses = c.args.shaders.now.uses.now in
     let d = c.in_ok-last.last in
     let e = c.in_ok-last.ensures in

@@ -7,6 +7,7 @@ use Rattle.place_rows.specs.Layout.{row_length}
 use Rattle.grid_machine.specs.Run.{rows_of, written_names}
 use Rattle.grid_variables.specs.Points.{lines}
 use Rattle.grid_variables.specs.Variables.{values_at}
+use Rattle.sl_look_ups.specs.Naming.{binding_params}
 use Rattle.grid_variables.specs.Places.{point_count}
 use Rattle.grid_variables.proofs.Over.{over_long}
 use Rattle.grid_rows.specs.Given.{param_rows, wanted_rows, all_rows}
@@ -27,17 +28,17 @@ left_behind-requires-clause-given c =
     let fit = c.requires.on.variables in
     let w = c.wanted_by-wanted.result.named.now in
     let covers = c.wanted_by-wanted.ensures.named in
-    let vs = values_at l t.params b.values.now in
-    let front = param_rows l t.params code.params b.values.now in
-    let given = given_as l t code b.values.now b.space.now r.code w covers vs (bound_values b r l fit) front (bound_rows b r l fit) c.args.variables.now c.requires.sized kinds.Displacement c.requires.on.kind (displacement_rows_held l c.args.variables.now c.requires.sized) _ c.wanted_by-wanted.ensures.kind c.in_ok-rows.rows.now
+    let vs = values_at l (binding_params t) b.values.now in
+    let front = param_rows l (binding_params t) code.params b.values.now in
+    let given = given_as l t code b.values.now b.look_ups.now b.textures.now b.space.now r.code w covers vs (bound_values b r l fit) front (bound_rows b r l fit) c.args.variables.now c.requires.sized kinds.Displacement c.requires.on.kind (displacement_rows_held l c.args.variables.now c.requires.sized) _ c.wanted_by-wanted.ensures.kind c.in_ok-rows.rows.now
     (c.in_ok-rows.ensures.value ∙ ap (λ ps. ps ++ all_rows (wanted_rows c.wanted_by-wanted.result.kind w l c.args.variables.now) (given_order c.wanted_by-wanted.result.kind)) (rows_given l b _ c.parameters_of-parameters.ensures)) in
     let steps = c.in_ok-uniforms.ensures ∙ ap (λ us. us ++ Number (lines l).du ∷ Number (lines l).dv ∷ []) (uniforms_given l b _ c.parameters_of-parameters.ensures) in
     record {
       kind = ap is_light (r.code.kind ∙ c.requires.on.kind);
       written = ap (λ k. rows_of (written_names k)) (r.code.kind ∙ c.requires.on.kind);
       lamps = λ k d m. absurd (omega arith);
-      uniforms = displace_shapes l t code b.values.now b.space.now r.code w covers vs (bound_values b r l fit) front (bound_rows b r l fit) c.requires.on.kind c.in_ok-uniforms.uniforms.items steps;
-      rows = given_long l t code b.values.now b.space.now r.code w covers vs (bound_values b r l fit) front (bound_rows b r l fit) c.args.variables.now c.in_ok-rows.rows.now given;
+      uniforms = displace_shapes l t code b.values.now b.look_ups.now b.textures.now b.space.now r.code w covers vs (bound_values b r l fit) front (bound_rows b r l fit) c.requires.on.kind c.in_ok-uniforms.uniforms.items steps;
+      rows = given_long l t code b.values.now b.look_ups.now b.textures.now b.space.now r.code w covers vs (bound_values b r l fit) front (bound_rows b r l fit) c.args.variables.now c.in_ok-rows.rows.now given;
     }
 
 pub left_behind-requires-clause-small : goal.left_behind-requires-clause-small
@@ -47,8 +48,8 @@ pub returns-clause-sized : goal.returns-clause-sized
 returns-clause-sized c =
     let n = point_count c.args.leaf.now in
     record {
-      points = ap (λ xs. length xs) c.in_ok-left.ensures.in_first ∙ over_long (triple_in c.in_ok-left.ensures.out (row_length n) 0) n;
-      normals = ap (λ xs. length xs) c.in_ok-left.ensures.in_second ∙ over_long (triple_in c.in_ok-left.ensures.out (row_length n) 3) n;
+      points = ap (λ xs. length xs) c.in_ok-left.ensures.values.in_first ∙ over_long (triple_in c.in_ok-left.ensures.values.out (row_length n) 0) n;
+      normals = ap (λ xs. length xs) c.in_ok-left.ensures.values.in_second ∙ over_long (triple_in c.in_ok-left.ensures.values.out (row_length n) 3) n;
       sights = c.requires.sized.sights;
       colours = c.requires.sized.colours;
       opacities = c.requires.sized.opacities;
@@ -64,10 +65,10 @@ returns-clause-hold c =
     let fit = c.requires.on.variables in
     let w = c.wanted_by-wanted.result.named.now in
     let covers = c.wanted_by-wanted.ensures.named in
-    let vs = values_at l t.params b.values.now in
-    let front = param_rows l t.params code.params b.values.now in
-    let given = given_as l t code b.values.now b.space.now r.code w covers vs (bound_values b r l fit) front (bound_rows b r l fit) c.args.variables.now c.requires.sized kinds.Displacement c.requires.on.kind (displacement_rows_held l c.args.variables.now c.requires.sized) _ c.wanted_by-wanted.ensures.kind c.in_ok-rows.rows.now
+    let vs = values_at l (binding_params t) b.values.now in
+    let front = param_rows l (binding_params t) code.params b.values.now in
+    let given = given_as l t code b.values.now b.look_ups.now b.textures.now b.space.now r.code w covers vs (bound_values b r l fit) front (bound_rows b r l fit) c.args.variables.now c.requires.sized kinds.Displacement c.requires.on.kind (displacement_rows_held l c.args.variables.now c.requires.sized) _ c.wanted_by-wanted.ensures.kind c.in_ok-rows.rows.now
     (c.in_ok-rows.ensures.value ∙ ap (λ ps. ps ++ all_rows (wanted_rows c.wanted_by-wanted.result.kind w l c.args.variables.now) (given_order c.wanted_by-wanted.result.kind)) (rows_given l b _ c.parameters_of-parameters.ensures)) in
     let steps = c.in_ok-uniforms.ensures ∙ ap (λ us. us ++ Number (lines l).du ∷ Number (lines l).dv ∷ []) (uniforms_given l b _ c.parameters_of-parameters.ensures) in
-    λ f h. displace_law l t code b.values.now b.space.now r.code w covers vs (bound_values b r l fit) front (bound_rows b r l fit) c.requires.on.kind c.args.variables.now _ c.in_ok-uniforms.uniforms.items c.in_ok-rows.rows.now c.in_ok-left.ensures.out given steps c.in_ok-left.ensures.left
-    c.in_ok-left.ensures.in_first c.in_ok-left.ensures.in_second refl refl refl f h
+    λ f h. displace_law l t code b.values.now b.look_ups.now b.textures.now b.space.now r.code w covers vs (bound_values b r l fit) front (bound_rows b r l fit) c.requires.on.kind c.args.variables.now _ c.in_ok-uniforms.uniforms.items c.in_ok-rows.rows.now c.in_ok-left.ensures.values.out given steps c.in_ok-left.ensures.values.left
+    c.in_ok-left.ensures.values.in_first c.in_ok-left.ensures.values.in_second refl refl refl f h

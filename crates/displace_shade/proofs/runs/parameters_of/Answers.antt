@@ -8,4 +8,4 @@ pub invariant_of-result : goal.invariant_of-result
 invariant_of-result c =
     let b = c.args.bound.now in
     let slots : length b.compiled.now.code.params ≡ length c.as_slice.result.now = ap (λ xs. length xs) (sym (c.as_slice.ensures ∙ ap (λ k. k.params) c.code-code.ensures.code)) in
-    (ap (λ xs. length xs) c.params.ensures ∙ sym (length-map b.compiled.now.tree.params local_of) ∙ bound_names b c.requires ∙ slots, bound_count b c.requires ∙ slots)
+    (sym (length-map c.binding_params.result.now local_of) ∙ ap (λ xs. length xs) c.binding_params.ensures ∙ bound_names b c.requires ∙ slots, bound_count b c.requires ∙ slots)

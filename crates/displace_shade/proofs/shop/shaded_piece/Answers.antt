@@ -6,8 +6,8 @@ use Rattle.displace_shade.specs.Shop.{set_value}
 use Rattle.grid_variables.proofs.Results.{if_ok}
 use Rattle.displace_shade.proofs.shop.shaded_piece.Goals as goal
 
-pub shaded_leaf-requires : goal.shaded_leaf-requires
-shaded_leaf-requires c =
+pub shaded_leaf-requires-clause-serves : goal.shaded_leaf-requires-clause-serves
+shaded_leaf-requires-clause-serves c =
     let x = c.leaf_at-leaf.result.prim in
     let there = c.leaf_at-leaf.ensures.prim in
     let n = c.args.piece.now.prim in
@@ -17,5 +17,5 @@ shaded_leaf-requires c =
       variables = c.requires.variables x there;
     }
 
-pub returns : goal.returns
-returns c = if_ok c.shaded_leaf.result _ _ (λ grid h prim e. h ∙ ap (λ l. shaded l (set_value c.args.shaders.now.set.now) c.args.shaders.now.uses.now) (c.leaf_at-leaf.ensures.leaf prim e)) c.shaded_leaf.ensures
+pub returns-clause-grid : goal.returns-clause-grid
+returns-clause-grid c = if_ok c.shaded_leaf.result _ _ (λ grid h prim e. h ∙ ap (λ l. shaded l (set_value c.args.shaders.now.set.now c.args.shaders.now.textures.now) c.args.shaders.now.uses.now) (c.leaf_at-leaf.ensures.leaf prim e)) c.shaded_leaf.ensures.grid

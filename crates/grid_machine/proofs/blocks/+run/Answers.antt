@@ -1,6 +1,7 @@
 use Rattle.std.proofs.Common.{arith, ◌≡◌, ◌<◌, ◌+◌, ◌-◌, ℕ, suc, get_or, true, false, refl, sym, ap, ◌∙◌, subst}
 use Rattle.std.specs.List.{list_all}
-use Rattle.grid_code.specs.Code.{end, branch, sum, lights}
+use Rattle.grid_code.specs.Code.{end, branch, sum, texture, lights}
+use Rattle.grid_code.specs.Valid.{are_three}
 use Rattle.std.specs.Prelude.{◌||◌, Option, Some, is_some}
 use Rattle.fixed_math.specs.declared.vec3.Vec3.{Vec3}
 use Rattle.sl_ast.specs.declared.kinds.LightStmt.TheVariants.{Illuminance, Illuminate, Solar}
@@ -23,10 +24,10 @@ use Rattle.grid_code.specs.Masked.{State, read, reads, from_light, entered, kind
 use Rattle.grid_code.specs.Masked.{going as going_of}
 use Rattle.grid_code.specs.Uses.{has}
 use Rattle.grid_code.specs.View.{with_node, block_of}
-use Rattle.grid_machine.specs.State.{state_of, Near, ground_of, lit_ground, lights_registers, ReadyIn, Runs, RunsTurns}
-use Rattle.grid_machine.proofs.Kept.{NearBy, has_kept, places_kept, kept_on, kept_live, ready_kept, runs_kept, begin_kept, any_kept}
+use Rattle.grid_machine.specs.State.{beside, state_of, Near, ground_of, lit_ground, lights_registers, ReadyIn, Runs, RunsTurns}
+use Rattle.grid_machine.proofs.Kept.{NearBy, has_kept, places_kept, beside_same, kept_on, kept_live, ready_kept, runs_kept, begin_kept, any_kept}
 use Rattle.grid_code.proofs.Blocks.{branch_is, loop_is, lights_is, block_size}
-use Rattle.grid_machine.proofs.Nodes.{running_ready, running_small, running_next, running_end, asleep_runs, put_steps, differ_steps}
+use Rattle.grid_machine.proofs.Nodes.{running_ready, running_small, running_next, running_end, asleep_runs, put_steps, differ_steps, texture_steps}
 use Rattle.grid_machine.proofs.Masks.{Turning, one_at, parts_at, turning_step, turning_stop, turning_end, looped_steps}
 use Rattle.grid_machine.proofs.blocks.+run.Goals as goal
 
@@ -37,12 +38,15 @@ run_block-run_node-requires g t c =
     λ κs lives. (
       omega (arith, c.decreases, small),
       (
-        lives,
+        lives.0,
         (
-          inv.0.0.whole,
+          lives.1,
           (
-            ready_kept c.args.m.now c.loop-node.m (with_node c.node-item.result end) inv.0.0 (running_ready _ _ _ _ _ _ _ _ _ _ c.node-item.result inv.1 (omega arith) c.node-item.is),
-            places_kept c.args.m.now c.loop-node.m (g.L.Illumination.lighting c.args.lights.now) (g.L.Illumination.lighting c.loop-node.lights) inv.0.0 inv.0.1 c.requires.places,
+            inv.0.0.whole,
+            (
+              ready_kept c.args.m.now c.loop-node.m (with_node c.node-item.result end) inv.0.0 (running_ready _ _ _ _ _ _ _ _ _ _ c.node-item.result inv.1 (omega arith) c.node-item.is),
+              places_kept c.args.m.now c.loop-node.m (g.L.Illumination.lighting c.args.lights.now) (g.L.Illumination.lighting c.loop-node.lights) inv.0.0 inv.0.1.0 c.requires.places,
+            ),
           ),
         ),
       ),
@@ -50,11 +54,11 @@ run_block-run_node-requires g t c =
 
 pub run_block-loop-node-preserved : goal.run_block-loop-node-preserved
 run_block-loop-node-preserved g t c =
-    let ls = (g.L.Illumination.lighting c.args.lights.now).lights in
-    let ls1 = (g.L.Illumination.lighting c.loop-node.lights).lights in
+    let ls = (beside (g.L.Illumination.lighting c.args.lights.now).lights (g.T.Textures.images c.args.textures.now)) in
+    let ls1 = (beside (g.L.Illumination.lighting c.loop-node.lights).lights (g.T.Textures.images c.loop-node.textures)) in
     let inv = c.loop-node.invariant in (
-      (kept_on _ _ _ inv.0.0 c.run_node.ensures.kept, c.run_node.ensures.same ∙ inv.0.1),
-      running_next _ _ _ _ _ _ _ _ _ _ c.node-item.result inv.1 (omega arith) c.node-item.is (state_of c.run_node.new.m) (runs_kept ls ls1 c.args.m.now c.loop-node.m c.run_node.new.m c.args.most (with_node c.node-item.result end) inv.0.0 (ap (λ s. s.lights) inv.0.1) c.run_node.ensures.masked),
+      (kept_on _ _ _ inv.0.0 c.run_node.ensures.kept, (c.run_node.ensures.same ∙ inv.0.1.0, c.run_node.ensures.images ∙ inv.0.1.1)),
+      running_next _ _ _ _ _ _ _ _ _ _ c.node-item.result inv.1 (omega arith) c.node-item.is (state_of c.run_node.new.m) (runs_kept ls ls1 c.args.m.now c.loop-node.m c.run_node.new.m c.args.most (with_node c.node-item.result end) inv.0.0 (beside_same (ap (λ s. s.lights) inv.0.1.0) inv.0.1.1) c.run_node.ensures.masked),
     )
 
 pub run_block-returns-after-loop-node-clause-masked : goal.run_block-returns-after-loop-node-clause-masked
@@ -64,7 +68,7 @@ pub run_block-returns-else-any-clause-masked : goal.run_block-returns-else-any-c
 run_block-returns-else-any-clause-masked g t c =
     let m = c.args.m.now in
     let f = m.registers.frame.now in
-    asleep_runs (lit_ground (g.L.Illumination.lighting c.args.lights.now).lights f) f.places f.varying.now f.uniform.now c.args.most (block_of c.args.block.now) (state_of m) (sym c.any.ensures ∙ c.if-any.false)
+    asleep_runs (lit_ground (beside (g.L.Illumination.lighting c.args.lights.now).lights (g.T.Textures.images c.args.textures.now)) f) f.places f.varying.now f.uniform.now c.args.most (block_of c.args.block.now) (state_of m) (sym c.any.ensures ∙ c.if-any.false)
 
 pub run_node-sum-requires : goal.run_node-sum-requires
 run_node-sum-requires g t c =
@@ -76,9 +80,35 @@ run_node-sum-requires g t c =
 pub run_node-returns-in-Sum-clause-masked : goal.run_node-returns-in-Sum-clause-masked
 run_node-returns-in-Sum-clause-masked g t c =
     let m = c.args.m.now in
-    let ls = (g.L.Illumination.lighting c.args.lights.now).lights in
+    let ls = (beside (g.L.Illumination.lighting c.args.lights.now).lights (g.T.Textures.images c.args.textures.now)) in
     subst (λ x. Runs ls c.args.most (with_node x end) m c.sum.new.self) (sym c.in-Sum.is)
     (subst (λ qs. Runs ls c.args.most (sum c.in-Sum.to c.in-Sum.sum qs end) m c.sum.new.self) c.as_slice.ensures c.sum.ensures.near)
+
+pub run_node-look_up-requires : goal.run_node-look_up-requires
+run_node-look_up-requires g t c =
+    let m = c.args.m.now in
+    let r = m.registers.frame.now in
+    let f = subst (λ x. ReadyIn m (with_node x end)) c.in-Texture.is c.requires.ready in
+    record {
+      whole = c.requires.whole;
+      has = f.0;
+      args = subst (λ qs. list_all (has r.varying.now r.uniform.now) qs ≡ true) (sym c.as_slice-in-Texture.ensures) f.1.0;
+      three = subst (λ qs. are_three qs ≡ true) (sym c.as_slice-in-Texture.ensures) f.1.1.0;
+      shape = f.1.1.1.0;
+    }
+
+pub run_node-returns-in-Texture-clause-masked : goal.run_node-returns-in-Texture-clause-masked
+run_node-returns-in-Texture-clause-masked g t c =
+    let m = c.args.m.now in
+    let r = m.registers.frame.now in
+    let ls = (beside (g.L.Illumination.lighting c.args.lights.now).lights (g.T.Textures.images c.args.textures.now)) in
+    let f = subst (λ x. ReadyIn m (with_node x end)) c.in-Texture.is c.requires.ready in
+    let some : 0 < r.places = let s = r.some in omega arith in
+    let qs = c.as_slice-in-Texture.result.now in
+    subst (λ x. Runs ls c.args.most (with_node x end) m c.look_up.new.self) (sym c.in-Texture.is)
+    (subst (λ l. Runs ls c.args.most (texture c.in-Texture.to c.in-Texture.node l end) m c.look_up.new.self) c.as_slice-in-Texture.ensures
+    (texture_steps (lit_ground ls r) r.places r.varying.now r.uniform.now c.args.most c.in-Texture.to c.in-Texture.node qs (state_of m) (state_of c.look_up.new.self) some r.shape r.wide r.tall
+    (subst (λ l. list_all (has r.varying.now r.uniform.now) l ≡ true) (sym c.as_slice-in-Texture.ensures) f.1.0) c.look_up.ensures.near))
 
 pub run_node-run_lights-requires : goal.run_node-run_lights-requires
 run_node-run_lights-requires g t c =
@@ -90,12 +120,12 @@ run_node-run_lights-requires g t c =
     let d = c.as_slice-in-Lights.ensures in
     let d2 = c.as_slice-in-Lights-2.ensures in
     let ds2 = ap (λ l. block_size (block_of l)) d2 in
-    λ κs lives. (omega (arith, c.decreases), (lives, (c.requires.whole, (subst (λ qs. list_all (has r.varying.now r.uniform.now) qs ≡ true) (sym d) f.0, (f.1.0, (subst (λ l. ReadyIn m (block_of l)) (sym d2) f.1.1.0, c.requires.places))))))
+    λ κs lives. (omega (arith, c.decreases), (lives.0, (lives.1, (c.requires.whole, (subst (λ qs. list_all (has r.varying.now r.uniform.now) qs ≡ true) (sym d) f.0, (f.1.0, (subst (λ l. ReadyIn m (block_of l)) (sym d2) f.1.1.0, c.requires.places)))))))
 
 pub run_node-returns-in-Lights-clause-masked : goal.run_node-returns-in-Lights-clause-masked
 run_node-returns-in-Lights-clause-masked g t c =
     let m = c.args.m.now in
-    let ls = (g.L.Illumination.lighting c.args.lights.now).lights in
+    let ls = (beside (g.L.Illumination.lighting c.args.lights.now).lights (g.T.Textures.images c.args.textures.now)) in
     let over = c.in-Lights.over in
     let q = lights_is c.args.node.now over c.in-Lights.args c.in-Lights.body end c.in-Lights.is in
     let e = q ∙ ap (λ l. lights over l (block_of c.in-Lights.body) end) (sym c.as_slice-in-Lights.ensures) ∙ ap (λ l. lights over c.as_slice-in-Lights.result.now (block_of l) end) (sym c.as_slice-in-Lights-2.ensures) in
@@ -111,7 +141,7 @@ run_node-run_branch-requires g t c =
     let d2 = c.as_slice-in-If-2.ensures in
     let ds = ap (λ l. block_size (block_of l)) d in
     let ds2 = ap (λ l. block_size (block_of l)) d2 in
-    λ κs lives. (omega (arith, c.decreases), (lives, (c.requires.whole, (f.0, (subst (λ l. ReadyIn m (block_of l)) (sym d) f.1.0, (subst (λ l. ReadyIn m (block_of l)) (sym d2) f.1.1.0, c.requires.places))))))
+    λ κs lives. (omega (arith, c.decreases), (lives.0, (lives.1, (c.requires.whole, (f.0, (subst (λ l. ReadyIn m (block_of l)) (sym d) f.1.0, (subst (λ l. ReadyIn m (block_of l)) (sym d2) f.1.1.0, c.requires.places)))))))
 
 pub run_node-run_loop-requires : goal.run_node-run_loop-requires
 run_node-run_loop-requires g t c =
@@ -125,11 +155,11 @@ run_node-run_loop-requires g t c =
     let ds = ap (λ l. block_size (block_of l)) d in
     let ds2 = ap (λ l. block_size (block_of l)) d2 in
     let ds3 = ap (λ l. block_size (block_of l)) d3 in
-    λ κs lives. (omega (arith, c.decreases), (lives, (c.requires.whole, (subst (λ l. ReadyIn m (block_of l)) (sym d) f.0, (f.1.0, (subst (λ l. ReadyIn m (block_of l)) (sym d2) f.1.1.0, (subst (λ l. ReadyIn m (block_of l)) (sym d3) f.1.1.1.0, c.requires.places)))))))
+    λ κs lives. (omega (arith, c.decreases), (lives.0, (lives.1, (c.requires.whole, (subst (λ l. ReadyIn m (block_of l)) (sym d) f.0, (f.1.0, (subst (λ l. ReadyIn m (block_of l)) (sym d2) f.1.1.0, (subst (λ l. ReadyIn m (block_of l)) (sym d3) f.1.1.1.0, c.requires.places))))))))
 
 pub run_node-returns-in-Put-clause-masked : goal.run_node-returns-in-Put-clause-masked
 run_node-returns-in-Put-clause-masked g t c =
-    let ls = (g.L.Illumination.lighting c.args.lights.now).lights in
+    let ls = (beside (g.L.Illumination.lighting c.args.lights.now).lights (g.T.Textures.images c.args.textures.now)) in
     let m = c.args.m.now in
     let r = m.registers.frame.now in
     let f = subst (λ x. ReadyIn m (with_node x end)) c.in-Put.is c.requires.ready in
@@ -139,7 +169,7 @@ run_node-returns-in-Put-clause-masked g t c =
 
 pub run_node-returns-in-Differ-clause-masked : goal.run_node-returns-in-Differ-clause-masked
 run_node-returns-in-Differ-clause-masked g t c =
-    let ls = (g.L.Illumination.lighting c.args.lights.now).lights in
+    let ls = (beside (g.L.Illumination.lighting c.args.lights.now).lights (g.T.Textures.images c.args.textures.now)) in
     let m = c.args.m.now in
     let r = m.registers.frame.now in
     let f = subst (λ x. ReadyIn m (with_node x end)) c.in-Differ.is c.requires.ready in
@@ -149,7 +179,7 @@ run_node-returns-in-Differ-clause-masked g t c =
 
 pub run_node-returns-in-If-clause-masked : goal.run_node-returns-in-If-clause-masked
 run_node-returns-in-If-clause-masked g t c =
-    let ls = (g.L.Illumination.lighting c.args.lights.now).lights in
+    let ls = (beside (g.L.Illumination.lighting c.args.lights.now).lights (g.T.Textures.images c.args.textures.now)) in
     let m = c.args.m.now in
     let q = branch_is c.args.node.now c.in-If.test c.in-If.then c.in-If.otherwise end c.in-If.is in
     let e = q ∙ ap (λ l. branch c.in-If.test (block_of l) (block_of c.in-If.otherwise) end) (sym c.as_slice-in-If.ensures) ∙ ap (λ l. branch c.in-If.test (block_of c.as_slice-in-If.result.now) (block_of l) end) (sym c.as_slice-in-If-2.ensures) in
@@ -157,7 +187,7 @@ run_node-returns-in-If-clause-masked g t c =
 
 pub run_node-returns-in-Loop-clause-masked : goal.run_node-returns-in-Loop-clause-masked
 run_node-returns-in-Loop-clause-masked g t c =
-    let ls = (g.L.Illumination.lighting c.args.lights.now).lights in
+    let ls = (beside (g.L.Illumination.lighting c.args.lights.now).lights (g.T.Textures.images c.args.textures.now)) in
     let m = c.args.m.now in
     let k = c.run_loop.new.m in
     let r = m.registers.frame.now in
@@ -177,17 +207,17 @@ run_node-returns-in-Loop-clause-masked g t c =
 
 pub run_node-returns-in-Break-clause-masked : goal.run_node-returns-in-Break-clause-masked
 run_node-returns-in-Break-clause-masked g t c =
-    let ls = (g.L.Illumination.lighting c.args.lights.now).lights in
+    let ls = (beside (g.L.Illumination.lighting c.args.lights.now).lights (g.T.Textures.images c.args.textures.now)) in
     subst (λ x. Runs ls c.args.most (with_node x end) c.args.m.now c.leave.new.self) (sym c.in-Break.is) (c.leave.ensures.masked ls c.args.most)
 
 pub run_node-returns-in-Continue-clause-masked : goal.run_node-returns-in-Continue-clause-masked
 run_node-returns-in-Continue-clause-masked g t c =
-    let ls = (g.L.Illumination.lighting c.args.lights.now).lights in
+    let ls = (beside (g.L.Illumination.lighting c.args.lights.now).lights (g.T.Textures.images c.args.textures.now)) in
     subst (λ x. Runs ls c.args.most (with_node x end) c.args.m.now c.skip.new.self) (sym c.in-Continue.is) (c.skip.ensures.masked ls c.args.most)
 
 pub run_loop-returns-then-not-any-clause-turns : goal.run_loop-returns-then-not-any-clause-turns
 run_loop-returns-then-not-any-clause-turns g t c =
-    let ls = (g.L.Illumination.lighting c.args.lights.now).lights in
+    let ls = (beside (g.L.Illumination.lighting c.args.lights.now).lights (g.T.Textures.images c.args.textures.now)) in
     let m = c.args.m.now in
     let r = m.registers.frame.now in
     let inv = c.loop-turn.invariant in
@@ -198,11 +228,11 @@ run_loop-returns-then-not-any-clause-turns g t c =
     let none = any_kept m m1 (λ i. get_or c.going-going.result.places i false) (going_of c.args.uniform c.args.test (state_of m1)) false sh1 c.going-going.ensures (sym c.any.ensures ∙ c.if-not-any.true) in
     turning_stop (lit_ground ls r) c.args.uniform (block_of c.args.ask.now) c.args.test (block_of c.args.step.now) (block_of c.args.body.now) r.places r.varying.now r.uniform.now c.args.most k (state_of m) (state_of c.loop-turn.m) (state_of m1) c.requires.has
     (subst (λ q. Turning (lit_ground ls r) c.args.uniform (block_of c.args.ask.now) c.args.test (block_of c.args.step.now) (block_of c.args.body.now) r.places r.varying.now r.uniform.now c.args.most q (state_of m) (state_of c.loop-turn.m)) e inv.1)
-    (runs_kept ls (g.L.Illumination.lighting c.loop-turn.lights).lights m c.loop-turn.m m1 c.args.most (block_of c.args.ask.now) inv.0.0 (ap (λ s. s.lights) inv.0.1) c.run_block.ensures.masked) none
+    (runs_kept ls (beside (g.L.Illumination.lighting c.loop-turn.lights).lights (g.T.Textures.images c.loop-turn.textures)) m c.loop-turn.m m1 c.args.most (block_of c.args.ask.now) inv.0.0 (beside_same (ap (λ s. s.lights) inv.0.1.0) inv.0.1.1) c.run_block.ensures.masked) none
 
 pub run_loop-loop-turn-preserved : goal.run_loop-loop-turn-preserved
 run_loop-loop-turn-preserved g t c =
-    let ls = (g.L.Illumination.lighting c.args.lights.now).lights in
+    let ls = (beside (g.L.Illumination.lighting c.args.lights.now).lights (g.T.Textures.images c.args.textures.now)) in
     let m = c.args.m.now in
     let r = m.registers.frame.now in
     let n = c.args.most in
@@ -216,35 +246,37 @@ run_loop-loop-turn-preserved g t c =
     let sh3 = kept_on m m2 m3 sh2 c.run_block-in-loop-turn.ensures.kept in
     let m3l = record m3 { live = m3.staying } in
     let sh3l = kept_live m m3 m3.staying sh3 in
-    let e1 = c.run_block.ensures.same ∙ inv.0.1 in
+    let e1 = c.run_block.ensures.same ∙ inv.0.1.0 in
+    let f1 = c.run_block.ensures.images ∙ inv.0.1.1 in
     let e2 = c.run_block-in-loop-turn.ensures.same ∙ e1 in
+    let f2 = c.run_block-in-loop-turn.ensures.images ∙ f1 in
     let k : ℕ = n - (c.loop-turn._turn + 1) in
     let e : n - c.loop-turn._turn ≡ suc k = omega arith in
     let some = any_kept m m1 (λ i. get_or c.going-going.result.places i false) (going_of c.args.uniform c.args.test (state_of m1)) true sh1 c.going-going.ensures (sym c.any.ensures ∙ c.if-not-any.false) in (
-      (kept_on m m3l m4 sh3l c.run_block-in-loop-turn-2.ensures.kept, c.run_block-in-loop-turn-2.ensures.same ∙ e2),
+      (kept_on m m3l m4 sh3l c.run_block-in-loop-turn-2.ensures.kept, (c.run_block-in-loop-turn-2.ensures.same ∙ e2, c.run_block-in-loop-turn-2.ensures.images ∙ f2)),
       turning_step (lit_ground ls r) c.args.uniform (block_of c.args.ask.now) c.args.test (block_of c.args.step.now) (block_of c.args.body.now) r.places r.varying.now r.uniform.now n k (state_of m) (state_of c.loop-turn.m) (state_of m1) (state_of m2) (state_of m3) (state_of m4) c.requires.has
           (subst (λ q. Turning (lit_ground ls r) c.args.uniform (block_of c.args.ask.now) c.args.test (block_of c.args.step.now) (block_of c.args.body.now) r.places r.varying.now r.uniform.now n q (state_of m) (state_of c.loop-turn.m)) e inv.1)
-          (runs_kept ls (g.L.Illumination.lighting c.loop-turn.lights).lights m c.loop-turn.m m1 n (block_of c.args.ask.now) inv.0.0 (ap (λ s. s.lights) inv.0.1) c.run_block.ensures.masked) some
+          (runs_kept ls (beside (g.L.Illumination.lighting c.loop-turn.lights).lights (g.T.Textures.images c.loop-turn.textures)) m c.loop-turn.m m1 n (block_of c.args.ask.now) inv.0.0 (beside_same (ap (λ s. s.lights) inv.0.1.0) inv.0.1.1) c.run_block.ensures.masked) some
           (begin_kept m m1 c.args.uniform c.args.test (state_of m2) (λ i. get_or c.going-going.result.places i false) sh1 c.going-going.ensures c.begin_turn.ensures.near)
-          (runs_kept ls (g.L.Illumination.lighting c.run_block.new.lights).lights m m2 m3 n (block_of c.args.body.now) sh2 (ap (λ s. s.lights) e1) c.run_block-in-loop-turn.ensures.masked)
+          (runs_kept ls (beside (g.L.Illumination.lighting c.run_block.new.lights).lights (g.T.Textures.images c.run_block.new.textures)) m m2 m3 n (block_of c.args.body.now) sh2 (beside_same (ap (λ s. s.lights) e1) f1) c.run_block-in-loop-turn.ensures.masked)
           (state_of m3).staying (λ i l. refl)
-          (runs_kept ls (g.L.Illumination.lighting c.run_block-in-loop-turn.new.lights).lights m m3l m4 n (block_of c.args.step.now) sh3l (ap (λ s. s.lights) e2) c.run_block-in-loop-turn-2.ensures.masked),
+          (runs_kept ls (beside (g.L.Illumination.lighting c.run_block-in-loop-turn.new.lights).lights (g.T.Textures.images c.run_block-in-loop-turn.new.textures)) m m3l m4 n (block_of c.args.step.now) sh3l (beside_same (ap (λ s. s.lights) e2) f2) c.run_block-in-loop-turn-2.ensures.masked),
     )
 
 pub run_loop-returns-clause-turns : goal.run_loop-returns-clause-turns
 run_loop-returns-clause-turns g t c =
-    let ls = (g.L.Illumination.lighting c.args.lights.now).lights in
+    let ls = (beside (g.L.Illumination.lighting c.args.lights.now).lights (g.T.Textures.images c.args.textures.now)) in
     let m = c.args.m.now in
     let r = m.registers.frame.now in
     let inv = c.loop-turn.invariant in
     let e : c.args.most - c.loop-turn._turn ≡ 0 = omega arith in
     turning_end (lit_ground ls r) c.args.uniform (block_of c.args.ask.now) c.args.test (block_of c.args.step.now) (block_of c.args.body.now) r.places r.varying.now r.uniform.now c.args.most (state_of m) (state_of c.loop-turn.m) (state_of c.run_block-2.new.m)
     (subst (λ q. Turning (lit_ground ls r) c.args.uniform (block_of c.args.ask.now) c.args.test (block_of c.args.step.now) (block_of c.args.body.now) r.places r.varying.now r.uniform.now c.args.most q (state_of m) (state_of c.loop-turn.m)) e inv.1)
-    (runs_kept ls (g.L.Illumination.lighting c.loop-turn.lights).lights m c.loop-turn.m c.run_block-2.new.m c.args.most (block_of c.args.ask.now) inv.0.0 (ap (λ s. s.lights) inv.0.1) c.run_block-2.ensures.masked)
+    (runs_kept ls (beside (g.L.Illumination.lighting c.loop-turn.lights).lights (g.T.Textures.images c.loop-turn.textures)) m c.loop-turn.m c.run_block-2.new.m c.args.most (block_of c.args.ask.now) inv.0.0 (beside_same (ap (λ s. s.lights) inv.0.1.0) inv.0.1.1) c.run_block-2.ensures.masked)
 
 pub run_lit-returns-clause-near : goal.run_lit-returns-clause-near
 run_lit-returns-clause-near g t c k p f near ep ef =
-    let ls = (g.L.Illumination.lighting c.args.lights.now).lights in
+    let ls = (beside (g.L.Illumination.lighting c.args.lights.now).lights (g.T.Textures.images c.args.textures.now)) in
     let m = c.args.m.now in
     let r = m.registers.frame.now in
     let m2 = c.kindle.new.self in
@@ -258,7 +290,7 @@ pub run_seen-loop-n-init : goal.run_seen-loop-n-init
 run_seen-loop-n-init g t c =
     let m = c.args.m.now in
     let r = m.registers.frame.now in
-    ((record { frame = refl; whole = c.requires.whole }, refl), showing_init (lit_ground (g.L.Illumination.lighting c.args.lights.now).lights r) r.places r.varying.now r.uniform.now c.args.most c.args.place c.args.args.now (block_of c.args.body.now) (state_of m))
+    ((record { frame = refl; whole = c.requires.whole }, (refl, refl)), showing_init (lit_ground (beside (g.L.Illumination.lighting c.args.lights.now).lights (g.T.Textures.images c.args.textures.now)) r) r.places r.varying.now r.uniform.now c.args.most c.args.place c.args.args.now (block_of c.args.body.now) (state_of m))
 
 pub run_seen-enter-requires : goal.run_seen-enter-requires
 run_seen-enter-requires g t c =
@@ -268,7 +300,7 @@ run_seen-enter-requires g t c =
     let k1 = kept_live m c.loop-n.m c.and-m.result inv.0.0 in
     let ans = c.answers-answers.result in
     let of = c.answers-answers.ensures in
-    let e2 = c.ask.ensures.same ∙ inv.0.1 in
+    let e2 = c.ask.ensures.same ∙ inv.0.1.0 in
     record {
       whole = k1.whole;
       direction = has_kept m m1 (name_at names.L) k1 c.requires.direction;
@@ -282,13 +314,13 @@ run_seen-seen-seen-requires g t c =
     let ans = c.answers-answers.result in
     let few = c.args.m.now.registers.frame.now.few in
     let of = c.answers-answers.ensures in
-    let e2 = c.ask.ensures.same ∙ inv.0.1 in
+    let e2 = c.ask.ensures.same ∙ inv.0.1.0 in
     record { planes = subst (λ p. HasPlanes p ans) (ap (λ s. s.places) e2 ∙ c.requires.places) of.planes; count = few }
 
 pub run_seen-ask-requires-clause-points : goal.run_seen-ask-requires-clause-points
 run_seen-ask-requires-clause-points g t c =
     let few = c.args.m.now.registers.frame.now.few in
-    subst (λ p. ArePlanes p c.planes.result) (sym (ap (λ s. s.places) c.loop-n.invariant.0.1 ∙ c.requires.places)) (c.planes.ensures.planes _ few)
+    subst (λ p. ArePlanes p c.planes.result) (sym (ap (λ s. s.places) c.loop-n.invariant.0.1.0 ∙ c.requires.places)) (c.planes.ensures.planes _ few)
 
 pub run_seen-run_block-requires : goal.run_seen-run_block-requires
 run_seen-run_block-requires g t c =
@@ -299,12 +331,15 @@ run_seen-run_block-requires g t c =
     λ κs lives. (
       omega (arith, c.decreases),
       (
-        lives,
+        lives.0,
         (
-          c.enter.ensures.kept.whole,
+          lives.1,
           (
-            ready_kept m c.enter.new.self (block_of c.args.body.now) k2 c.requires.body,
-            places_kept m c.enter.new.self (g.L.Illumination.lighting c.args.lights.now) (g.L.Illumination.lighting c.ask.new.self) k2 (c.ask.ensures.same ∙ inv.0.1) c.requires.places,
+            c.enter.ensures.kept.whole,
+            (
+              ready_kept m c.enter.new.self (block_of c.args.body.now) k2 c.requires.body,
+              places_kept m c.enter.new.self (g.L.Illumination.lighting c.args.lights.now) (g.L.Illumination.lighting c.ask.new.self) k2 (c.ask.ensures.same ∙ inv.0.1.0) c.requires.places,
+            ),
           ),
         ),
       ),
@@ -314,6 +349,8 @@ pub run_seen-loop-n-preserved : goal.run_seen-loop-n-preserved
 run_seen-loop-n-preserved g t c =
     let ls = g.L.Illumination.lighting c.args.lights.now in
     let ls2 = g.L.Illumination.lighting c.ask.new.self in
+    let ps = g.T.Textures.images c.args.textures.now in
+    let ps2 = g.T.Textures.images c.loop-n.textures in
     let m0 = c.args.m.now in
     let r = m0.registers.frame.now in
     let v = r.varying.now in
@@ -329,8 +366,8 @@ run_seen-loop-n-preserved g t c =
     let body = block_of c.args.body.now in
     let seen = c.seen-seen.result.places in
     let k2 = kept_on m0 m1 m2 (kept_live m0 m c.and-m.result inv.0.0) c.enter.ensures.kept in
-    let e2 = c.ask.ensures.same ∙ inv.0.1 in
-    let same = ap (λ s. s.places) inv.0.1 ∙ c.requires.places in
+    let e2 = c.ask.ensures.same ∙ inv.0.1.0 in
+    let same = ap (λ s. s.places) inv.0.1.0 ∙ c.requires.places in
     let ans = c.answers-answers.result in
     let of = c.answers-answers.ensures in
     let same2 = ap (λ s. s.places) e2 ∙ c.requires.places in
@@ -348,17 +385,17 @@ run_seen-loop-n-preserved g t c =
     sym (shows s near j l)
     ∙ shown_there ans j (light s j) (scope_at c.scope_of-scope.result j) (is s near j l) (sym (c.seen-seen.ensures (light s j) j l (is s near j l)) ∙ right (get_or m.live.places j false) (get_or seen j false) (sym (c.and-m.ensures j l) ∙ on)) in
     let entering = subst (λ x. (s : State) (f : ℕ → Option (Vec3 × Vec3)) → NearBy x s (state_of m1) → ((i : ℕ) → i < x.now.places → (state_of m1).live i ≡ true → f i ≡ Some (triple_at ans.towards i, triple_at ans.colours i)) → NearBy x (entered x.now.places f s) (state_of m2)) inv.0.0.frame c.enter.ensures.near in (
-      (kept_live m0 m3 c.or-m.result (kept_on m0 m2 m3 k2 c.run_block.ensures.kept), c.run_block.ensures.same ∙ e2),
-      showing_next (lit_ground ls.lights r) r.places v u c.args.most place qs body n (state_of m0) (state_of m) (state_of record m3 { live = c.or-m.result }) (let z = c.count-n-end.ensures in omega arith) inv.1 (λ s h ns nh.
-          part_steps (lit_ground ls.lights r) r.places v u c.args.most (λ j. is_some (view_from ls.lights n place qs s j)) (λ j. get_or seen j false) (λ x. entered r.places (view_from ls.lights n place qs s) x) body h (state_of m) (state_of m2) (state_of m3)
+      (kept_live m0 m3 c.or-m.result (kept_on m0 m2 m3 k2 c.run_block.ensures.kept), (c.run_block.ensures.same ∙ e2, c.run_block.ensures.images ∙ inv.0.1.1)),
+      showing_next (lit_ground (beside ls.lights ps) r) r.places v u c.args.most place qs body n (state_of m0) (state_of m) (state_of record m3 { live = c.or-m.result }) (let z = c.count-n-end.ensures in omega arith) inv.1 (λ s h ns nh.
+          part_steps (lit_ground (beside ls.lights ps) r) r.places v u c.args.most (λ j. is_some (view_from ls.lights n place qs s j)) (λ j. get_or seen j false) (λ x. entered r.places (view_from ls.lights n place qs s) x) body h (state_of m) (state_of m2) (state_of m3)
           (λ i. get_or c.and-m.result.places i false) (λ i. get_or c.or-m.result.places i false) nh (λ j l. sym (c.seen-seen.ensures (light s j) j l (is s ns j l) ∙ ap is_some (shows s ns j l))) c.and-m.ensures (λ k nk. entering k (view_from ls.lights n place qs s) nk (there s ns))
-          (runs_kept ls.lights ls2.lights m0 m2 m3 c.args.most body k2 (ap (λ s. s.lights) e2) c.run_block.ensures.masked)
+          (runs_kept (beside ls.lights ps) (beside ls2.lights ps2) m0 m2 m3 c.args.most body k2 (beside_same (ap (λ s. s.lights) e2) inv.0.1.1) c.run_block.ensures.masked)
           (λ i l. c.or-m.ensures i l ∙ ap (λ b. get_or m3.live.places i false || b) (c.without-others.ensures i l))),
     )
 
 pub run_seen-returns-clause-masked : goal.run_seen-returns-clause-masked
 run_seen-returns-clause-masked g t c =
-    let ls = (g.L.Illumination.lighting c.args.lights.now).lights in
+    let ls = (beside (g.L.Illumination.lighting c.args.lights.now).lights (g.T.Textures.images c.args.textures.now)) in
     let m = c.args.m.now in
     let r = m.registers.frame.now in
     showing_end (lit_ground ls r) r.places r.varying.now r.uniform.now c.args.most c.args.place c.args.args.now (block_of c.args.body.now) c.loop-n.n (state_of m) (state_of c.loop-n.m) (let z = c.count-n-end.ensures in omega arith) c.loop-n.invariant.1
@@ -371,7 +408,7 @@ run_lights-returns-in-Solar-clause-kept g t c = kept_on c.args.m.now c.aim_along
 
 pub run_lights-returns-in-Illuminate-clause-masked : goal.run_lights-returns-in-Illuminate-clause-masked
 run_lights-returns-in-Illuminate-clause-masked g t c =
-    let ls = (g.L.Illumination.lighting c.args.lights.now).lights in
+    let ls = (beside (g.L.Illumination.lighting c.args.lights.now).lights (g.T.Textures.images c.args.textures.now)) in
     let m = c.args.m.now in
     let m1 = c.aim.new.self in
     let m2 = c.run_lit.new.m in
@@ -397,7 +434,7 @@ run_lights-returns-in-Illuminate-clause-masked g t c =
 
 pub run_lights-returns-in-Solar-clause-masked : goal.run_lights-returns-in-Solar-clause-masked
 run_lights-returns-in-Solar-clause-masked g t c =
-    let ls = (g.L.Illumination.lighting c.args.lights.now).lights in
+    let ls = (beside (g.L.Illumination.lighting c.args.lights.now).lights (g.T.Textures.images c.args.textures.now)) in
     let m = c.args.m.now in
     let m1 = c.aim_along.new.self in
     let m2 = c.run_lit-in-Solar.new.m in
@@ -416,16 +453,16 @@ run_lights-returns-in-Solar-clause-masked g t c =
     (λ i l. ap triple_of (read_near r.places v u s (state_of m) axis i near hp l) ∙ sym (c.aim_along.ensures.aimed i l))))
 
 pub run_branch-run_block-requires : goal.run_branch-run_block-requires
-run_branch-run_block-requires g t c = λ κs lives. (omega (arith, c.decreases), (lives, (c.requires.whole, (c.requires.then, c.requires.places))))
+run_branch-run_block-requires g t c = λ κs lives. (omega (arith, c.decreases), (lives.0, (lives.1, (c.requires.whole, (c.requires.then, c.requires.places)))))
 
 pub run_branch-run_block-requires-else-holds : goal.run_branch-run_block-requires-else-holds
-run_branch-run_block-requires-else-holds g t c = λ κs lives. (omega (arith, c.decreases), (lives, (c.requires.whole, (c.requires.otherwise, c.requires.places))))
+run_branch-run_block-requires-else-holds g t c = λ κs lives. (omega (arith, c.decreases), (lives.0, (lives.1, (c.requires.whole, (c.requires.otherwise, c.requires.places)))))
 
 pub run_branch-run_block-requires-in-Varying : goal.run_branch-run_block-requires-in-Varying
 run_branch-run_block-requires-in-Varying g t c =
     let m = c.args.m.now in
     let k1 = kept_live m m c.and-m.result record { frame = refl; whole = c.requires.whole } in
-    λ κs lives. (omega (arith, c.decreases), (lives, (k1.whole, (c.requires.then, c.requires.places))))
+    λ κs lives. (omega (arith, c.decreases), (lives.0, (lives.1, (k1.whole, (c.requires.then, c.requires.places)))))
 
 pub run_branch-run_block-requires-in-Varying-2 : goal.run_branch-run_block-requires-in-Varying-2
 run_branch-run_block-requires-in-Varying-2 g t c =
@@ -436,12 +473,15 @@ run_branch-run_block-requires-in-Varying-2 g t c =
     λ κs lives. (
       omega (arith, c.decreases),
       (
-        lives,
+        lives.0,
         (
-          k3.whole,
+          lives.1,
           (
-            ready_kept m record m2 { live = c.without-m.result } (block_of c.args.otherwise.now) k3 c.requires.otherwise,
-            places_kept m record m2 { live = c.without-m.result } (g.L.Illumination.lighting c.args.lights.now) (g.L.Illumination.lighting c.run_block-in-Varying.new.lights) k3 c.run_block-in-Varying.ensures.same c.requires.places,
+            k3.whole,
+            (
+              ready_kept m record m2 { live = c.without-m.result } (block_of c.args.otherwise.now) k3 c.requires.otherwise,
+              places_kept m record m2 { live = c.without-m.result } (g.L.Illumination.lighting c.args.lights.now) (g.L.Illumination.lighting c.run_block-in-Varying.new.lights) k3 c.run_block-in-Varying.ensures.same c.requires.places,
+            ),
           ),
         ),
       ),
@@ -449,7 +489,7 @@ run_branch-run_block-requires-in-Varying-2 g t c =
 
 pub run_branch-returns-then-holds-clause-masked : goal.run_branch-returns-then-holds-clause-masked
 run_branch-returns-then-holds-clause-masked g t c =
-    let ls = (g.L.Illumination.lighting c.args.lights.now).lights in
+    let ls = (beside (g.L.Illumination.lighting c.args.lights.now).lights (g.T.Textures.images c.args.textures.now)) in
     let m = c.args.m.now in
     let r = m.registers.frame.now in
     one_at (lit_ground ls r) r.places r.varying.now r.uniform.now c.args.most c.args.test c.in-Uniform.field-0 c.in-Uniform.field-1 true (block_of c.args.then.now) (block_of c.args.otherwise.now) (state_of m) (state_of c.run_block.new.m) c.in-Uniform.is c.requires.has
@@ -457,7 +497,7 @@ run_branch-returns-then-holds-clause-masked g t c =
 
 pub run_branch-returns-else-holds-clause-masked : goal.run_branch-returns-else-holds-clause-masked
 run_branch-returns-else-holds-clause-masked g t c =
-    let ls = (g.L.Illumination.lighting c.args.lights.now).lights in
+    let ls = (beside (g.L.Illumination.lighting c.args.lights.now).lights (g.T.Textures.images c.args.textures.now)) in
     let m = c.args.m.now in
     let r = m.registers.frame.now in
     one_at (lit_ground ls r) r.places r.varying.now r.uniform.now c.args.most c.args.test c.in-Uniform.field-0 c.in-Uniform.field-1 false (block_of c.args.then.now) (block_of c.args.otherwise.now) (state_of m) (state_of c.run_block-else-holds.new.m) c.in-Uniform.is c.requires.has
@@ -474,7 +514,7 @@ run_branch-returns-in-Varying-clause-kept g t c =
 
 pub run_branch-returns-in-Varying-clause-masked : goal.run_branch-returns-in-Varying-clause-masked
 run_branch-returns-in-Varying-clause-masked g t c =
-    let ls = (g.L.Illumination.lighting c.args.lights.now).lights in
+    let ls = (beside (g.L.Illumination.lighting c.args.lights.now).lights (g.T.Textures.images c.args.textures.now)) in
     let m = c.args.m.now in
     let r = m.registers.frame.now in
     let m1 = record m { live = c.and-m.result } in
@@ -487,7 +527,7 @@ run_branch-returns-in-Varying-clause-masked g t c =
     parts_at (lit_ground ls r) r.places r.varying.now r.uniform.now n c.args.test c.in-Varying.field-0 c.in-Varying.field-1 (block_of c.args.then.now) (block_of c.args.otherwise.now) (state_of m) (state_of m2) (state_of m4)
     (λ i. get_or c.tests-set.result.places i false) (λ i. get_or c.and-m.result.places i false) (λ i. get_or c.without-m.result.places i false) (λ i. get_or c.or-m.result.places i false) c.in-Varying.is c.requires.has c.tests-set.ensures
     c.and-m.ensures c.run_block-in-Varying.ensures.masked c.without-m.ensures
-    (runs_kept ls (g.L.Illumination.lighting c.run_block-in-Varying.new.lights).lights m m3 m4 n (block_of c.args.otherwise.now) k3 (ap (λ s. s.lights) c.run_block-in-Varying.ensures.same) c.run_block-in-Varying-2.ensures.masked) c.or-m.ensures
+    (runs_kept ls (beside (g.L.Illumination.lighting c.run_block-in-Varying.new.lights).lights (g.T.Textures.images c.run_block-in-Varying.new.textures)) m m3 m4 n (block_of c.args.otherwise.now) k3 (beside_same (ap (λ s. s.lights) c.run_block-in-Varying.ensures.same) c.run_block-in-Varying.ensures.images) c.run_block-in-Varying-2.ensures.masked) c.or-m.ensures
 
 pub run_loop-run_block-requires : goal.run_loop-run_block-requires
 run_loop-run_block-requires g t c =
@@ -496,12 +536,15 @@ run_loop-run_block-requires g t c =
     λ κs lives. (
       omega (arith, c.decreases),
       (
-        lives,
+        lives.0,
         (
-          inv.0.0.whole,
+          lives.1,
           (
-            ready_kept m c.loop-turn.m (block_of c.args.ask.now) inv.0.0 c.requires.ask,
-            places_kept m c.loop-turn.m (g.L.Illumination.lighting c.args.lights.now) (g.L.Illumination.lighting c.loop-turn.lights) inv.0.0 inv.0.1 c.requires.places,
+            inv.0.0.whole,
+            (
+              ready_kept m c.loop-turn.m (block_of c.args.ask.now) inv.0.0 c.requires.ask,
+              places_kept m c.loop-turn.m (g.L.Illumination.lighting c.args.lights.now) (g.L.Illumination.lighting c.loop-turn.lights) inv.0.0 inv.0.1.0 c.requires.places,
+            ),
           ),
         ),
       ),
@@ -516,12 +559,15 @@ run_loop-run_block-requires-in-loop-turn g t c =
     λ κs lives. (
       omega (arith, c.decreases),
       (
-        lives,
+        lives.0,
         (
-          k2.whole,
+          lives.1,
           (
-            ready_kept m m2 (block_of c.args.body.now) k2 c.requires.body,
-            places_kept m m2 (g.L.Illumination.lighting c.args.lights.now) (g.L.Illumination.lighting c.run_block.new.lights) k2 (c.run_block.ensures.same ∙ inv.0.1) c.requires.places,
+            k2.whole,
+            (
+              ready_kept m m2 (block_of c.args.body.now) k2 c.requires.body,
+              places_kept m m2 (g.L.Illumination.lighting c.args.lights.now) (g.L.Illumination.lighting c.run_block.new.lights) k2 (c.run_block.ensures.same ∙ inv.0.1.0) c.requires.places,
+            ),
           ),
         ),
       ),
@@ -538,12 +584,15 @@ run_loop-run_block-requires-in-loop-turn-2 g t c =
     λ κs lives. (
       omega (arith, c.decreases),
       (
-        lives,
+        lives.0,
         (
-          k3.whole,
+          lives.1,
           (
-            ready_kept m record m3 { live = m3.staying } (block_of c.args.step.now) k3 c.requires.step,
-            places_kept m record m3 { live = m3.staying } (g.L.Illumination.lighting c.args.lights.now) (g.L.Illumination.lighting c.run_block-in-loop-turn.new.lights) k3 (c.run_block-in-loop-turn.ensures.same ∙ c.run_block.ensures.same ∙ inv.0.1) c.requires.places,
+            k3.whole,
+            (
+              ready_kept m record m3 { live = m3.staying } (block_of c.args.step.now) k3 c.requires.step,
+              places_kept m record m3 { live = m3.staying } (g.L.Illumination.lighting c.args.lights.now) (g.L.Illumination.lighting c.run_block-in-loop-turn.new.lights) k3 (c.run_block-in-loop-turn.ensures.same ∙ c.run_block.ensures.same ∙ inv.0.1.0) c.requires.places,
+            ),
           ),
         ),
       ),
@@ -556,12 +605,15 @@ run_loop-run_block-requires-2 g t c =
     λ κs lives. (
       omega (arith, c.decreases),
       (
-        lives,
+        lives.0,
         (
-          inv.0.0.whole,
+          lives.1,
           (
-            ready_kept m c.loop-turn.m (block_of c.args.ask.now) inv.0.0 c.requires.ask,
-            places_kept m c.loop-turn.m (g.L.Illumination.lighting c.args.lights.now) (g.L.Illumination.lighting c.loop-turn.lights) inv.0.0 inv.0.1 c.requires.places,
+            inv.0.0.whole,
+            (
+              ready_kept m c.loop-turn.m (block_of c.args.ask.now) inv.0.0 c.requires.ask,
+              places_kept m c.loop-turn.m (g.L.Illumination.lighting c.args.lights.now) (g.L.Illumination.lighting c.loop-turn.lights) inv.0.0 inv.0.1.0 c.requires.places,
+            ),
           ),
         ),
       ),
@@ -576,12 +628,15 @@ run_lit-run_block-requires g t c =
     λ κs lives. (
       omega (arith, c.decreases),
       (
-        lives,
+        lives.0,
         (
-          k2.whole,
+          lives.1,
           (
-            ready_kept m m2 (block_of c.args.body.now) k2 c.requires.body,
-            places_kept m m2 (g.L.Illumination.lighting c.args.lights.now) (g.L.Illumination.lighting c.args.lights.now) k2 refl c.requires.places,
+            k2.whole,
+            (
+              ready_kept m m2 (block_of c.args.body.now) k2 c.requires.body,
+              places_kept m m2 (g.L.Illumination.lighting c.args.lights.now) (g.L.Illumination.lighting c.args.lights.now) k2 refl c.requires.places,
+            ),
           ),
         ),
       ),
@@ -598,12 +653,15 @@ run_lights-run_seen-requires g t c =
     λ κs lives. (
       omega (arith, c.decreases),
       (
-        lives,
+        lives.0,
         (
-          c.requires.whole,
+          lives.1,
           (
-            left (has v u c.in-Some.place.now) _ h,
-            (right (has v u c.in-Some.place.now) _ h, (left direction _ given, (left (has v u (name_at names.Cl)) _ (right direction _ given), (c.requires.body, c.requires.places)))),
+            c.requires.whole,
+            (
+              left (has v u c.in-Some.place.now) _ h,
+              (right (has v u c.in-Some.place.now) _ h, (left direction _ given, (left (has v u (name_at names.Cl)) _ (right direction _ given), (c.requires.body, c.requires.places)))),
+            ),
           ),
         ),
       ),
@@ -622,14 +680,17 @@ run_lights-run_lit-requires g t c =
     λ κs lives. (
       omega (arith, c.decreases),
       (
-        lives,
+        lives.0,
         (
-          k1.whole,
+          lives.1,
           (
-            has_kept m m1 (name_at names.L) k1 (left direction _ given),
+            k1.whole,
             (
-              has_kept m m1 lit_at k1 (left (has v u lit_at) _ (right direction _ given)),
-              (ready_kept m m1 (block_of c.args.body.now) k1 c.requires.body, places_kept m m1 (g.L.Illumination.lighting c.args.lights.now) (g.L.Illumination.lighting c.args.lights.now) k1 refl c.requires.places),
+              has_kept m m1 (name_at names.L) k1 (left direction _ given),
+              (
+                has_kept m m1 lit_at k1 (left (has v u lit_at) _ (right direction _ given)),
+                (ready_kept m m1 (block_of c.args.body.now) k1 c.requires.body, places_kept m m1 (g.L.Illumination.lighting c.args.lights.now) (g.L.Illumination.lighting c.args.lights.now) k1 refl c.requires.places),
+              ),
             ),
           ),
         ),
@@ -649,14 +710,17 @@ run_lights-run_lit-requires-in-Solar g t c =
     λ κs lives. (
       omega (arith, c.decreases),
       (
-        lives,
+        lives.0,
         (
-          k1.whole,
+          lives.1,
           (
-            has_kept m m1 (name_at names.L) k1 (left direction _ given),
+            k1.whole,
             (
-              has_kept m m1 lit_at k1 (left (has v u lit_at) _ (right direction _ given)),
-              (ready_kept m m1 (block_of c.args.body.now) k1 c.requires.body, places_kept m m1 (g.L.Illumination.lighting c.args.lights.now) (g.L.Illumination.lighting c.args.lights.now) k1 refl c.requires.places),
+              has_kept m m1 (name_at names.L) k1 (left direction _ given),
+              (
+                has_kept m m1 lit_at k1 (left (has v u lit_at) _ (right direction _ given)),
+                (ready_kept m m1 (block_of c.args.body.now) k1 c.requires.body, places_kept m m1 (g.L.Illumination.lighting c.args.lights.now) (g.L.Illumination.lighting c.args.lights.now) k1 refl c.requires.places),
+              ),
             ),
           ),
         ),
@@ -711,7 +775,7 @@ run_loop-going-going-requires g t c =
 
 pub run_lights-returns-in-Illuminance-clause-masked : goal.run_lights-returns-in-Illuminance-clause-masked
 run_lights-returns-in-Illuminance-clause-masked g t c =
-    let ls = (g.L.Illumination.lighting c.args.lights.now).lights in
+    let ls = (beside (g.L.Illumination.lighting c.args.lights.now).lights (g.T.Textures.images c.args.textures.now)) in
     let m = c.args.m.now in
     let m1 = c.run_seen.new.m in
     let body = block_of c.args.body.now in

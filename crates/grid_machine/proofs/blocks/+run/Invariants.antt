@@ -1,7 +1,7 @@
 use Rattle.std.proofs.Common.{◌≡◌, ◌+◌, ◌-◌, ◌*◌}
 use Rattle.grid_code.specs.Code.{end}
 use Rattle.grid_code.specs.View.{with_node, block_of}
-use Rattle.grid_machine.specs.State.{state_of, lit_ground, Kept}
+use Rattle.grid_machine.specs.State.{beside, state_of, lit_ground, Kept}
 use Rattle.grid_code.proofs.Blocks.{block_size}
 use Rattle.grid_machine.proofs.Nodes.{Running}
 use Rattle.grid_machine.proofs.Masks.{Turning}
@@ -33,16 +33,19 @@ abbrev pub invariant-run_block-loop-node : goal.invariant-run_block-loop-node
 invariant-run_block-loop-node g l =
     let f = l.initial.m.registers.frame.now in
     let ls = g.L.Illumination.lighting l.initial.lights in
-    (Kept l.initial.m l.m × (g.L.Illumination.lighting l.lights ≡ ls)) × Running (lit_ground ls.lights f) f.places f.varying.now f.uniform.now f.setting.texts.now l.most l.block l.node-index (state_of l.initial.m) (state_of l.m)
+    let ps = g.T.Textures.images l.initial.textures in
+    (Kept l.initial.m l.m × ((g.L.Illumination.lighting l.lights ≡ ls) × (g.T.Textures.images l.textures ≡ ps))) × Running (lit_ground (beside ls.lights ps) f) f.places f.varying.now f.uniform.now f.setting.texts.now l.most l.block l.node-index (state_of l.initial.m) (state_of l.m)
 
 abbrev pub invariant-run_loop-loop-turn : goal.invariant-run_loop-loop-turn
 invariant-run_loop-loop-turn g l =
     let f = l.initial.m.registers.frame.now in
     let ls = g.L.Illumination.lighting l.initial.lights in
-    (Kept l.initial.m l.m × (g.L.Illumination.lighting l.lights ≡ ls)) × Turning (lit_ground ls.lights f) l.uniform (block_of l.ask) l.test (block_of l.step) (block_of l.body) f.places f.varying.now f.uniform.now l.most (l.most - l._turn) (state_of l.initial.m) (state_of l.m)
+    let ps = g.T.Textures.images l.initial.textures in
+    (Kept l.initial.m l.m × ((g.L.Illumination.lighting l.lights ≡ ls) × (g.T.Textures.images l.textures ≡ ps))) × Turning (lit_ground (beside ls.lights ps) f) l.uniform (block_of l.ask) l.test (block_of l.step) (block_of l.body) f.places f.varying.now f.uniform.now l.most (l.most - l._turn) (state_of l.initial.m) (state_of l.m)
 
 abbrev pub invariant-run_seen-loop-n : goal.invariant-run_seen-loop-n
 invariant-run_seen-loop-n g l =
     let f = l.initial.m.registers.frame.now in
     let ls = g.L.Illumination.lighting l.initial.lights in
-    (Kept l.initial.m l.m × (g.L.Illumination.lighting l.lights ≡ ls)) × Showing (lit_ground ls.lights f) f.places f.varying.now f.uniform.now l.most l.fn.place l.fn.args (block_of l.body) l.n (state_of l.initial.m) (state_of l.m)
+    let ps = g.T.Textures.images l.initial.textures in
+    (Kept l.initial.m l.m × ((g.L.Illumination.lighting l.lights ≡ ls) × (g.T.Textures.images l.textures ≡ ps))) × Showing (lit_ground (beside ls.lights ps) f) f.places f.varying.now f.uniform.now l.most l.fn.place l.fn.args (block_of l.body) l.n (state_of l.initial.m) (state_of l.m)

@@ -2,7 +2,9 @@ use Rattle.std.proofs.Common.{◌*◌, refl, map, sym, ap, ◌∙◌}
 use Rattle.grid_code.specs.Shapes.{register_shape}
 use Rattle.grid_code.specs.Uses.{has, names_at}
 use Rattle.grid_code.specs.View.{block_of}
+use Rattle.builtins.specs.Textures.{image_named, entry_of}
 use Rattle.place_rows.specs.Layout.{row_length}
+use Rattle.grid_machine.specs.State.{beside, images_of}
 use Rattle.grid_machine.specs.Run.{rows_of, uniform_inputs, varying_inputs, written_names, lines_given}
 use Rattle.grid_machine.proofs.Names.{names_pass, uniforms_pass, varyings_pass, written_pass}
 use Rattle.grid_machine.proofs.Begins.{all_by_frame, known_by_frame, ready_by_frame, ground_by}
@@ -56,5 +58,12 @@ returns-clause-near g c =
     let given = c.args.inputs.now in
     let f = c.args.prepared.now.frame.now in
     let ls = (g.I.Illumination.lighting c.args.lamps.now).lights in
-    let ground_is = ap (λ w. ground_by w f.setting.spaces.now ls) c.requires.prepared.lines ∙ ap (λ s. ground_by (lines_given given.columns given.rows code.params given.uniforms.now) s ls) c.requires.prepared.spaces in
-    near_end ls f c.args.machine.now c.execute.new.self code.kind code.params given.uniforms.now given.varyings.now (block_of code.nodes) _ (given.columns * given.rows) c.requires.frame c.execute.ensures.kept ground_is (f.shape ∙ ap (λ l. l.columns * l.rows) c.requires.prepared.lines) c.execute.ensures.near
+    let ps = g.T.Textures.images c.args.textures.now in
+    let lines = lines_given given.columns given.rows code.params given.uniforms.now in
+    let spaces = given.spaces.now in
+    let ground_is =
+    ap (λ w. ground_by w f.setting.spaces.now ls (images_of f ps)) c.requires.prepared.lines
+    ∙ ap (λ s. ground_by lines s ls (images_of f ps)) c.requires.prepared.spaces
+    ∙ ap (λ ns. ground_by lines spaces ls (λ k. image_named ps (entry_of ns.nodes f.entries.now k))) c.requires.prepared.code.look_ups
+    ∙ ap (λ es. ground_by lines spaces ls (λ k. image_named ps (entry_of code.look_ups.nodes es k))) c.requires.prepared.entries in
+    near_end (beside ls ps) f c.args.machine.now c.execute.new.self code.kind code.params given.uniforms.now given.varyings.now (block_of code.nodes) _ (given.columns * given.rows) c.requires.frame c.execute.ensures.kept ground_is (f.shape ∙ ap (λ l. l.columns * l.rows) c.requires.prepared.lines) c.execute.ensures.near

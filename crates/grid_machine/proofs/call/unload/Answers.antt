@@ -13,5 +13,5 @@ pub returns-clause-values : goal.returns-clause-values
 returns-clause-values g c =
     let code = c.args.code.now in
     let lights = c.args.lights.now in
-    let end = ended code c.args.inputs.now (g.L.Lights.many lights) (g.L.Lights.places lights) (g.L.Lights.codes lights) (g.L.Lights.params lights) in
+    let end = ended (g.T.Textures.images c.args.textures.now) code c.args.inputs.now (g.L.Lights.many lights) (g.L.Lights.places lights) (g.L.Lights.codes lights) (g.L.Lights.params lights) in
     subst (λ p. Leaves code.kind p c.leave.new.out end) c.in_ok-execute_lit.ensures.places (c.leave.ensures.values _ c.in_ok-execute_lit.ensures.near)

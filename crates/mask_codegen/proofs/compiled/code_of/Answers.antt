@@ -1,7 +1,7 @@
 use Rattle.std.proofs.Common.{arith, refl, ◌≡◌, ◌++◌, ◌∙◌, ap, subst, map, true, false}
 use Rattle.sl_ast.specs.TypedView.{local_of}
 use Rattle.sl_ast.specs.TreeView.{tree_of}
-use Rattle.grid_code.specs.Uses.{given_registers}
+use Rattle.grid_code.specs.Uses.{given_registers, is_one_of, looks_within}
 use Rattle.grid_code.specs.Valid.{has_light_statement, is_ambient}
 use Rattle.grid_code.specs.View.{block_of}
 use Rattle.sl_meaning.specs.CoreView.{stmts_of}
@@ -9,6 +9,7 @@ use Rattle.sl_meaning.specs.Lowered.{slots, body_of}
 use Rattle.mask_codegen.specs.Collected.{registers_of, IsSetOf}
 use Rattle.core_codegen.specs.Slots.{slots_of}
 use Rattle.mask_codegen.proofs.CoreLights.{shader_code_lights}
+use Rattle.mask_codegen.proofs.Looking.{code_looks}
 use Rattle.mask_codegen.proofs.Assembled.{emits_settled, emits_stays, emits_fits, params_fit, code_is, means_tree, nodes_placed, nodes_shallow, sets_given, sets_named, sets_few}
 use Rattle.mask_codegen.proofs.compiled.code_of.Goals as goal
 
@@ -63,6 +64,7 @@ invariant_of-result c =
       shallow = nodes_shallow t typed settled ps same nodes code c.args.tree.now.shallow;
       few = omega arith;
       lit = c.is_ambient-ambient.ensures ∙ ap (λ l. is_ambient t.kind (block_of l)) c.deref-7.ensures.value;
+      looked = ap (λ ns. looks_within (is_one_of ns) (block_of nodes)) c.in_ok-look_ups.ensures ∙ code_looks t (slots_of ps) (block_of nodes) typed code;
     }
 
 pub returns : goal.returns
@@ -88,4 +90,5 @@ returns c =
       settled = settled;
       lights = ap has_light_statement code ∙ shader_code_lights (body_of t) (slots_of ps);
       rows = omega arith;
+      look_ups = c.in_ok-look_ups.ensures;
     }

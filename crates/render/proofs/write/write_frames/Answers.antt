@@ -10,8 +10,8 @@ use Rattle.render.proofs.Obeying.{draws-in-part, of-error}
 use Rattle.scene.specs.Scene.{FrameValue}
 use Rattle.shader_binding.specs.Sets.{Fits}
 use Rattle.shader_binding.specs.Bindings.{FitsPrim}
-use Rattle.displace_shade.specs.Shop.{set_value}
-use Rattle.displace_shade.specs.declared.set.ShaderSet.{ShaderSet}
+use Rattle.displace_shade.specs.Shop.{shop_set}
+use Rattle.shader_binding.specs.Sets.{SetValue}
 use Rattle.acceptance.specs.PrimFit.{FitPrims}
 use Rattle.buckets.specs.Pictures.{picture_of}
 use Rattle.buckets.specs.Shopped.{shaded_by}
@@ -19,16 +19,16 @@ use Rattle.render.proofs.write.write_frames.Goals as goal
 
 pub finished-requires-clause-fits : goal.finished-requires-clause-fits
 finished-requires-clause-fits g c =
-    subst (λ (s : ShaderSet). Fits (set_value s) c.args.scene.now.uses) (sym c.loop-index.invariant.set) c.requires.fits
+    subst (λ (s : SetValue). Fits s c.args.scene.now.uses) (sym c.loop-index.invariant.set) c.requires.fits
 
 pub finished-requires-clause-variables : goal.finished-requires-clause-variables
 finished-requires-clause-variables g c =
     let fs = c.frames_in-frames.result.now in
     let f = c.index-frames-index.result in
-    let fit : FrameValue → Type 0 = λ f. All (FitsPrim (set_value c.loop-index.shop.set) c.args.scene.now.uses) f.prims in
+    let fit : FrameValue → Type 0 = λ f. All (FitsPrim (shop_set c.loop-index.shop) c.args.scene.now.uses) f.prims in
     let all : All fit fs =
     subst (λ (fs : List FrameValue). All fit fs) (sym c.frames_in-frames.ensures)
-    (subst (λ (s : ShaderSet). FitPrims (set_value s) c.args.scene.now.uses c.args.scene.now.frames) (sym c.loop-index.invariant.set) c.requires.variables) in
+    (subst (λ (s : SetValue). FitPrims s c.args.scene.now.uses c.args.scene.now.frames) (sym c.loop-index.invariant.set) c.requires.variables) in
     subst fit (sym c.index-frames-index.is) (All-get_or fit fs c.loop-index.index f c.loop-index-test.true all)
 
 pub finished-requires-clause-count : goal.finished-requires-clause-count
@@ -50,9 +50,9 @@ loop-index-preserved g c =
     let first = g.O.FrameSink.written c.args.sink.now in
     let before = g.O.FrameSink.written c.loop-index.sink in
     let behind = g.O.FrameSink.written c.finished.new.sink in
-    let one = subst (λ (s : ShaderSet). Adds (whole (picture_of (record { scene = c.args.scene.now; set = set_value s }) f) ∷ []) before behind) c.loop-index.invariant.set c.in_ok-line.ensures.ok in
+    let one = subst (λ (s : SetValue). Adds (whole (picture_of (record { scene = c.args.scene.now; set = s }) f) ∷ []) before behind) c.loop-index.invariant.set c.in_ok-line.ensures.ok in
     let line : option_map string_bytes c.in_ok-line.line ≡ summary_of c.args.options a f =
-    subst (λ (s : ShaderSet). option_map string_bytes c.in_ok-line.line ≡ summary_of c.args.options (record { scene = c.args.scene.now; set = set_value s }) f) c.loop-index.invariant.set c.in_ok-line.ensures.summary in
+    subst (λ (s : SetValue). option_map string_bytes c.in_ok-line.line ≡ summary_of c.args.options (record { scene = c.args.scene.now; set = s }) f) c.loop-index.invariant.set c.in_ok-line.ensures.summary in
     record {
       closed = c.in_ok-line.ensures.closed;
       added = adds-next (picture_of a) c.frames_in-frames.result.now c.loop-index.index f first before behind c.loop-index-test.true c.index-frames-index.is c.loop-index.invariant.added one;
@@ -73,7 +73,7 @@ returns-in_err-line-clause-err g c =
     let behind = g.O.FrameSink.written c.finished.new.sink in
     let o = c.args.options in
     let fault = c.in_err-line.field-0.0 in
-    let left = subst (λ (s : ShaderSet). LeavesFrame fault (picture_of (record { scene = c.args.scene.now; set = set_value s }) f) before behind) c.loop-index.invariant.set c.in_err-line.ensures.err in
+    let left = subst (λ (s : SetValue). LeavesFrame fault (picture_of (record { scene = c.args.scene.now; set = s }) f) before behind) c.loop-index.invariant.set c.in_err-line.ensures.err in
     of-error c.from_residual.result fault (λ e. DrawsInPart o a e first behind _ _ _ _) c.from_residual.ensures.1
     (draws-in-part o a fault c.frames_in-frames.result.now c.loop-index.index f first before behind _ _ _ _ c.frames_in-frames.ensures c.loop-index-test.true c.index-frames-index.is
     c.loop-index.invariant.added left c.loop-index.invariant.says)

@@ -7,6 +7,7 @@ use Rattle.buckets.specs.declared.limits.Limits.{Limits}
 use Rattle.render.specs.Parts.{part_picture}
 use Rattle.part_files.specs.Parts.{part_name}
 use Rattle.render.proofs.Parting.{as_part, added_as}
+use Rattle.buckets.proofs.Stock.{keeps_stock}
 use Rattle.render.proofs.write_parts.drawn_part.Goals as goal
 
 pub returns-clause-ok : goal.returns-clause-ok
@@ -20,3 +21,6 @@ returns-clause-ok g c =
     let entry : FrameValue → Picture = λ f. record { name = c.deref.result.now; bytes = part_bytes a f c.limits_of-limits.result.bucket c.tag-tag.result (t.part ∷ t.count ∷ []) } in
     added_as c.render_part.result entry s.scene.now.frames s.index f (part_picture t a (record { place = s.index; frame = f })) (g.O.FrameSink.written c.args.sink.now) (g.O.FrameSink.written c.render_part.new.sink)
     s.there (as_part t a f s.index c.limits_of-limits.result.bucket c.tag-tag.result c.deref.result.now name side c.tag-tag.ensures) c.render_part.ensures.ok
+
+pub returns-clause-set : goal.returns-clause-set
+returns-clause-set g c = keeps_stock c.render_part.new.shop c.args.shop.now c.render_part.ensures.set c.render_part.ensures.textures

@@ -1,7 +1,6 @@
 use Rattle.std.proofs.Common.{◌∷◌, [], ◌∙◌, subst, arith}
 use Rattle.outside.specs.Frames.{whole, Adds, AddsPart}
-use Rattle.displace_shade.specs.Shop.{set_value}
-use Rattle.displace_shade.specs.declared.set.ShaderSet.{ShaderSet}
+use Rattle.shader_binding.specs.Sets.{SetValue}
 use Rattle.buckets.specs.Shopped.{shaded_by}
 use Rattle.render.specs.Parts.{part_picture}
 use Rattle.render.proofs.Parting.{next_added, next_in_part, all_added}
@@ -16,7 +15,7 @@ returns-in_err-drawn_part-clause-err g c =
     let z = g.O.FrameSink.written c.drawn_part.new.sink in
     next_in_part c.from_residual.result c.args.task a c.frames_in-frames.result.now c.args.scene.now.frames c.loop-index.index f x y z c.frames_in-frames.ensures c.loop-index-test.true c.index-frames-index.is
     c.loop-index.invariant.added
-    (subst (λ (s : ShaderSet). AddsPart (part_picture c.args.task (record { scene = c.args.scene.now; set = set_value s }) (record { place = c.loop-index.index; frame = f })) y z)
+    (subst (λ (s : SetValue). AddsPart (part_picture c.args.task (record { scene = c.args.scene.now; set = s }) (record { place = c.loop-index.index; frame = f })) y z)
     c.loop-index.invariant.set c.in_err-drawn_part.ensures.err)
 
 pub loop-index-preserved : goal.loop-index-preserved
@@ -26,7 +25,7 @@ loop-index-preserved g c =
     let x = g.O.FrameSink.written c.args.sink.now in
     let y = g.O.FrameSink.written c.loop-index.sink in
     let z = g.O.FrameSink.written c.drawn_part.new.sink in
-    let one = subst (λ (s : ShaderSet). Adds (whole (part_picture c.args.task (record { scene = c.args.scene.now; set = set_value s }) (record { place = c.loop-index.index; frame = f })) ∷ []) y z)
+    let one = subst (λ (s : SetValue). Adds (whole (part_picture c.args.task (record { scene = c.args.scene.now; set = s }) (record { place = c.loop-index.index; frame = f })) ∷ []) y z)
     c.loop-index.invariant.set c.in_ok-drawn_part.ensures.ok in
     record {
       closed = c.in_ok-drawn_part.ensures.closed;

@@ -1,9 +1,9 @@
-use Rattle.std.proofs.Common.{◌≡◌, ◌+◌, [], ◌∷◌, ◌++◌, true, false, Ok, rules, drop, map, arith, ap, sym, subst, ◌∙◌}
+use Rattle.std.proofs.Common.{Bool, ◌≡◌, ◌+◌, [], ◌∷◌, ◌++◌, true, false, Ok, rules, drop, map, arith, ap, sym, subst, ◌∙◌}
 use Rattle.std.proofs.lemmas.List.{map-append}
 use Rattle.sl_ast.specs.Syntax as U
 use Rattle.sl_ast.specs.SyntaxView.{expr_of, link_of}
-use Rattle.sl_expressions.specs.Exprs.{applied, named, prefixed, tripled, converted, typed_expr, typed_args, typed_links, call_of}
-use Rattle.sl_expressions.specs.Found.{◌>>=◌}
+use Rattle.sl_expressions.specs.Exprs.{applied, named, prefixed, tripled, is_call_node, converted, typed_expr, typed_args, typed_links, call_of}
+use Rattle.sl_expressions.specs.Found.{Found, ◌>>=◌}
 use Rattle.sl_expressions.specs.Measures.{size, size_args, size_links}
 use Rattle.sl_expressions.specs.Typed as T
 use Rattle.sl_expressions.specs.TypedView.{typed_of, tlink_of}
@@ -86,10 +86,14 @@ pub expr-returns-in-Typed : goal.expr-returns-in-Typed
 expr-returns-in-Typed t c =
     let g = around_of c.args.g.now in
     let ls = map local_of c.args.scope.now in
+    let of : Bool → Found T.Expr → Found T.Expr = λ call part. converted g.at c.in-Typed.kind c.in-Typed.space call c.in-Typed.line part in
+    let part = typed_expr g true ls (expr_of c.deref-in-Typed.result.now) in
     subst (λ r. Gives typed_of c.converted.result r)
     (sym (ap (λ e. typed_expr g c.args.behind ls (expr_of e)) c.in-Typed.is
-    ∙ ap (λ e. converted g.at c.in-Typed.kind c.in-Typed.space c.in-Typed.line (typed_expr g true ls (expr_of e))) (sym c.deref-in-Typed.ensures)))
-    (c.converted.ensures _ c.expr-part.ensures)
+    ∙ ap (λ e. of (is_call_node (expr_of c.in-Typed.value.value)) (typed_expr g true ls (expr_of e))) (sym c.deref-in-Typed.ensures)
+    ∙ ap (λ e. of (is_call_node (expr_of e)) part) (sym c.deref-in-Typed-2.ensures)
+    ∙ ap (λ call. of call part) (sym c.is_call_node.ensures)))
+    (c.converted.ensures part c.expr-part.ensures)
 
 pub expr-returns-in_ok-first-in-Chain : goal.expr-returns-in_ok-first-in-Chain
 expr-returns-in_ok-first-in-Chain t c =
@@ -122,8 +126,8 @@ expr-returns-in-Call t c =
     let args = ap (λ xs. map expr_of xs) c.as_slice-in-Call-2.ensures in
     subst (λ r. Gives typed_of c.call_of.result r)
     (sym (ap (typed_expr g c.args.behind ls) q
-    ∙ ap (λ xs. call_of g c.args.behind c.in-Call.name c.in-Call.line xs (typed_args g ls (U.exprs (map expr_of c.in-Call.args)))) (listed_all (map expr_of c.in-Call.args) ∙ sym args)
-    ∙ ap (λ r. call_of g c.args.behind c.in-Call.name c.in-Call.line (map expr_of c.as_slice-in-Call-2.result.now) r) (sym same)))
+    ∙ ap (λ xs. call_of g c.args.behind ls c.in-Call.name c.in-Call.line xs (typed_args g ls (U.exprs (map expr_of c.in-Call.args)))) (listed_all (map expr_of c.in-Call.args) ∙ sym args)
+    ∙ ap (λ r. call_of g c.args.behind ls c.in-Call.name c.in-Call.line (map expr_of c.as_slice-in-Call-2.result.now) r) (sym same)))
     (c.call_of.ensures parts c.exprs-parts.ensures)
 
 pub typed_links-returns-in_err-next : goal.typed_links-returns-in_err-next

@@ -8,6 +8,12 @@ use Rattle.sl_types.proofs.Parted.{sized_parts}
 use Rattle.sl_types.proofs.WellFile.{well_typed_tree}
 use Rattle.sl_types.proofs.checking.check.Goals as goal
 
+pub tree-requires-clause-within : goal.tree-requires-clause-within
+tree-requires-clause-within c =
+    let s = shader_of c.args.shader.now in
+    let p = program_of c.in_ok-program.program in
+    (sized_parts s p c.in_ok-program.ensures).1
+
 pub tree-requires-clause-typed : goal.tree-requires-clause-typed
 tree-requires-clause-typed c =
     let s = shader_of c.args.shader.now in

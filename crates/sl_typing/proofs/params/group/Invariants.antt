@@ -7,7 +7,7 @@ use Rattle.sl_typing.proofs.params.group.Given as goal
 
 abbrev pub invariant-loop-d : goal.invariant-loop-d
 invariant-loop-d l = record {
-  same : typed_params (around_of l.g) l.uniform l.kind (map param_of l.params.items) (map declared_of (drop l.d-index l.ds))
-      ≡ typed_params (around_of l.g) l.uniform l.kind (map param_of l.initial.params.items) (map declared_of l.ds);
+  same : typed_params (around_of l.g) l.assigned l.uniform l.kind (map param_of l.params.items) (map declared_of (drop l.d-index l.ds))
+      ≡ typed_params (around_of l.g) l.assigned l.uniform l.kind (map param_of l.initial.params.items) (map declared_of l.ds);
   scope : map local_of l.scope ≡ locals_of (map param_of l.params.items);
 }

@@ -7,7 +7,7 @@ use Rattle.sl_typing.proofs.params.groups.Given as goal
 
 abbrev pub invariant-loop-one : goal.invariant-loop-one
 invariant-loop-one l = record {
-  same : typed_groups (around_of l.g) (map param_of l.params.items) (map group_of (drop l.one-index l.groups))
-      ≡ typed_groups (around_of l.g) (map param_of l.initial.params.items) (map group_of l.groups);
+  same : typed_groups (around_of l.g) l.assigned (map param_of l.params.items) (map group_of (drop l.one-index l.groups))
+      ≡ typed_groups (around_of l.g) l.assigned (map param_of l.initial.params.items) (map group_of l.groups);
   scope : map local_of l.scope ≡ locals_of (map param_of l.params.items);
 }

@@ -3,8 +3,6 @@ use Rattle.std.specs.Prelude.{slice_get}
 use Rattle.outside.proofs.Puts.{on_err}
 use Rattle.bound_split.specs.declared.walk.Leaf.{Leaf}
 use Rattle.bound_split.specs.Extents.{pixels_of}
-use Rattle.displace_shade.specs.Shop.{set_value}
-use Rattle.displace_shade.specs.declared.set.ShaderSet.{ShaderSet}
 use Rattle.grid_epoch.specs.Kept.{points_in}
 use Rattle.scene.specs.Scene.{FrameValue, PrimValue}
 use Rattle.buckets.specs.Pictures.{leaf_in}
@@ -12,6 +10,7 @@ use Rattle.filter_ppm.specs.Bands.{rect_with}
 use Rattle.buckets.specs.TileWalk.{tile_rect}
 use Rattle.buckets.specs.Standing.{Goes, Going, PassesLeaf, next_epoch, to_come}
 use Rattle.buckets.proofs.Going.{goes_next}
+use Rattle.buckets.proofs.Stock.{keeps_stock}
 use Rattle.buckets.proofs.Laws.{lawful}
 use Rattle.buckets.proofs.Passing.{next_there, next_leaf_of, gives_again, some_leaf, fewer, going_again, can_shade}
 use Rattle.buckets.proofs.tile_drawing.TileDrawing.fill.Goals as goal
@@ -41,7 +40,7 @@ pass_leaf-requires g c =
     let n = next_leaf_of e now.at now.tile leaf c.prim_at-prim.result.now behind kept count h going there in (
       c.requires.0,
       (
-        ap (λ (s : ShaderSet). set_value s) c.loop-self.invariant.set ∙ c.requires.1.0,
+        keeps_stock c.loop-self.shop c.args.shop.now c.loop-self.invariant.set c.loop-self.invariant.textures ∙ c.requires.1.0,
         (
           there,
           (
@@ -163,6 +162,7 @@ loop-self-preserved g c =
       rect = c.loop-self.invariant.rect;
       limit = c.pass_leaf.ensures.limit ∙ c.loop-self.invariant.limit;
       set = c.pass_leaf.ensures.set ∙ c.loop-self.invariant.set;
+      textures = c.pass_leaf.ensures.textures ∙ c.loop-self.invariant.textures;
       leaves = c.next-self.ensures.frame ∙ c.pass_leaf.ensures.sights ∙ c.loop-self.invariant.leaves;
       going = goes_next c.next-self.result e now.at c.pass_leaf.new.tile behind new kept' count' (lawful d now.at h) past gives;
     }

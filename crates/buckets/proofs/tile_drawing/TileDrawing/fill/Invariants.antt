@@ -9,6 +9,7 @@ invariant-loop-self g l = record {
   rect : l.self.rect ≡ l.initial.self.rect;
   limit : l.epoch.limit ≡ l.initial.epoch.limit;
   set : l.shop.set ≡ l.initial.shop.set;
+  textures : l.shop.cache.textures ≡ l.initial.shop.cache.textures;
   leaves : l.self.leaves.sights ≡ l.shown.frame.now;
   going : Going g.at_epoch l.self.at l.self.tile l.self.next (to_come l.shown.frame.now l.self.leaves.number l.self.leaves.pieces) l.epoch.kept l.shop.count;
 }

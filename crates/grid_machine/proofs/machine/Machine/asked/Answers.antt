@@ -12,7 +12,10 @@ use Rattle.grid_code.specs.View.{block_of}
 use Rattle.grid_machine.specs.Asked.{begun_at, answer_at}
 use Rattle.grid_machine.specs.Run.{assigned, fresh}
 use Rattle.place_values.specs.Cells.{is_known}
-use Rattle.grid_machine.specs.State.{state_of, lit_ground, ReadyIn}
+use Rattle.grid_machine.specs.State.{beside, state_of, lines_of, lit_ground, ReadyIn}
+use Rattle.grid_code.specs.Valid.{has_light_statement}
+use Rattle.grid_machine.proofs.Begins.{ground_by}
+use Rattle.grid_machine.proofs.LookUps.{no_images}
 use Rattle.grid_machine.proofs.Answering.{answer_near, class_is}
 use Rattle.grid_machine.proofs.Kept.{kept_on, has_kept, ready_kept, runs_kept, written_kept, NearBy, StepsBy}
 use Rattle.grid_machine.proofs.Near.{near_on, write_near}
@@ -101,11 +104,12 @@ returns-clause-each c q e i l =
     let some : 0 < p = let s = f.now.some in omega arith in
     let row : ℕ → Value = λ j. Triple (triple_at c.args.points.now j) in
     let n4 = near_on p v u _ _ _ (write_near p v u (name_at names.Ps) (λ j. Triple (q j)) row g2 (state_of m2) some n2 (λ j b. ap (λ t. Triple t) (e j b))) (written_kept m0 m2 (name_at names.Ps) row (state_of m4) k2 c.set_triples.ensures.near) in
-    let run = subst (λ ns. StepsBy [] f 65536 (block_of ns) (state_of m4) (state_of m5)) c.as_slice.ensures (runs_kept [] [] m0 m4 m5 65536 (block_of c.as_slice.result.now) k4 refl c.run_block.ensures.masked) in
-    let g5 : State = masked (block_of code.nodes) (lit_ground [] f.now) p 65536 (begun_at code.params p values q) in
+    let run = subst (λ ns. StepsBy (beside [] []) f 65536 (block_of ns) (state_of m4) (state_of m5)) c.as_slice.ensures (runs_kept (beside [] []) (beside [] []) m0 m4 m5 65536 (block_of c.as_slice.result.now) k4 refl c.run_block.ensures.masked) in
+    let g5 : State = masked (block_of code.nodes) (lit_ground (beside [] []) f.now) p 65536 (begun_at code.params p values q) in
     let n5 = run (begun_at code.params p values q) n4 in
     let has_all = light_registers_pass _ code.kind c.requires.light.kind c.requires.names in
     subst (IsAnswer c.answer.new.answers i)
     (ap (λ b. answer_at (not b) (state_of m5) i) c.requires.ambient ∙ answer_near p v u g5 (state_of m5) i (not code.ambient) n5 l has_all.0 has_all.1.0 has_all.1.1.0
-    ∙ ap (λ b. answer_at b g5 i) (class_is code.kind (block_of code.nodes) code.ambient c.requires.light.kind code.lit))
+    ∙ ap (λ b. answer_at b g5 i) (class_is code.kind (block_of code.nodes) code.ambient c.requires.light.kind code.lit)
+    ∙ ap (λ im. answer_at (has_light_statement (block_of code.nodes)) (masked (block_of code.nodes) (ground_by (lines_of f.now) f.now.setting.spaces.now [] im) p 65536 (begun_at code.params p values q)) i) (no_images f.now))
     (c.answer.ensures.each i (subst (λ x. i < x.now.places) (sym k5.frame) l))

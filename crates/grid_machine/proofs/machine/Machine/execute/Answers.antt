@@ -6,7 +6,7 @@ use Rattle.grid_code.specs.Masked.{masked, State as Grid}
 use Rattle.grid_code.specs.Uses.{has, names_at}
 use Rattle.grid_code.specs.View.{block_of}
 use Rattle.grid_machine.specs.Run.{uniform_inputs, varying_inputs, assigned, loaded, started, fresh}
-use Rattle.grid_machine.specs.State.{state_of, lit_ground, NearIn, ReadyIn}
+use Rattle.grid_machine.specs.State.{beside, state_of, lit_ground, NearIn, ReadyIn}
 use Rattle.grid_machine.proofs.Kept.{kept_on, ready_kept, places_kept, runs_kept, NearBy, StepsBy}
 use Rattle.grid_machine.proofs.Starts.{row_holds}
 use Rattle.grid_machine.proofs.machine.Machine.execute.Goals as goal
@@ -56,7 +56,7 @@ returns-clause-near t c =
     let m2 = c.load_all.new.self in
     let m3 = c.start.new.self in
     let m4 = c.run_block.new.m in
-    let fs = (t.L.Illumination.lighting c.args.lights.now).lights in
+    let fs = beside (t.L.Illumination.lighting c.args.lights.now).lights (t.T.Textures.images c.args.textures.now) in
     let f = m0.registers.frame.now in
     let p = f.places in
     let kind = c.args.code.now.kind in

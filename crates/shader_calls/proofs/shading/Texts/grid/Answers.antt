@@ -2,9 +2,10 @@ use Rattle.std.proofs.Common.{◌≡◌, ℕ, List, subst, sym, slice_get, Some,
 use Rattle.std.proofs.lemmas.List.Elements.{All-get_or}
 use Rattle.std.proofs.lemmas.Option.{get_or_from_slice_get, slice_get_within}
 use Rattle.scene.specs.Scene.{FrameValue}
+use Rattle.shader_binding.specs.Sets.{SetValue}
 use Rattle.shader_binding.specs.Bindings.{FitsPrim}
 use Rattle.displace_shade.specs.Shop.{set_value}
-use Rattle.displace_shade.specs.declared.set.ShaderSet.{ShaderSet}
+use Rattle.render.proofs.Shopping.{shop_is}
 use Rattle.shader_calls.proofs.shading.Texts.grid.Goals as goal
 
 -- what holds of all items of a list holds of the one at a place
@@ -13,7 +14,9 @@ item_of P xs n x a e = subst P (get_or_from_slice_get xs n x x e) (All-get_or P 
 
 -- src/shading.rt:62:12
 pub shade-requires-clause-variables : goal.shade-requires-clause-variables
-shade-requires-clause-variables c = λ f prim at at_prim.
-    subst (λ (s : ShaderSet). FitsPrim (set_value s) c.in-Ok.field-0.scene.uses prim) (sym c.new-shop.ensures.set)
-    (item_of (FitsPrim (set_value c.in-Ok.field-0.set) c.in-Ok.field-0.scene.uses) f.prims c.args.piece.now.prim prim
-    (item_of (λ (g : FrameValue). All (FitsPrim (set_value c.in-Ok.field-0.set) c.in-Ok.field-0.scene.uses) g.prims) c.in-Ok.field-0.scene.frames 0 f c.in-Ok.ensures.variables at) at_prim)
+shade-requires-clause-variables c =
+    let accepted = c.in-Ok.field-0 in
+    let is = shop_is c.in_ok-shop.shop accepted.set c.as_slice-2.result.now accepted.textures c.in_ok-shop.ensures.set c.in_ok-shop.ensures.textures c.as_slice-2.ensures in
+    λ f prim at at_prim. subst (λ (s : SetValue). FitsPrim s accepted.scene.uses prim) (sym is)
+    (item_of (FitsPrim (set_value accepted.set accepted.textures) accepted.scene.uses) f.prims c.args.piece.now.prim prim
+    (item_of (λ (g : FrameValue). All (FitsPrim (set_value accepted.set accepted.textures) accepted.scene.uses) g.prims) accepted.scene.frames 0 f c.in-Ok.ensures.variables at) at_prim)
