@@ -15,7 +15,7 @@ use Rattle.acceptance.specs.declared.refusal.Refusal.TheVariants.{Missing, At, R
 use Rattle.acceptance.specs.declared.refusal.FileId.TheVariants.{Texture}
 use Rattle.acceptance.specs.declared.code.FaultCode.TheVariants.{M10, M12}
 use Rattle.acceptance.specs.Causes as causes
-use Rattle.acceptance.specs.Causes.{Cause, Reads, cause_in}
+use Rattle.acceptance.specs.Causes.{Reads, cause_in}
 use Rattle.acceptance.specs.ImageFiles.{reading}
 use Rattle.acceptance.specs.Textures.{most_texture_bytes, image_of_reading, image_of_held, samples_of, with_image, image_behind, images_from, images_behind, images_of, textures_from, asked_behind, textures_asked}
 use Rattle.acceptance.specs.Answers.{Because, Gives, as_it_is}

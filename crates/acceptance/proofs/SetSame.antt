@@ -18,7 +18,7 @@ use Rattle.acceptance.specs.declared.read.ReadShader.{ReadShader}
 use Rattle.acceptance.specs.declared.shaders.UsedShaders.{UsedShaders}
 use Rattle.acceptance.specs.Shaders.{shader_tree, without, distinct, use_name, shader_names}
 use Rattle.acceptance.specs.Places.{place_or, place_in}
-use Rattle.acceptance.specs.Set.{tree_in, trees_of, values_in, names_in, names_of_uses, textures_named, set_of}
+use Rattle.acceptance.specs.Set.{tree_in, trees_of, values_in, names_in, names_of_uses, set_of}
 use Rattle.acceptance.specs.Reading.{name_of, tree_read, named_use, is_among, IsReadOf, ArePlaced, values_with, values_at, all_values, names_read, set_read}
 use Rattle.acceptance.proofs.Names.{itself}
 use Rattle.acceptance.proofs.Places.{among_placed}

@@ -1,5 +1,5 @@
 -- The look-ups of a scene's uses, and the set that is made with what they name.
-use Rattle.std.proofs.Common.{◌≡◌, ℕ, zero, suc, ◌+◌, ◌<◌, List, [], ◌∷◌, length, map, get_or, Option, Some, All, refl, sym, ap, ◌∙◌, arith}
+use Rattle.std.proofs.Common.{◌≡◌, ℕ, zero, suc, ◌<◌, List, [], ◌∷◌, length, map, get_or, Option, Some, refl, sym, ap, ◌∙◌, arith}
 use Rattle.std.specs.Prelude.{slice_get}
 use Rattle.std.specs.Option.{option_map}
 use Rattle.std.proofs.lemmas.Option.{slice_get-map, slice_get-get_or}
@@ -16,7 +16,7 @@ use Rattle.acceptance.specs.declared.read.ReadShader.{ReadShader}
 use Rattle.acceptance.specs.declared.shaders.UsedShaders.{UsedShaders}
 use Rattle.acceptance.specs.declared.textures.UsedTextures.{UsedTextures}
 use Rattle.acceptance.specs.Textures.{ArePlaces, name_with, names_with, names_at, all_names, texture_names, entries_in}
-use Rattle.acceptance.specs.Reading.{name_of, tree_read, named_use, ArePlaced, all_values, values_at, names_read, set_read}
+use Rattle.acceptance.specs.Reading.{name_of, tree_read, named_use, ArePlaced, all_values, names_read, set_read}
 use Rattle.acceptance.proofs.Places.{as_many, within}
 
 -- ---- places of shaders

@@ -11,7 +11,7 @@ use Rattle.sl_expression_grammar.specs.declared.fault.SlCode.TheVariants as gram
 use Rattle.sl_expressions.specs.declared.faults.TypeCode.{TypeCode}
 use Rattle.sl_expressions.specs.declared.faults.TypeCode.TheVariants as types
 use Rattle.acceptance.specs.declared.code.FaultCode.{FaultCode}
-use Rattle.acceptance.specs.declared.code.FaultCode.TheVariants.{L1, L2, L3, L4, S1, S2, S3, S4, S5, N1, N2, N3, N4, N5, P1, P2, P3, T1, T2, T3, T4, T5, T6, T7, T8, T9, T10, T11, B1, B2, B3, G1, G2, G3, G4, G5, M1, M2, M3, M4, M5, M6, M7, M8, M9, M10, M11, M12, X1}
+use Rattle.acceptance.specs.declared.code.FaultCode.TheVariants.{L1, L2, L3, L4, S1, S2, S3, S4, S5, N1, N2, N3, N4, N5, N6, N7, P1, P2, P3, T1, T2, T3, T4, T5, T6, T7, T8, T9, T10, T11, B1, B2, B3, G1, G2, G3, G4, G5, M1, M2, M3, M4, M5, M6, M7, M8, M9, M10, M11, M12, X1}
 
 abbrev pub code_text : FaultCode → List ℕ
 code_text L1 = codes "L1"
@@ -28,6 +28,8 @@ code_text N2 = codes "N2"
 code_text N3 = codes "N3"
 code_text N4 = codes "N4"
 code_text N5 = codes "N5"
+code_text N6 = codes "N6"
+code_text N7 = codes "N7"
 code_text P1 = codes "P1"
 code_text P2 = codes "P2"
 code_text P3 = codes "P3"
@@ -80,6 +82,8 @@ status_of_code N2 = 3
 status_of_code N3 = 3
 status_of_code N4 = 3
 status_of_code N5 = 3
+status_of_code N6 = 3
+status_of_code N7 = 3
 status_of_code P1 = 3
 status_of_code P2 = 3
 status_of_code P3 = 3
@@ -135,6 +139,8 @@ of_state state.N2 = N2
 of_state state.N3 = N3
 of_state state.N4 = N4
 of_state state.N5 = N5
+of_state state.N6 = N6
+of_state state.N7 = N7
 of_state state.G1 = G1
 of_state state.G2 = G2
 of_state state.G3 = G3

@@ -10,7 +10,7 @@ use Rattle.sl_ast.specs.Textures.{texture_nodes}
 use Rattle.sl_ast.specs.Typed.{Expr, word, variable, Tree}
 use Rattle.acceptance.specs.declared.code.FaultCode.TheVariants.{M10, M11, M12, X1}
 use Rattle.acceptance.specs.declared.refusal.FileId.TheVariants.{Texture}
-use Rattle.acceptance.specs.Causes.{Cause, Missing, At, Reads, cause_in}
+use Rattle.acceptance.specs.Causes.{Missing, At, Reads}
 use Rattle.acceptance.specs.ImageFiles.{Reading, NoFile, TooLarge, Form, reading}
 use Rattle.acceptance.specs.Shaders.{distinct}
 use Rattle.acceptance.specs.Places.{place_in}

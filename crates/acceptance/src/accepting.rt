@@ -2,7 +2,6 @@
 ghost use Rattle.std.specs.Prelude.{◌≡◌, ◌≤◌, IsErrOf, IfOk, OnOk, All, length, map};
 ghost use Rattle.outside.specs.Causes.{Rose, Told};
 ghost use Rattle.outside.specs.Asked.{AsksAll, AsksFront};
-ghost use Rattle.rib_lex.specs.Tokens.{tokens_of};
 ghost use Rattle.rib_reader.specs.Reading.{plain, requests_of};
 ghost use Rattle.scene_state.specs.Steps.{scene_of};
 ghost use Rattle.acceptance.specs.Accepting.{scene_of_state, scene_of_requests, scene_of_text, accepted, asked_for_scene};

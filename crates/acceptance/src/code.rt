@@ -41,6 +41,10 @@ pub enum FaultCode {
     N4,
     /// A primitive outside a world.
     N5,
+    /// A request that can't stand in its place of a motion block, or the end of a motion block outside one.
+    N6,
+    /// A primitive under motions between different times.
+    N7,
     /// No token of a shader's text begins here.
     P1,
     /// No text of the Shading Language's grammar goes on with this token, or ends here.
@@ -133,6 +137,8 @@ impl FaultCode {
             FaultCode::N3 => "N3",
             FaultCode::N4 => "N4",
             FaultCode::N5 => "N5",
+            FaultCode::N6 => "N6",
+            FaultCode::N7 => "N7",
             FaultCode::P1 => "P1",
             FaultCode::P2 => "P2",
             FaultCode::P3 => "P3",
@@ -180,7 +186,13 @@ impl FaultCode {
         match self {
             FaultCode::L1 | FaultCode::L2 | FaultCode::L3 | FaultCode::L4 => 3,
             FaultCode::S1 | FaultCode::S2 | FaultCode::S3 | FaultCode::S4 | FaultCode::S5 => 3,
-            FaultCode::N1 | FaultCode::N2 | FaultCode::N3 | FaultCode::N4 | FaultCode::N5 => 3,
+            FaultCode::N1
+            | FaultCode::N2
+            | FaultCode::N3
+            | FaultCode::N4
+            | FaultCode::N5
+            | FaultCode::N6
+            | FaultCode::N7 => 3,
             FaultCode::P1 | FaultCode::P2 | FaultCode::P3 => 3,
             FaultCode::T1
             | FaultCode::T2
@@ -248,6 +260,8 @@ pub fn of_state(code: StateCode) -> FaultCode
         StateCode::N3 => FaultCode::N3,
         StateCode::N4 => FaultCode::N4,
         StateCode::N5 => FaultCode::N5,
+        StateCode::N6 => FaultCode::N6,
+        StateCode::N7 => FaultCode::N7,
         StateCode::G1 => FaultCode::G1,
         StateCode::G2 => FaultCode::G2,
         StateCode::G3 => FaultCode::G3,

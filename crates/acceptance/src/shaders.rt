@@ -1,6 +1,5 @@
 // The shaders of a scene, from a library or the stock.
 ghost use Rattle.std.specs.Prelude.{◌≡◌, ◌≤◌, ◌∷◌, ◌++◌, [], IsErrOf, OnOk, OnErr, IfOk, Some, None, map, length, option_map, true, false, slice_get};
-ghost use Rattle.std.specs.Str.{IsAscii};
 ghost use Rattle.outside.specs.Causes.{Rose, Told};
 ghost use Rattle.outside.specs.Library.{held_as};
 ghost use Rattle.outside.specs.Asked.{AsksAll, AsksFront};

@@ -1,6 +1,6 @@
 -- Nothing of a leaf shows at the samples of a rectangle of pixels that it doesn't meet, and what shows of it anywhere is no nearer than
 -- the box of its part, widened by the bound.
-use Rattle.std.proofs.Common.{◌≡◌, ℕ, zero, suc, ◌+◌, ◌-◌, ◌*◌, ◌/◌, ◌%◌, ◌<◌, ◌≤◌, arith, refl, ◌∙◌, ap, Bool, true, false, ◌&&◌, List, [], ◌∷◌, All, map, Option, Some, None, get_or, ⊎_elim}
+use Rattle.std.proofs.Common.{◌≡◌, ℕ, zero, suc, ◌+◌, ◌-◌, ◌*◌, ◌/◌, ◌%◌, ◌<◌, ◌≤◌, arith, refl, ◌∙◌, ap, Bool, true, false, ◌&&◌, List, [], ◌∷◌, map, Option, Some, None, ⊎_elim}
 use Rattle.std.specs.Prelude.{ℤ, pos, ◌≤ℤ◌, ◌<ℤ◌, int_lt, int_le}
 use Rattle.std.specs.List.{range_with_len, filter_map, cons_option}
 use Rattle.std.specs.Option.{option_and_then}
@@ -9,13 +9,13 @@ use Rattle.std.proofs.lemmas.Int.{ints}
 use Rattle.std.proofs.Math.Nat.{mod-lt, div-lt_iff_lt-mul, mul_comm}
 use Rattle.fixed_math.specs.declared.vec3.Vec3.{Vec3}
 use Rattle.fixed_math.specs.declared.vec3.Axis.TheVariants.{Z}
-use Rattle.fixed_math.specs.Axes.{origin, IsInBox}
+use Rattle.fixed_math.specs.Axes.{IsInBox}
 use Rattle.fixed_math.specs.Spots.{Spot, PixelRect, pixel_x, pixel_y, pixel_count}
-use Rattle.patches.specs.Boxes.{Box}
+use Rattle.patches.specs.Boxes.{Box, Holds}
 use Rattle.patches.specs.Lists.{Each}
 use Rattle.patches.specs.ListLaws.{Each-weaken}
 use Rattle.patches.specs.Parts.{Part, IsPart, rect_of}
-use Rattle.quadrics.specs.AnyPatches.{patch_box, patch_net, patch_width}
+use Rattle.quadrics.specs.AnyPatches.{patch_net, patch_width}
 use Rattle.transforms.specs.declared.view.View.{View}
 use Rattle.transforms.specs.Field.{IsView}
 use Rattle.transforms.specs.Raster.{raster_x, raster_y, raster_box, side, HoldsPlaces}
@@ -28,24 +28,28 @@ use Rattle.bound_split.proofs.Fitting.{decision-fits}
 use Rattle.bound_split.proofs.Meetings.{by_bool, by_reach}
 use Rattle.scene.specs.Scene.{PrimValue, FrameValue}
 use Rattle.shader_binding.specs.Sets.{AcceptedValue}
-use Rattle.displace_shade.specs.Shaded.{shaded}
+use Rattle.grid_variables.specs.Points.{Leaf}
+use Rattle.grid_variables.specs.Closings.{closing_of}
+use Rattle.displace_shade.specs.Shaded.{GridValue, shaded}
 use Rattle.displace_shade.specs.Shop.{leaf_of}
 use Rattle.hider.specs.declared.cell.CellCorner.{CellCorner}
 use Rattle.hider.specs.declared.cell.Cell.{Cell}
 use Rattle.hider.specs.declared.fragment.Fragment.{Fragment}
 use Rattle.hider.specs.declared.quad.Quad.{Quad}
 use Rattle.hider.specs.declared.sample.Sample.{Sample}
-use Rattle.hider.specs.Cells.{Micropolygon, still, first_corner, cell_at, corner_of, projected, is_in_depth, is_all_in_depth, is_turned_away, turn, quad_of}
+use Rattle.hider.specs.Cells.{Micropolygon, first_corner, corner_of, projected, is_in_depth, is_all_in_depth, is_turned_away, turn, quad_of}
+use Rattle.hider.specs.CellValues.{cell_when, micropolygon_of}
 use Rattle.hider.specs.Coverage.{covers}
 use Rattle.hider.specs.Fragments.{fragment_of, covering}
 use Rattle.hider.specs.Samples.{sample_in}
 use Rattle.hider.proofs.Grids.{corner_inside}
 use Rattle.hider.proofs.Outside.{IsQuadSeen, covered_seen}
-use Rattle.hider.proofs.Pixels.{sample_inside}
+use Rattle.hider.proofs.Pixels.{sample_inside, sample_time}
 use Rattle.hider.proofs.Sights.{all_in_depth}
+use Rattle.moving_cells.specs.MovingGrids.{point_when, moving_values}
 use Rattle.buckets.specs.Culled.{leaf_meets, leaf_nearest, IsShadedPrim}
-use Rattle.buckets.specs.Pictures.{decide, diced_cells, leaf_cells, leaf_micropolygons}
-use Rattle.buckets.proofs.ShadedPlaces.{shaded_wide, shaded_tall, shaded_in}
+use Rattle.buckets.specs.Pictures.{decide, prim_box, grid_micropolygons, diced_micropolygons, micropolygons_by, leaf_micropolygons}
+use Rattle.buckets.proofs.ShadedPlaces.{shaded_wide, shaded_tall, shaded_few, shaded_in}
 
 -- ---- what is seen of a cell in a box
 -- all corners of a cell lie in a box
@@ -100,10 +104,11 @@ seen_shows v one_sided flip k f g e shown =
     (λ t. shown d (rw (d, t) at e)))
     (λ d. let p : none ≡ Some g = rw d at e in absurd (cc))
 
-cell_shows : (v : View) (lo hi : Vec3) (one_sided flip : Bool) (k : Cell) (s : Sample) (g : Fragment) → LiesIn lo hi k → fragment_of v s (still one_sided flip k) ≡ Some g → ShowsIn v lo hi s.place g
+cell_shows : (v : View) (lo hi : Vec3) (m : Micropolygon) (s : Sample) (g : Fragment) → LiesIn lo hi (m.corners s.time) → fragment_of v s m ≡ Some g → ShowsIn v lo hi s.place g
 unfolding fragment_of
-cell_shows v lo hi one_sided flip k s g i e =
-    seen_shows v one_sided flip k (λ q. covers q s.place) g e (λ depth covered. quad_shows v lo hi k s.place g i depth (covered_seen (projected v k) s.place g covered))
+cell_shows v lo hi m s g i e =
+    let k = m.corners s.time in
+    seen_shows v m.one_sided m.flip k (λ q. covers q s.place) g e (λ depth covered. quad_shows v lo hi k s.place g i depth (covered_seen (projected v k) s.place g covered))
 
 -- ---- samples of a rectangle of pixels
 record IsSampleIn (r : PixelRect) (s : Spot) : Type 0 where
@@ -157,11 +162,11 @@ shown_reaches v w b r s g i at =
         let y = overlapping (side 1 0 box) (side 1 1 box) s.y r.top r.bottom (i.top (side 1 0 box) (λ p h. (holds p h).2)) (i.bottom (side 1 1 box) (λ p h. (holds p h).3)) at.top at.bottom in
         ap (λ c. c && overlaps (side 1 0 box) (side 1 1 box) r.top r.bottom) x ∙ y
 
--- ---- what shows of the cells of a grid whose points lie in a box
-cell_in : (smooth : Bool) (columns rows i : ℕ) (points colours opacities : List Vec3) (lo hi : Vec3) → 2 ≤ columns → 2 ≤ rows → i < (columns - 1) * (rows - 1) → ((n : ℕ) → n < columns * rows → IsInBox lo hi (get_or points n origin)) →
-    LiesIn lo hi (cell_at smooth columns points colours opacities i)
-unfolding cell_at
-cell_in smooth columns rows i points colours opacities lo hi hc hr h all =
+-- ---- the cells of a grid whose points lie in a box at a time
+cell_in : (smooth : Bool) (columns rows i t : ℕ) (points colours opacities : List Vec3) (closing : Option (List Vec3)) (lo hi : Vec3) → 2 ≤ columns → 2 ≤ rows → i < (columns - 1) * (rows - 1) →
+    ((n : ℕ) → n < columns * rows → IsInBox lo hi (point_when closing points n t)) → LiesIn lo hi (cell_when (moving_values smooth columns rows points colours opacities closing) i t)
+unfolding cell_when
+cell_in smooth columns rows i t points colours opacities closing lo hi hc hr h all =
     let most = corner_inside columns rows i hc hr h in
     let n = first_corner columns i in
     record { a = all n (omega (arith, most)); b = all (n + 1) (omega (arith, most, hc)); c = all (n + columns + 1) most; d = all (n + columns) (omega (arith, most)) }
@@ -171,44 +176,46 @@ given_then : (P : Fragment → Type 0) (o : Option Fragment) (rest : List Fragme
 given_then P None rest h e = e
 given_then P (Some g) rest h e = (h g refl, e)
 
--- each fragment that cells give has what each of a cell has
-each_given : (P : Fragment → Type 0) (f : Micropolygon → Option Fragment) (m : Cell → Micropolygon) (k : ℕ → Cell) (from n : ℕ) → ((i : ℕ) (g : Fragment) → i < from + n → f (m (k i)) ≡ Some g → P g) →
-    Each P (filter_map f (map m (map k (range_with_len from n))))
-each_given P f m k from zero h = tt
-each_given P f m k from (suc n) h =
-    given_then P (f (m (k from))) (filter_map f (map m (map k (range_with_len (from + 1) n)))) (λ g e. h from g (omega arith) e)
-    (each_given P f m k (from + 1) n (λ i g u. h i g (omega (arith, u))))
+-- each fragment that micropolygons give has what each of one of them has
+each_given : (P : Fragment → Type 0) (f : Micropolygon → Option Fragment) (m : ℕ → Micropolygon) (from n : ℕ) → ((i : ℕ) (g : Fragment) → i < from + n → f (m i) ≡ Some g → P g) → Each P (filter_map f (map m (range_with_len from n)))
+each_given P f m from zero h = tt
+each_given P f m from (suc n) h =
+    given_then P (f (m from)) (filter_map f (map m (range_with_len (from + 1) n))) (λ g e. h from g (omega arith) e) (each_given P f m (from + 1) n (λ i g u. h i g (omega (arith, u))))
 
 -- what shows of a primitive's leaf is seen of something in the box of its part, widened by the primitive's bound
 abbrev leaf_box : PrimValue → Part → Box
-leaf_box prim part = widened prim.bound (patch_box prim.patch (rect_of part))
+leaf_box prim part = widened prim.bound (prim_box prim (rect_of part))
 
 abbrev LeafShows : FrameValue → PrimValue → Part → Sample → Fragment → Type 0
 LeafShows f prim part s g = ShowsIn f.camera (leaf_box prim part).low (leaf_box prim part).high s.place g
 
-diced_shows : (a : AcceptedValue) (f : FrameValue) (prim : PrimValue) (part : Part) (p q : ℕ) (s : Sample) → IsShadedPrim a f prim → IsPart part → p ≤ 4 → q ≤ 4 →
-    Each (LeafShows f prim part s) (filter_map (fragment_of f.camera s) (map (still prim.one_sided prim.flip) (diced_cells a f prim part p q)))
-unfolding diced_cells
-diced_shows a f prim part p q s is part_is hp hq =
-    let l = leaf_of f prim part p q in
-    let g = shaded l a.set a.scene.uses in
+-- of the cells of a grid whose points lie in the box at the sample's time
+grid_shows : (f : FrameValue) (prim : PrimValue) (part : Part) (g : GridValue) (closing : Option (List Vec3)) (s : Sample) → 2 ≤ g.columns → 2 ≤ g.rows →
+    ((n : ℕ) → n < g.columns * g.rows → Holds (leaf_box prim part) (point_when closing g.points n s.time)) → Each (LeafShows f prim part s) (filter_map (fragment_of f.camera s) (grid_micropolygons prim g closing))
+grid_shows f prim part g closing s wide tall inside =
     let b = leaf_box prim part in
-    let wide = shaded_wide l a.set a.scene.uses in
-    let tall = shaded_tall l a.set a.scene.uses in
-    each_given (LeafShows f prim part s) (fragment_of f.camera s) (still prim.one_sided prim.flip) (cell_at prim.smooth g.columns g.points g.colours g.opacities) 0 ((g.columns - 1) * (g.rows - 1))
-    (λ i h lt e. cell_shows f.camera b.low b.high prim.one_sided prim.flip (cell_at prim.smooth g.columns g.points g.colours g.opacities i) s h
-    (cell_in prim.smooth g.columns g.rows i g.points g.colours g.opacities b.low b.high wide tall (omega (arith, lt)) (shaded_in a f prim part p q is part_is hp hq)) e)
+    let m = micropolygon_of (moving_values prim.smooth g.columns g.rows g.points g.colours g.opacities closing) prim.one_sided prim.flip in
+    each_given (LeafShows f prim part s) (fragment_of f.camera s) m 0 ((g.columns - 1) * (g.rows - 1))
+    (λ i h lt e. cell_shows f.camera b.low b.high (m i) s h (cell_in prim.smooth g.columns g.rows i s.time g.points g.colours g.opacities closing b.low b.high wide tall (omega (arith, lt)) inside) e)
 
-by_decision_shows : (a : AcceptedValue) (f : FrameValue) (prim : PrimValue) (part : Part) (d : Decision) (s : Sample) → IsShadedPrim a f prim → IsPart part → FitsPart d part →
-    Each (LeafShows f prim part s) (filter_map (fragment_of f.camera s) (map (still prim.one_sided prim.flip) (leaf_cells a f prim part d)))
-by_decision_shows a f prim part SplitU s is part_is fits = tt
-by_decision_shows a f prim part SplitV s is part_is fits = tt
-by_decision_shows a f prim part (Dice p q) s is part_is fits = diced_shows a f prim part p q s is part_is fits.0 fits.1
+diced_shows : (a : AcceptedValue) (f : FrameValue) (l : Leaf) (s : Sample) → IsShadedPrim a f l.prim → IsPart l.part → l.p ≤ 4 → l.q ≤ 4 → s.time ≤ 65536 →
+    Each (LeafShows f l.prim l.part s) (filter_map (fragment_of f.camera s) (diced_micropolygons a l))
+unfolding diced_micropolygons
+diced_shows a f l s is part_is hp hq time =
+    let g = shaded l a.set a.scene.uses in
+    grid_shows f l.prim l.part g (closing_of l g.points) s (shaded_wide l a.set a.scene.uses) (shaded_tall l a.set a.scene.uses)
+    (λ n h. shaded_in a f l s.time n is part_is hp hq time (shaded_few l a.set a.scene.uses n h))
 
-leaf_shows : (a : AcceptedValue) (f : FrameValue) (prim : PrimValue) (part : Part) (s : Sample) → IsShadedPrim a f prim → IsPart part → Each (LeafShows f prim part s) (covering f.camera (leaf_micropolygons a f prim part) s)
+by_decision_shows : (a : AcceptedValue) (f : FrameValue) (prim : PrimValue) (part : Part) (d : Decision) (s : Sample) → IsShadedPrim a f prim → IsPart part → FitsPart d part → s.time ≤ 65536 →
+    Each (LeafShows f prim part s) (filter_map (fragment_of f.camera s) (micropolygons_by a f prim part d))
+by_decision_shows a f prim part SplitU s is part_is fits time = tt
+by_decision_shows a f prim part SplitV s is part_is fits time = tt
+by_decision_shows a f prim part (Dice p q) s is part_is fits time = diced_shows a f (leaf_of f prim part p q) s is part_is fits.0 fits.1 time
+
+leaf_shows : (a : AcceptedValue) (f : FrameValue) (prim : PrimValue) (part : Part) (s : Sample) → IsShadedPrim a f prim → IsPart part → s.time ≤ 65536 → Each (LeafShows f prim part s) (covering f.camera (leaf_micropolygons a f prim part) s)
 unfolding leaf_micropolygons
-leaf_shows a f prim part s is part_is =
-    by_decision_shows a f prim part (decide f.camera prim part) s is part_is (decision-fits f.camera prim.rate prim.bound (patch_width prim.patch) (patch_net prim.patch (rect_of part)) part)
+leaf_shows a f prim part s is part_is time =
+    by_decision_shows a f prim part (decide f.camera prim part) s is part_is (decision-fits f.camera prim.rate prim.bound (patch_width prim.patch) (patch_net prim.patch (rect_of part)) part) time
 
 none_of : (P : Fragment → Type 0) (fs : List Fragment) → ((g : Fragment) → P g → ⊥) → Each P fs → fs ≡ []
 none_of P [] never e = refl
@@ -217,6 +224,9 @@ none_of P (g ∷ fs) never e = absurd (never g e.0)
 unlike : (b : Bool) → b ≡ true → b ≡ false → ⊥
 unlike b t f = cc
 
+in_interval : (t : ℕ) → t ≤ 65535 → t ≤ 65536
+in_interval t h = omega (arith, h)
+
 -- ---- the two laws
 -- a leaf that doesn't meet a rectangle of pixels covers none of its samples
 pub left_out : (a : AcceptedValue) (f : FrameValue) (prim : PrimValue) (part : Part) (r : PixelRect) (xs ys n : ℕ) → IsShadedPrim a f prim → IsPart part → leaf_meets f prim r part ≡ false → n < pixel_count r * (xs * ys) →
@@ -224,20 +234,12 @@ pub left_out : (a : AcceptedValue) (f : FrameValue) (prim : PrimValue) (part : P
 left_out a f prim part r xs ys n is part_is misses h =
     let s = sample_in xs ys r n in
     none_of (LeafShows f prim part s) (covering f.camera (leaf_micropolygons a f prim part) s)
-    (λ g shows. unlike (leaf_meets f prim r part) (shown_reaches f.camera is.view (leaf_box prim part) r s.place g shows (sample_is_in xs ys r n h)) misses) (leaf_shows a f prim part s is part_is)
+    (λ g shows. unlike (leaf_meets f prim r part) (shown_reaches f.camera is.view (leaf_box prim part) r s.place g shows (sample_is_in xs ys r n h)) misses)
+    (leaf_shows a f prim part s is part_is (in_interval s.time (sample_time xs ys r n)))
 
 -- what covers a sample of a leaf is no nearer than the least depth of its box, less the bound
-pub no_nearer : (a : AcceptedValue) (f : FrameValue) (prim : PrimValue) (part : Part) (s : Sample) → IsShadedPrim a f prim → IsPart part →
+pub no_nearer : (a : AcceptedValue) (f : FrameValue) (prim : PrimValue) (part : Part) (s : Sample) → IsShadedPrim a f prim → IsPart part → s.time ≤ 65535 →
     Each (λ g. leaf_nearest f prim part ≤ℤ g.depth) (covering f.camera (leaf_micropolygons a f prim part) s)
-no_nearer a f prim part s is part_is =
-    Each-weaken (LeafShows f prim part s) (λ g. leaf_nearest f prim part ≤ℤ g.depth) (covering f.camera (leaf_micropolygons a f prim part) s) (λ g shows. shows.no_nearer) (leaf_shows a f prim part s is part_is)
-
--- the same of each by its place
-each_all : (P : Fragment → Type 0) (fs : List Fragment) → Each P fs → All P fs
-each_all P [] e k d h = absurd (omega arith)
-each_all P (g ∷ fs) e zero d h = e.0
-each_all P (g ∷ fs) e (suc k) d h = each_all P fs e.1 k d (omega (arith, h))
-
-pub all_no_nearer : (a : AcceptedValue) (f : FrameValue) (prim : PrimValue) (part : Part) (s : Sample) → IsShadedPrim a f prim → IsPart part →
-    All (λ g. leaf_nearest f prim part ≤ℤ g.depth) (covering f.camera (leaf_micropolygons a f prim part) s)
-all_no_nearer a f prim part s is part_is = each_all (λ g. leaf_nearest f prim part ≤ℤ g.depth) (covering f.camera (leaf_micropolygons a f prim part) s) (no_nearer a f prim part s is part_is)
+no_nearer a f prim part s is part_is time =
+    Each-weaken (LeafShows f prim part s) (λ g. leaf_nearest f prim part ≤ℤ g.depth) (covering f.camera (leaf_micropolygons a f prim part) s) (λ g shows. shows.no_nearer)
+    (leaf_shows a f prim part s is part_is (in_interval s.time time))

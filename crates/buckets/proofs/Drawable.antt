@@ -1,10 +1,10 @@
 -- That the code draws a frame of a scene within its limits.
 use Rattle.std.proofs.Common.{◌≡◌, ℕ, ◌^◌, ◌≤◌, sym, refl, subst, List, Option, length}
-use Rattle.std.specs.Prelude.{pos, ◌≤ℤ◌, All}
+use Rattle.std.specs.Prelude.{All}
 use Rattle.fixed_math.specs.Buckets.{bucket_count}
 use Rattle.transforms.specs.Field.{IsView}
 use Rattle.outside.specs.Sink.{Written}
-use Rattle.scene.specs.Scene.{SceneValue, PrimValue, HasUses}
+use Rattle.scene.specs.Scene.{SceneValue, IsPrim, HasUses}
 use Rattle.scene.specs.Settings.{AreOptions}
 use Rattle.shader_binding.specs.Sets.{SetValue, Fits}
 use Rattle.shader_binding.specs.Bindings.{FitsPrim}
@@ -26,7 +26,7 @@ pub record IsKnownFrame (s : Shown) (known : SceneValue) (set : SetValue) : Type
   pub format : IsFormat (format_in s.frame.now)
   pub options : AreOptions s.frame.now.options
   pub few : length s.frame.now.prims ≤ 65536
-  pub bounds : All (λ (p : PrimValue). pos 0 ≤ℤ p.bound) s.frame.now.prims
+  pub prims : All IsPrim s.frame.now.prims
   pub uses : All (HasUses known.uses) s.frame.now.prims
   pub side_low : 4 ≤ s.limits.bucket
   pub side_high : s.limits.bucket ≤ 64
@@ -43,7 +43,7 @@ drawn_with s known_scene set share count r w k same is few_counts few_epochs =
       drawable = record {
         fits = fits;
         variables = subst (λ (z : SceneValue). All (FitsPrim set z.uses) s.frame.now.prims) back k.variables;
-        prims = λ i e lt. record { view = k.view; bound = k.bounds i e lt; fits = fits; uses = uses i e lt };
+        prims = λ i e lt. record { view = k.view; bound = (k.prims i e lt).bound_low; small = (k.prims i e lt).small; fits = fits; uses = uses i e lt };
         format = k.format;
         options = k.options;
         few_prims = k.few;

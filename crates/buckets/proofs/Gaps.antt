@@ -5,7 +5,7 @@ use Rattle.std.proofs.lemmas.Option.{slice_get-get_or}
 use Rattle.std.proofs.lemmas.List.Elements.{All-push, All-take}
 use Rattle.fixed_math.specs.Spots.{PixelRect}
 use Rattle.patches.specs.Parts.{Part, whole_of, rect_of}
-use Rattle.quadrics.specs.AnyPatches.{patch_box}
+use Rattle.buckets.specs.Pictures.{prim_box}
 use Rattle.bound_split.specs.declared.extents.Extent.{Extent}
 use Rattle.bound_split.specs.Extents.{extent_of}
 use Rattle.scene.specs.Scene.{PrimValue, FrameValue}
@@ -152,12 +152,12 @@ extents_more f es n e long are is = record {
 }
 
 pub whole_extent : (f : FrameValue) (prims : List PrimValue) (n : ℕ) (p : PrimValue) (part : Part) (e : Extent) → prims ≡ f.prims → n < length prims → p ≡ get_or prims n p → part ≡ whole_of n → pos 0 ≤ℤ p.bound
-    → e ≡ extent_of f.camera p.bound (patch_box p.patch (rect_of part)) → IsWholeExtent f n e
+    → e ≡ extent_of f.camera p.bound (prim_box p (rect_of part)) → IsWholeExtent f n e
 whole_extent f prims n p part e list low at' whole bound is = λ q there.
     let found : slice_get f.prims n ≡ Some p = ap (λ ps. slice_get ps n) (sym list) ∙ slice_get-get_or prims n p low ∙ ap Some (sym at') in
     let one : p ≡ q = cc (sym found ∙ there) in
-    subst (λ (o : PrimValue). (pos 0 ≤ℤ o.bound) × (e ≡ extent_of f.camera o.bound (patch_box o.patch (rect_of (whole_of n))))) one
-    (bound, is ∙ ap (λ (t : Part). extent_of f.camera p.bound (patch_box p.patch (rect_of t))) whole)
+    subst (λ (o : PrimValue). (pos 0 ≤ℤ o.bound) × (e ≡ extent_of f.camera o.bound (prim_box o (rect_of (whole_of n))))) one
+    (bound, is ∙ ap (λ (t : Part). extent_of f.camera p.bound (prim_box p (rect_of t))) whole)
 
 -- ---- rectangles, each in that before it
 pub last_is : (f : FrameValue) (xs ys : List Candidates) (c : Candidates) → ys ≡ xs → AreNarrowed f xs → slice_get ys (length ys - 1) ≡ Some c → AreCandidates f c

@@ -1,6 +1,6 @@
 -- What shows at a sample is the same without a leaf that doesn't meet the sample's rectangle of pixels, and without one that lies behind an
 -- opaque fragment there.
-use Rattle.std.proofs.Common.{◌≡◌, ℕ, ◌*◌, ◌<◌, arith, refl, sym, ◌∙◌, ap, true, false, List, [], ◌∷◌, ◌++◌}
+use Rattle.std.proofs.Common.{◌≡◌, ℕ, ◌*◌, ◌<◌, ◌≤◌, arith, refl, sym, ◌∙◌, ap, true, false, List, [], ◌∷◌, ◌++◌}
 use Rattle.std.specs.Prelude.{ℤ, ◌≤ℤ◌, ◌<ℤ◌, int_lt, int_le}
 use Rattle.std.proofs.lemmas.Bool.{and_parts}
 use Rattle.std.proofs.lemmas.Int.{ints}
@@ -22,6 +22,7 @@ use Rattle.hider.specs.Kept.{hides, blocks}
 use Rattle.hider.specs.Samples.{sample_in}
 use Rattle.hider.specs.Tiles.{TileValue, Shows, BlocksAll, rect_of, sample_count, sample_of}
 use Rattle.hider.proofs.Orders.{put_in_sorted, by_depth_order}
+use Rattle.hider.proofs.Pixels.{sample_time}
 use Rattle.buckets.specs.Culled.{leaf_meets, leaf_nearest, IsShadedPrim}
 use Rattle.buckets.specs.Pictures.{leaf_micropolygons}
 use Rattle.buckets.specs.Sampled.{ShowsMore}
@@ -83,13 +84,13 @@ no_less z y [] h e = tt
 no_less z y (g ∷ gs) h e = let first = e.0 in (omega (arith, ints), no_less z y gs h e.1)
 
 -- nothing that can show is changed by a leaf that comes no nearer than z, where an opaque fragment lies before z
-pub passed_over_same : (a : AcceptedValue) (f : FrameValue) (prim : PrimValue) (part : Part) (z : ℤ) (s : Sample) (ms : List Micropolygon) → IsShadedPrim a f prim → IsPart part → z ≤ℤ leaf_nearest f prim part →
+pub passed_over_same : (a : AcceptedValue) (f : FrameValue) (prim : PrimValue) (part : Part) (z : ℤ) (s : Sample) (ms : List Micropolygon) → IsShadedPrim a f prim → IsPart part → s.time ≤ 65535 → z ≤ℤ leaf_nearest f prim part →
     blocks z (fragments f.camera ms s) ≡ true → cut (fragments f.camera (ms ++ leaf_micropolygons a f prim part) s) ≡ cut (fragments f.camera ms s)
-passed_over_same a f prim part z s ms is part_is far opaque =
+passed_over_same a f prim part z s ms is part_is time far opaque =
     let leaf = leaf_micropolygons a f prim part in
     ap cut (further f.camera ms leaf s)
     ∙ all_behind z (covering f.camera leaf s) (fragments f.camera ms s) (by_depth_order (covering f.camera ms s)).sorted opaque
-    (no_less z (leaf_nearest f prim part) (covering f.camera leaf s) far (no_nearer a f prim part s is part_is))
+    (no_less z (leaf_nearest f prim part) (covering f.camera leaf s) far (no_nearer a f prim part s is part_is time))
 
 -- ---- what a tile shows as well
 -- micropolygons that change nothing of what can show at the samples of a tile
@@ -112,4 +113,4 @@ pub passed_over_shows : (a : AcceptedValue) (f : FrameValue) (prim : PrimValue) 
     ((g : Sample → List Fragment) → Shows t g → BlocksAll z t.grid g) → ShowsMore f.camera (leaf_micropolygons a f prim part) t t
 passed_over_shows a f prim part t z is part_is far opaque =
     changes_nothing f.camera (leaf_micropolygons a f prim part) t
-    (λ ms n shows lt. passed_over_same a f prim part z (sample_of t.grid n) ms is part_is far (opaque (fragments f.camera ms) shows n lt))
+    (λ ms n shows lt. passed_over_same a f prim part z (sample_of t.grid n) ms is part_is (sample_time t.grid.xs t.grid.ys (rect_of t.grid) n) far (opaque (fragments f.camera ms) shows n lt))

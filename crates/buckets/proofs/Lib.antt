@@ -29,3 +29,4 @@ pub mod WholeEntry
 pub mod PartEntry
 pub mod NothingLost
 pub mod FewGrids
+pub mod PrimBoxes

@@ -5,7 +5,7 @@ use Rattle.std.proofs.lemmas.Bool.{and_parts}
 use Rattle.std.proofs.lemmas.Int.{ints}
 use Rattle.fixed_math.specs.Spots.{PixelRect}
 use Rattle.patches.specs.Parts.{Part, IsPart, whole_of, rect_of}
-use Rattle.quadrics.specs.AnyPatches.{patch_box}
+use Rattle.buckets.specs.Pictures.{prim_box}
 use Rattle.transforms.specs.Field.{IsView}
 use Rattle.bound_split.specs.declared.extents.Reach.{Reach}
 use Rattle.bound_split.specs.declared.extents.Reach.TheVariants.{Nowhere, Everywhere, Within}
@@ -42,7 +42,7 @@ reaches-more (Within left top right bottom) r r' h e =
 pub misses_part : (f : FrameValue) (r r' : PixelRect) (k : ℕ) → LiesIn r r' → Misses f r' k → Misses f r k
 misses_part f r r' k lies misses prim there =
     let m = misses prim there in
-    let reach = (extent_of f.camera prim.bound (patch_box prim.patch (rect_of (whole_of k)))).reach in
+    let reach = (extent_of f.camera prim.bound (prim_box prim (rect_of (whole_of k)))).reach in
     (m.0, by_bool (reaches reach r) (λ t. absurd (let s = reaches-more reach r r' lies t in let n = m.1 in cc)) (λ e. e))
 
 -- what the extent tells

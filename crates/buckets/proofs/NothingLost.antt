@@ -14,6 +14,7 @@ use Rattle.hider.specs.Tiles.{sample_count, sample_of, rect_of}
 use Rattle.hider.proofs.Cuts.{composite-cut}
 use Rattle.hider.proofs.Keeps.{keep_all-cut}
 use Rattle.hider.proofs.Orders.{by_depth_order}
+use Rattle.hider.proofs.Pixels.{sample_time}
 use Rattle.hider.proofs.Showings.{blocks-cut}
 use Rattle.buckets.specs.Pictures.{FrameLeaf, frame_leaves, leaf_micropolygons, micropolygons_of}
 use Rattle.buckets.specs.Standing.{IsDrawable}
@@ -67,7 +68,7 @@ unshown_same d n shown past x h is same i lt =
     let e : 0 + i ≡ i = omega arith in
     let opaque : blocks (nearest d x) (fragments_of d shown s) ≡ true =
     subst (λ k. blocks (nearest d x) (fragments_of d shown (sample_of g k)) ≡ true) e (each_from (λ k. blocks (nearest d x) (fragments_of d shown (sample_of g k))) 0 (sample_count g) hidden i lt) in
-    passed_over_same d.accepted d.frame x.prim x.part (nearest d x) s ms h.prim h.part (omega (arith, ints)) (blocks_same (nearest d x) (fragments_of d shown s) (fragments_of d past s) (sorted shown) (sorted past) (same i lt) opaque))
+    passed_over_same d.accepted d.frame x.prim x.part (nearest d x) s ms h.prim h.part (sample_time g.xs g.ys (rect_of g) i) (omega (arith, ints)) (blocks_same (nearest d x) (fragments_of d shown s) (fragments_of d past s) (sorted shown) (sorted past) (same i lt) opaque))
     (λ clear. absurd (cc)))
     (λ misses. ap cut (left_out_same d.accepted d.frame x.prim x.part (rect_of g) g.xs g.ys i ms h.prim h.part misses lt)) in
     same i lt ∙ sym none ∙ sym (ap (λ ks. cut (fragments v ks s)) (micropolygons-more d.accepted d.frame past x))

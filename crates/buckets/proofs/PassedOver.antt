@@ -5,7 +5,7 @@ use Rattle.std.proofs.lemmas.Bool.{and_parts}
 use Rattle.std.proofs.lemmas.Int.{ints}
 use Rattle.fixed_math.specs.Spots.{PixelRect}
 use Rattle.patches.specs.Parts.{Part, IsPart, rect_of}
-use Rattle.quadrics.specs.AnyPatches.{patch_box, patch_parts, patch_net, patch_width}
+use Rattle.quadrics.specs.AnyPatches.{patch_net, patch_width}
 use Rattle.transforms.specs.Field.{IsView}
 use Rattle.bound_split.specs.Leaves.{depth, leaves}
 use Rattle.bound_split.proofs.Fitting.{decision-fits}
@@ -15,7 +15,8 @@ use Rattle.hider.specs.declared.fragment.Fragment.{Fragment}
 use Rattle.hider.specs.Composite.{is_opaque}
 use Rattle.hider.specs.Kept.{hides, blocks}
 use Rattle.buckets.specs.Culled.{leaf_meets, leaf_nearest, part_shows, HoldsBehind}
-use Rattle.buckets.specs.Pictures.{decide}
+use Rattle.buckets.specs.Pictures.{decide, prim_box}
+use Rattle.buckets.proofs.PrimBoxes.{prim_parts}
 
 -- an opaque fragment before a depth lies before each that is no nearer
 pub blocks_behind : (l : List Fragment) → HoldsBehind (λ z. blocks z l)
@@ -39,8 +40,8 @@ not_behind behind y z up e =
 pub shows_up : (f : FrameValue) (prim : PrimValue) (r : PixelRect) (behind : ℤ → Bool) → IsView f.camera → pos 0 ≤ℤ prim.bound → HoldsBehind behind → PassesUp (part_shows f prim r behind)
 shows_up f prim r behind view low up p q hp hq i e =
     let both = and_parts (leaf_meets f prim r q) (not (behind (leaf_nearest f prim q))) e in
-    let meets = meets_up patch_box patch_parts prim.patch f.camera prim.bound r view low p q hp hq i both.0 in
-    let nearer = nearest_up patch_box patch_parts prim.patch f.camera prim.bound p q hp hq i in
+    let meets = meets_up prim_box prim_parts prim f.camera prim.bound r view low p q hp hq i both.0 in
+    let nearer = nearest_up prim_box prim_parts prim f.camera prim.bound p q hp hq i in
     let seen = not_behind behind (leaf_nearest f prim p) (leaf_nearest f prim q) (up (leaf_nearest f prim p) (leaf_nearest f prim q) nearer) both.1 in
     ap (λ b. b && not (behind (leaf_nearest f prim p))) meets ∙ seen
 

@@ -1,5 +1,5 @@
--- The points of a shaded leaf lie in the box of its part, widened by the bound of its primitive: displacement moves a point no further,
--- and no other shader moves it.
+-- The points of a shaded leaf lie at each time in the box of its part, widened by the bound of its primitive: displacement moves a point no
+-- further, and no other shader moves it.
 use Rattle.std.proofs.Common.{◌≡◌, ℕ, zero, suc, ◌*◌, ◌/◌, ◌%◌, ◌<◌, ◌≤◌, arith, refl, sym, ◌∙◌, ap, subst, Bool, true, false, cond, List, [], ◌∷◌, Option, Some, None, get_or}
 use Rattle.std.specs.Prelude.{ℤ, pos, ◌+ℤ◌, ◌-ℤ◌, ◌≤ℤ◌, slice_get}
 use Rattle.std.specs.Int.{int_min}
@@ -9,15 +9,17 @@ use Rattle.std.proofs.lemmas.List.FromFn.{get_or-map-range_with_len}
 use Rattle.std.proofs.Math.Nat.{mod-lt, div-lt_iff_lt-mul, mul_comm}
 use Rattle.fixed_math.specs.declared.vec3.Vec3.{Vec3}
 use Rattle.fixed_math.specs.declared.vec3.Axis.TheVariants.{X, Y, Z}
-use Rattle.fixed_math.specs.Axes.{origin, IsInBox}
+use Rattle.fixed_math.specs.Axes.{origin}
+use Rattle.patches.specs.Rects.{IsAt}
 use Rattle.patches.specs.Boxes.{Holds}
-use Rattle.patches.specs.Parts.{Part, IsPart, rect_of}
-use Rattle.quadrics.specs.AnyPatches.{patch_box, patch_inside}
+use Rattle.patches.specs.Parts.{IsPart, rect_of}
 use Rattle.patches.proofs.Spans.{rect_of-IsRect}
-use Rattle.bound_split.specs.Extents.{lowered, raised, widened}
+use Rattle.moving.specs.Closing.{IsNear}
+use Rattle.moving_cells.specs.MovingGrids.{point_when}
+use Rattle.bound_split.specs.Extents.{widened}
 use Rattle.dice.proofs.Directions.{cells_from}
 use Rattle.dice.proofs.Grids.{lines-IsAt}
-use Rattle.scene.specs.Scene.{PrimValue, FrameValue, IsUse, IsSomeUse}
+use Rattle.scene.specs.Scene.{FrameValue, IsUse, IsSomeUse}
 use Rattle.scene.specs.declared.uses.ShaderKind.{ShaderKind}
 use Rattle.scene.specs.declared.uses.ShaderKind.TheVariants as requested
 use Rattle.scene.specs.declared.uses.ShaderUse.{ShaderUse}
@@ -34,9 +36,12 @@ use Rattle.texture.specs.Images.{Image}
 use Rattle.shader_binding.specs.Sets.{SetValue, AcceptedValue, Bound, Fits, FitsUse, FitUses, is_of_kind, bound_with, bound_at, bound_for}
 use Rattle.grid_variables.specs.Kept.{kept_near, moved}
 use Rattle.grid_variables.specs.Points.{Leaf, columns, rows, own_u, own_v, point_at}
+use Rattle.grid_variables.specs.Places.{point_count}
+use Rattle.grid_variables.specs.Closings.{closing_of}
 use Rattle.displace_shade.specs.Shaded.{diced_names, shaded_by, displaced, lights_from, shaded_names, shaded}
-use Rattle.displace_shade.specs.Shop.{leaf_of}
 use Rattle.buckets.specs.Culled.{IsShadedPrim}
+use Rattle.buckets.specs.Pictures.{prim_box}
+use Rattle.buckets.proofs.PrimBoxes.{place_inside}
 
 -- ---- which shaders leave points where they are
 abbrev KeepsPlaces : Option Bound → Type 0
@@ -92,27 +97,26 @@ place_moved l s uses i surface volume =
     ap triple_of (shaded_kept l (bound_for s uses l.prim.atmosphere) [] lit i volume) ∙ ap triple_of (shaded_kept l (bound_at s uses l.prim.surface) (lights_from l s uses l.prim.lights) before i surface)
 
 -- ---- how far
-kept_in : (b l h p q : ℤ) → pos 0 ≤ℤ b → (l ≤ℤ p) × (p ≤ℤ h) → ((l -ℤ b) ≤ℤ kept_near b p q) × (kept_near b p q ≤ℤ (h +ℤ b))
-kept_in b l h p q s i =
-    let x = i.0 in
-    let y = i.1 in
+kept_near_it : (b p q : ℤ) → pos 0 ≤ℤ b → ((p -ℤ b) ≤ℤ kept_near b p q) × (kept_near b p q ≤ℤ (p +ℤ b))
+kept_near_it b p q s =
     let least = int_min_is q (p +ℤ b) in
     let greatest = int_max_is (p -ℤ b) (int_min q (p +ℤ b)) in
     (omega (arith, ints, least, greatest), omega (arith, ints, least, greatest))
 
-moved_in : (b : ℤ) (lo hi p q : Vec3) → pos 0 ≤ℤ b → IsInBox lo hi p → IsInBox (lowered b lo) (raised b hi) (moved b p q)
-moved_in b lo hi p q s i X = kept_in b lo.x hi.x p.x q.x s (i X)
-moved_in b lo hi p q s i Y = kept_in b lo.y hi.y p.y q.y s (i Y)
-moved_in b lo hi p q s i Z = kept_in b lo.z hi.z p.z q.z s (i Z)
+moved_near : (b : ℤ) (p q : Vec3) → pos 0 ≤ℤ b → IsNear b p (moved b p q)
+moved_near b p q s X = kept_near_it b p.x q.x s
+moved_near b p q s Y = kept_near_it b p.y q.y s
+moved_near b p q s Z = kept_near_it b p.z q.z s
 
--- the points of a leaf's grid before any shader runs lie in the box of its part
-diced_in : (l : Leaf) (i : ℕ) → IsPart l.part → l.p ≤ 4 → l.q ≤ 4 → i < columns l * rows l → Holds (patch_box l.prim.patch (rect_of l.part)) (point_at l i)
-diced_in l i is hp hq h =
+-- ---- where the points of a leaf's grid are
+-- their parameters lie in its part
+points_at : (l : Leaf) (i : ℕ) → IsPart l.part → l.p ≤ 4 → l.q ≤ 4 → i < point_count l → IsAt (rect_of l.part) (own_u l i) (own_v l i)
+points_at l i is hp hq h =
     let wide = cells_from l.p in
     let column : i % columns l < columns l = mod-lt i (omega (arith, wide)) in
     let turned : columns l * rows l ≡ rows l * columns l = mul_comm (columns l) (rows l) in
     let row : i / columns l < rows l = (div-lt_iff_lt-mul {k = columns l} {x = i} {y = rows l} (omega (arith, wide))).1 (omega (arith, h, turned)) in
-    patch_inside l.prim.patch (rect_of l.part) (own_u l i) (own_v l i) (rect_of-IsRect l.part is) (lines-IsAt l.part l.p l.q (i % columns l) (i / columns l) is hp hq (omega (arith, column)) (omega (arith, row)))
+    lines-IsAt l.part l.p l.q (i % columns l) (i / columns l) is hp hq (omega (arith, column)) (omega (arith, row))
 
 -- a shaded grid has its leaf's columns and rows
 pub shaded_wide : (l : Leaf) (s : SetValue) (uses : List ShaderUse) → 2 ≤ (shaded l s uses).columns
@@ -123,16 +127,21 @@ pub shaded_tall : (l : Leaf) (s : SetValue) (uses : List ShaderUse) → 2 ≤ (s
 unfolding shaded
 shaded_tall l s uses = cells_from l.q
 
--- and its points lie in that box when it is widened
-pub shaded_in : (a : AcceptedValue) (f : FrameValue) (prim : PrimValue) (part : Part) (p q : ℕ) → IsShadedPrim a f prim → IsPart part → p ≤ 4 → q ≤ 4 →
-    (i : ℕ) → i < (shaded (leaf_of f prim part p q) a.set a.scene.uses).columns * (shaded (leaf_of f prim part p q) a.set a.scene.uses).rows →
-    Holds (widened prim.bound (patch_box prim.patch (rect_of part))) (get_or (shaded (leaf_of f prim part p q) a.set a.scene.uses).points i origin)
+pub shaded_few : (l : Leaf) (s : SetValue) (uses : List ShaderUse) (n : ℕ) → n < (shaded l s uses).columns * (shaded l s uses).rows → n < point_count l
 unfolding shaded
-shaded_in a f prim part p q is part_is hp hq i h =
-    let l = leaf_of f prim part p q in
-    let b = patch_box prim.patch (rect_of part) in
-    let surface = use_keeps a.set.textures a.set.trees a.scene.uses a.set.of_use a.set.bound a.set.look_ups prim.surface requested.Surface is.fits.uses refl is.uses.surface in
-    let volume = some_keeps a.set a.scene.uses prim.atmosphere requested.Volume is.fits refl is.uses.atmosphere in
-    let there = get_or-map-range_with_len (λ j. triple_of (shaded_names l a.set a.scene.uses j names.P)) 0 (columns l * rows l) i i origin h (omega arith) in
-    subst (Holds (widened prim.bound b)) (sym (there ∙ place_moved l a.set a.scene.uses i surface volume))
-    (moved_in prim.bound b.low b.high (point_at l i) _ is.bound (diced_in l i part_is hp hq h))
+shaded_few l s uses n h = h
+
+-- and its points, which no shader but the displacement moves, are near the patch
+shaded_near : (a : AcceptedValue) (f : FrameValue) (l : Leaf) (i : ℕ) → IsShadedPrim a f l.prim → i < point_count l → IsNear l.prim.bound (point_at l i) (get_or (shaded l a.set a.scene.uses).points i origin)
+unfolding shaded
+shaded_near a f l i is h =
+    let surface = use_keeps a.set.textures a.set.trees a.scene.uses a.set.of_use a.set.bound a.set.look_ups l.prim.surface requested.Surface is.fits.uses refl is.uses.surface in
+    let volume = some_keeps a.set a.scene.uses l.prim.atmosphere requested.Volume is.fits refl is.uses.atmosphere in
+    let there = get_or-map-range_with_len (λ j. triple_of (shaded_names l a.set a.scene.uses j names.P)) 0 (point_count l) i i origin h (omega arith) in
+    subst (IsNear l.prim.bound (point_at l i)) (sym (there ∙ place_moved l a.set a.scene.uses i surface volume)) (moved_near l.prim.bound (point_at l i) _ is.bound)
+
+-- so at each time they lie in the box of its part when that is widened
+pub shaded_in : (a : AcceptedValue) (f : FrameValue) (l : Leaf) (t i : ℕ) → IsShadedPrim a f l.prim → IsPart l.part → l.p ≤ 4 → l.q ≤ 4 → t ≤ 65536 → i < point_count l →
+    let points = (shaded l a.set a.scene.uses).points in Holds (widened l.prim.bound (prim_box l.prim (rect_of l.part))) (point_when (closing_of l points) points i t)
+shaded_in a f l t i is part_is hp hq time h =
+    place_inside l.prim.closing l (shaded l a.set a.scene.uses).points i t is.small (rect_of-IsRect l.part part_is) (points_at l i part_is hp hq h) time h (shaded_near a f l i is h)

@@ -6,7 +6,7 @@ use Rattle.std.proofs.lemmas.List.{length-set, length-replicate}
 use Rattle.std.proofs.lemmas.List.Elements.{All-replicate, All-set}
 use Rattle.fixed_math.specs.Spots.{PixelRect}
 use Rattle.patches.specs.Parts.{Part, IsPart, rect_of, whole_of}
-use Rattle.quadrics.specs.AnyPatches.{patch_box}
+use Rattle.buckets.specs.Pictures.{prim_box}
 use Rattle.transforms.specs.Field.{IsView}
 use Rattle.scene.specs.Scene.{PrimValue, FrameValue}
 use Rattle.bound_split.specs.declared.extents.Extent.{Extent}
@@ -25,6 +25,10 @@ use Rattle.buckets.specs.Culled.{part_shows, HoldsBehind}
 use Rattle.buckets.proofs.PassedOver.{none_shows_below}
 use Rattle.buckets.proofs.Coming.{gives_leaf, skips_prim}
 
+-- the sight of a part of a primitive, by other names of these
+pub sight_as : (f g : FrameValue) (p q : PrimValue) (part : Part) (s : Sight) → f ≡ g → p ≡ q → IsSight f p part s → IsSight g q part s
+sight_as f g p q part s frames prims is = subst (λ (h : FrameValue). IsSight h q part s) frames (subst (λ (o : PrimValue). IsSight f o part s) prims is)
+
 -- the decision of a piece, in a frame that is that of the sights
 pub decided : (f g : FrameValue) (prim : PrimValue) (part : Part) (s : Sight) → g ≡ f → IsSight g prim part s → decide f.camera prim part ≡ s.decision
 decided f g prim part s same is = ap (λ (h : FrameValue). decide h.camera prim part) (sym same) ∙ sym is.decision
@@ -34,7 +38,7 @@ pub shows_as : (f g : FrameValue) (prim : PrimValue) (part : Part) (r : PixelRec
     → told ≡ (reaches s.extent.reach r && not (back s.extent.nearest)) → told ≡ b → part_shows f prim r back part ≡ b
 shows_as f g prim part r back s told b same is tells at' =
     let test : Extent → Bool = λ e. reaches e.reach r && not (back e.nearest) in
-    ap (λ (h : FrameValue). test (extent_of h.camera prim.bound (patch_box prim.patch (rect_of part)))) (sym same) ∙ ap test (sym is.extent) ∙ sym tells ∙ at'
+    ap (λ (h : FrameValue). test (extent_of h.camera prim.bound (prim_box prim (rect_of part)))) (sym same) ∙ ap test (sym is.extent) ∙ sym tells ∙ at'
 
 -- a piece that doesn't is passed over with all below it
 pub drops_piece : (f : FrameValue) (prim : PrimValue) (r : PixelRect) (back : ℤ → Bool) (all s : List Part) (p : Part) → IsView f.camera → pos 0 ≤ℤ prim.bound → HoldsBehind back → IsPart p → part_shows f prim r back p ≡ false

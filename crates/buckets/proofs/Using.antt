@@ -6,9 +6,13 @@ use Rattle.hider.specs.declared.seen_grid.SeenGrid.{SeenGrid}
 use Rattle.dice.specs.Grids.{line_count}
 use Rattle.bound_split.specs.declared.splits.Decision.TheVariants.{Dice}
 use Rattle.hider.specs.Tiles.{TileValue}
-use Rattle.scene.specs.Scene.{PrimValue, FrameValue}
+use Rattle.scene.specs.Scene.{PrimValue, FrameValue, SceneValue}
 use Rattle.scene.specs.declared.uses.ShaderUse.{ShaderUse}
 use Rattle.shader_binding.specs.Sets.{SetValue}
+use Rattle.dice.specs.declared.diced.GridRef.{GridRef}
+use Rattle.grid_variables.specs.Points.{Leaf}
+use Rattle.grid_variables.specs.Closings.{closing_of}
+use Rattle.displace_shade.specs.Pieces.{IsShaded, Closes}
 use Rattle.displace_shade.specs.Shop.{leaf_of}
 use Rattle.displace_shade.specs.Shaded.{shaded}
 use Rattle.std.proofs.Math.Nat.{mul-le-mul}
@@ -16,7 +20,7 @@ use Rattle.grid_epoch.specs.Kept.{has, pieces_in, points_in}
 use Rattle.buckets.specs.Pictures.{decide, FrameLeaf, leaf_micropolygons}
 use Rattle.buckets.specs.Sampled.{ShowsMore}
 use Rattle.buckets.specs.TileWalk.{Drawing, Counts, has_room, with_needed, points_by, leaf_points}
-use Rattle.buckets.specs.Standing.{IsDrawable, IsGridOf, AreGrids, Keeps, CountsGo, Uses}
+use Rattle.buckets.specs.Standing.{IsDrawable, IsShadedOf, IsGridOf, AreGrids, Keeps, CountsGo, Uses}
 use Rattle.buckets.proofs.Counting.{needed_kept, needed_new, needed_rises}
 
 pub points_of_leaf : (d : Drawing) (x : FrameLeaf) (p q : ℕ) → decide d.frame.camera x.prim x.part ≡ Dice p q → leaf_points d x ≡ line_count p * line_count q
@@ -97,6 +101,23 @@ pub has_room_as : (d : Drawing) (x : FrameLeaf) (p q : ℕ) (kept : List (Part �
     → room ≡ nat_le (points_in kept + points) limit → room ≡ b → nat_le (points_in kept + leaf_points d x) d.limit ≡ b
 has_room_as d x p q kept limit points room b sizes is same told at' =
     ap (λ m. nat_le (points_in kept + m) d.limit) (points_of_leaf d x p q sizes ∙ sym is) ∙ ap (λ l. nat_le (points_in kept + points) l) (sym same) ∙ sym told ∙ at'
+
+-- what the shop shades of a piece of the drawing's frame is the grid of that piece
+pub shaded_as : (d : Drawing) (scene : SceneValue) (n : ℕ) (f : FrameValue) (set : SetValue) (prim : PrimValue) (part : Part) (p q : ℕ) (grid : GridRef) → scene ≡ d.accepted.scene → f ≡ d.frame → set ≡ d.accepted.set
+    → slice_get scene.frames n ≡ Some f → slice_get d.frame.prims part.prim ≡ Some prim → decide d.frame.camera prim part ≡ Dice p q → IsShaded set scene n part p q grid → Closes scene n part p q grid → IsShadedOf d part grid
+shaded_as d scene n f set prim part p q grid scenes frames sets there at' sizes shaded_is closes prim' p' q' at'' sizes' =
+    let frame : slice_get scene.frames n ≡ Some d.frame = there ∙ ap Some frames in
+    let prims : prim ≡ prim' = cc (sym at' ∙ at'') in
+    let same : Dice p q ≡ Dice p' q' = sym sizes ∙ ap (λ (o : PrimValue). decide d.frame.camera o part) prims ∙ sizes' in
+    let columns : p ≡ p' = cc in
+    let rows : q ≡ q' = cc in
+    let leaf : leaf_of d.frame prim' part p q ≡ leaf_of d.frame prim' part p' q' = ap (λ k. leaf_of d.frame prim' part k q) columns ∙ ap (leaf_of d.frame prim' part p') rows in (
+      shaded_is d.frame prim' frame at''
+          ∙ ap (λ (c : SceneValue). shaded (leaf_of d.frame prim' part p q) set c.uses) scenes
+          ∙ ap (λ (s : SetValue). shaded (leaf_of d.frame prim' part p q) s d.accepted.scene.uses) sets
+          ∙ ap (λ (l : Leaf). shaded l d.accepted.set d.accepted.scene.uses) leaf,
+      closes d.frame prim' frame at'' ∙ ap (λ (l : Leaf). closing_of l grid.p.now) leaf,
+    )
 
 -- the points of a shaded grid
 pub shaded_points : (f : FrameValue) (prim : PrimValue) (part : Part) (p q : ℕ) (s : SetValue) (uses : List ShaderUse)

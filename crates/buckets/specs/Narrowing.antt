@@ -2,12 +2,12 @@
 use Rattle.std.specs.Prelude.{◌≡◌, ◌≤◌, ◌<◌, ◌+◌, ℕ, pos, ◌≤ℤ◌, false, List, All, length, Some, slice_get, slice_index_or}
 use Rattle.fixed_math.specs.Spots.{PixelRect}
 use Rattle.patches.specs.Parts.{whole_of, rect_of}
-use Rattle.quadrics.specs.AnyPatches.{patch_box}
 use Rattle.bound_split.specs.declared.extents.Extent.{Extent}
 use Rattle.bound_split.specs.Extents.{extent_of, pixels_of}
 use Rattle.scene.specs.Scene.{PrimValue, FrameValue}
 use Rattle.buckets.specs.declared.candidates.Candidates.{Candidates}
 use Rattle.buckets.specs.Culled.{leaf_meets}
+use Rattle.buckets.specs.Pictures.{prim_box}
 
 -- a rectangle of pixels lies in another one
 pub record LiesIn (inner outer : PixelRect) : Type 0 where
@@ -22,7 +22,7 @@ Misses f r k = (prim : PrimValue) → slice_get f.prims k ≡ Some prim → (pos
 
 -- where whole primitives can show, by number
 abbrev pub IsWholeExtent : FrameValue → ℕ → Extent → Type 0
-IsWholeExtent f k e = (prim : PrimValue) → slice_get f.prims k ≡ Some prim → (pos 0 ≤ℤ prim.bound) × (e ≡ extent_of f.camera prim.bound (patch_box prim.patch (rect_of (whole_of k))))
+IsWholeExtent f k e = (prim : PrimValue) → slice_get f.prims k ≡ Some prim → (pos 0 ≤ℤ prim.bound) × (e ≡ extent_of f.camera prim.bound (prim_box prim (rect_of (whole_of k))))
 
 pub record AreExtents (f : FrameValue) (extents : List Extent) : Type 0 where
   pub each : (k : ℕ) (d : Extent) → k < length extents → IsWholeExtent f k (slice_index_or extents k d)

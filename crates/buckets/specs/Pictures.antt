@@ -1,9 +1,14 @@
 -- What a frame shows: the micropolygons of its primitives, and its picture.
-use Rattle.std.specs.Prelude.{◌≡◌, ℕ, ◌-◌, Bool, List, [], map, Some, slice_get}
+use Rattle.std.specs.Prelude.{◌≡◌, ℕ, ◌-◌, List, [], map, Option, Some, None, slice_get}
 use Rattle.std.specs.List.{flat_map, enumerate_from}
 use Rattle.outside.specs.Frames.{Picture}
+use Rattle.fixed_math.specs.declared.vec3.Vec3.{Vec3}
 use Rattle.patches.specs.Parts.{Part, whole_of}
-use Rattle.quadrics.specs.AnyPatches.{patch_net, patch_width}
+use Rattle.patches.specs.Rects.{Rect}
+use Rattle.patches.specs.Boxes.{Box}
+use Rattle.quadrics.specs.declared.any_patch.AnyPatch.{AnyPatch}
+use Rattle.quadrics.specs.AnyPatches.{patch_net, patch_width, patch_box}
+use Rattle.moving.specs.MovingBoxes.{moving_box}
 use Rattle.transforms.specs.declared.view.View.{View}
 use Rattle.bound_split.specs.declared.splits.Decision.{Decision}
 use Rattle.bound_split.specs.declared.splits.Decision.TheVariants.{SplitU, SplitV, Dice}
@@ -11,10 +16,13 @@ use Rattle.bound_split.specs.Decisions.{decision_of}
 use Rattle.bound_split.specs.Leaves.{leaves}
 use Rattle.scene.specs.Scene.{PrimValue, FrameValue, SceneValue}
 use Rattle.scene.specs.Settings.{crop_of}
+use Rattle.grid_variables.specs.Points.{Leaf}
+use Rattle.grid_variables.specs.Closings.{closing_of}
 use Rattle.displace_shade.specs.Shaded.{GridValue, shaded}
 use Rattle.displace_shade.specs.Shop.{leaf_of}
-use Rattle.hider.specs.declared.cell.Cell.{Cell}
-use Rattle.hider.specs.Cells.{Micropolygon, still, cells_of}
+use Rattle.hider.specs.Cells.{Micropolygon}
+use Rattle.hider.specs.CellValues.{micropolygons_of as of_cells}
+use Rattle.moving_cells.specs.MovingGrids.{moving_values}
 use Rattle.hider.specs.Fragments.{fragments}
 use Rattle.hider.specs.Composite.{composite}
 use Rattle.shader_binding.specs.Sets.{AcceptedValue}
@@ -25,22 +33,30 @@ use Rattle.filter_ppm.specs.Film.{FilmValues, picture}
 abbrev pub decide : View → PrimValue → Part → Decision
 decide v p part = decision_of v p.rate p.bound (patch_width p.patch) (patch_net p.patch) part
 
--- the cells of a grid: each has the colour and opacity of its first point or, where they vary, of its four
-abbrev pub grid_cells : Bool → GridValue → List Cell
-grid_cells smooth g = cells_of smooth g.columns g.rows g.points g.colours g.opacities
+-- the micropolygons of a shaded grid of a primitive: where its points have closing places they move there
+abbrev pub grid_micropolygons : PrimValue → GridValue → Option (List Vec3) → List Micropolygon
+grid_micropolygons prim g closing = of_cells (moving_values prim.smooth g.columns g.rows g.points g.colours g.opacities closing) prim.one_sided prim.flip
 
--- the cells of a leaf, shaded
-unfoldable pub diced_cells : AcceptedValue → FrameValue → PrimValue → Part → ℕ → ℕ → List Cell
-diced_cells a f prim part p q = grid_cells prim.smooth (shaded (leaf_of f prim part p q) a.set a.scene.uses)
+-- those of a leaf that is diced
+unfoldable pub diced_micropolygons : AcceptedValue → Leaf → List Micropolygon
+diced_micropolygons a l = let g = shaded l a.set a.scene.uses in grid_micropolygons l.prim g (closing_of l g.points)
 
-abbrev pub leaf_cells : AcceptedValue → FrameValue → PrimValue → Part → Decision → List Cell
-leaf_cells a f prim part SplitU = []
-leaf_cells a f prim part SplitV = []
-leaf_cells a f prim part (Dice p q) = diced_cells a f prim part p q
+abbrev pub micropolygons_by : AcceptedValue → FrameValue → PrimValue → Part → Decision → List Micropolygon
+micropolygons_by a f prim part SplitU = []
+micropolygons_by a f prim part SplitV = []
+micropolygons_by a f prim part (Dice p q) = diced_micropolygons a (leaf_of f prim part p q)
 
 -- the micropolygons of a leaf
 unfoldable pub leaf_micropolygons : AcceptedValue → FrameValue → PrimValue → Part → List Micropolygon
-leaf_micropolygons a f prim part = map (still prim.one_sided prim.flip) (leaf_cells a f prim part (decide f.camera prim part))
+leaf_micropolygons a f prim part = micropolygons_by a f prim part (decide f.camera prim part)
+
+-- the box of a primitive's patch over a rectangle of parameters: where it moves, the least that holds the opening and the closing box
+abbrev pub box_by : Option AnyPatch → AnyPatch → Rect → Box
+box_by None patch r = patch_box patch r
+box_by (Some closing) patch r = moving_box patch_box patch closing r
+
+abbrev pub prim_box : PrimValue → Rect → Box
+prim_box prim r = box_by prim.closing prim.patch r
 
 -- a leaf of a frame: a primitive, and a part of it that is diced
 pub record FrameLeaf : Type 0 where

@@ -1,7 +1,6 @@
 -- What is known of pieces of a frame's primitives.
 use Rattle.std.specs.Prelude.{◌≡◌, ℕ, List, All, length, Option, Some, None, slice_get}
 use Rattle.patches.specs.Parts.{Part, rect_of}
-use Rattle.quadrics.specs.AnyPatches.{patch_box}
 use Rattle.bound_split.specs.Decisions.{FitsPart}
 use Rattle.bound_split.specs.Extents.{extent_of}
 use Rattle.bound_split.specs.declared.extents.Extent.{Extent}
@@ -10,11 +9,11 @@ use Rattle.scene.specs.Scene.{PrimValue, FrameValue}
 use Rattle.buckets.specs.declared.candidates.Candidates.{Candidates}
 use Rattle.buckets.specs.declared.sights.Known.{Known}
 use Rattle.buckets.specs.Narrowing.{AreExtents, AreNarrowed}
-use Rattle.buckets.specs.Pictures.{decide}
+use Rattle.buckets.specs.Pictures.{decide, prim_box}
 
 -- the sight is that of a part of a primitive, in a frame
 pub record IsSight (f : FrameValue) (prim : PrimValue) (part : Part) (s : Sight) : Type 0 where
-  pub extent : s.extent ≡ extent_of f.camera prim.bound (patch_box prim.patch (rect_of part))
+  pub extent : s.extent ≡ extent_of f.camera prim.bound (prim_box prim (rect_of part))
   pub decision : s.decision ≡ decide f.camera prim part
   pub fits : FitsPart s.decision part
 

@@ -9,6 +9,7 @@ use Rattle.scene.specs.Settings.{AreOptions}
 use Rattle.scene.specs.Scene.{PrimValue, FrameValue}
 use Rattle.shader_binding.specs.Sets.{Fits}
 use Rattle.shader_binding.specs.Bindings.{FitsPrim}
+use Rattle.grid_variables.specs.Closings.{closing_of, places_in}
 use Rattle.displace_shade.specs.Diced.{grid_value}
 use Rattle.displace_shade.specs.Shaded.{shaded}
 use Rattle.displace_shade.specs.Shop.{leaf_of}
@@ -90,10 +91,10 @@ Comes d n None behind rest = rest ≡ []
 Comes d n (Some leaf) behind rest = (x : FrameLeaf) × IsLeafOf d.frame leaf x × (meets_tile d n x ≡ true) × (rest ≡ x ∷ behind)
 
 -- ---- kept grids
--- the grid is that of its piece
+-- the grid is that of its piece: it has the leaf's points, shaded, and their closing places where the primitive moves
 abbrev pub IsShadedOf : Drawing → Part → GridRef → Type 0
 IsShadedOf d part grid = (prim : PrimValue) (p q : ℕ) → slice_get d.frame.prims part.prim ≡ Some prim → decide d.frame.camera prim part ≡ Dice p q
-    → grid_value grid ≡ shaded (leaf_of d.frame prim part p q) d.accepted.set d.accepted.scene.uses
+    → let l = leaf_of d.frame prim part p q in (grid_value grid ≡ shaded l d.accepted.set d.accepted.scene.uses) × (places_in grid.closing ≡ closing_of l grid.p.now)
 
 -- the same of one as the frame's camera sees it
 abbrev pub IsGridOf : Drawing → Part → SeenGrid → Type 0

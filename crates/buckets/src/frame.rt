@@ -1,12 +1,12 @@
 // A frame, tile by tile and epoch by epoch, to a sink.
-ghost use Rattle.std.specs.Prelude.{◌≡◌, ◌≢◌, ◌≤◌, ◌<◌, ◌+◌, ◌^◌, ◌∷◌, [], None, Some, ℕ, List, pos, ◌≤ℤ◌, true, false, max, All, length, IfOk, OnOk, OnErr, IsErrOf, slice_get};
+ghost use Rattle.std.specs.Prelude.{◌≡◌, ◌≢◌, ◌≤◌, ◌<◌, ◌+◌, ◌^◌, ◌∷◌, [], None, Some, ℕ, List, true, false, max, All, length, IfOk, OnOk, OnErr, IsErrOf, slice_get};
 ghost use Rattle.outside.specs.Causes.{Rose};
 ghost use Rattle.outside.specs.Frames.{Adds, AddsPart, PutsAll, PutsFront, whole};
 ghost use Rattle.patches.specs.Parts.{Part};
 ghost use Rattle.hider.specs.declared.seen_grid.SeenGrid.{SeenGrid};
 ghost use Rattle.shader_binding.specs.Sets.{Fits};
 ghost use Rattle.shader_binding.specs.Bindings.{FitsPrim};
-ghost use Rattle.scene.specs.Scene.{FrameValue, HasUses};
+ghost use Rattle.scene.specs.Scene.{FrameValue, IsPrim, HasUses};
 ghost use Rattle.scene.specs.Settings.{AreOptions};
 ghost use Rattle.fixed_math.specs.Buckets.{bucket_count};
 ghost use Rattle.transforms.specs.Field.{IsView};
@@ -305,9 +305,9 @@ fn frame_at(scene: &Scene, index: usize) -> &Frame
     &frames[index]
 }
 
-// Does nothing: a call tells a proof that no bound is below 0.
-fn bounds_known(prims: &[Prim])
-    ensures { All (λ p. pos 0 ≤ℤ p.bound) prims.now }
+// Does nothing: a call tells a proof what holds of every primitive.
+fn prims_known(prims: &[Prim])
+    ensures { All IsPrim prims.now }
 {
     for prim in prims {
         let _bound = prim.bound;
@@ -320,11 +320,11 @@ fn recall(frame: &Frame)
     ensures format { IsFormat (format_in frame.now) }
     ensures options { AreOptions frame.now.options }
     ensures few { length frame.now.prims ≤ 65536 }
-    ensures bounds { All (λ p. pos 0 ≤ℤ p.bound) frame.now.prims }
+    ensures prims { All IsPrim frame.now.prims }
 {
     let _view = frame.camera.view();
     frame.options.ranges_known();
-    bounds_known(prims_of(frame));
+    prims_known(prims_of(frame));
 }
 
 /// The frame of a scene at a place, of which a share is to be drawn within limits.
@@ -347,7 +347,7 @@ pub(crate) fn shown_in<'a>(
     ensures format { IsFormat (format_in result.frame.now) }
     ensures options { AreOptions result.frame.now.options }
     ensures few { length result.frame.now.prims ≤ 65536 }
-    ensures bounds { All (λ p. pos 0 ≤ℤ p.bound) result.frame.now.prims }
+    ensures prims { All IsPrim result.frame.now.prims }
     ensures uses { All (HasUses scene.now.uses) result.frame.now.prims }
 {
     let frame = frame_at(scene, index);

@@ -1,5 +1,5 @@
 // A leaf in a tile: passed over behind what shows there, or hidden by a grid that is kept or shaded.
-ghost use Rattle.std.specs.Prelude.{◌≡◌, ◌≤◌, ◌<◌, ◌+◌, ◌*◌, ◌↔◌, ◌∷◌, [], ◌++◌, ℕ, List, Some, All, false, true, nat_le, IsTrue, length, map, IfOk, OnOk, OnErr, slice_get};
+ghost use Rattle.std.specs.Prelude.{◌≡◌, ◌≤◌, ◌<◌, ◌+◌, ◌*◌, ◌↔◌, ◌∷◌, [], ◌++◌, ℕ, List, Some, All, false, true, nat_le, IsTrue, length, IfOk, OnOk, OnErr, slice_get};
 ghost use Rattle.patches.specs.Parts.{Part};
 ghost use Rattle.transforms.specs.declared.view.View.{View};
 ghost use Rattle.bound_split.specs.declared.splits.Decision.TheVariants.{Dice};
@@ -7,14 +7,14 @@ ghost use Rattle.dice.specs.Grids.{line_count};
 ghost use Rattle.shader_binding.specs.Sets.{Fits};
 ghost use Rattle.shader_binding.specs.Bindings.{FitsPrim};
 ghost use Rattle.displace_shade.specs.Shop.{shop_set};
-ghost use Rattle.displace_shade.specs.Diced.{grid_value};
 ghost use Rattle.hider.specs.declared.fragment.Fragment.{Fragment};
 ghost use Rattle.hider.specs.declared.sample.Sample.{Sample};
-ghost use Rattle.hider.specs.Cells.{still};
+ghost use Rattle.hider.specs.CellValues.{values_of, micropolygons_of};
+ghost use Rattle.moving_cells.specs.MovingGrids.{values_when};
 ghost use Rattle.hider.specs.Flat.{IsSeenBy};
 ghost use Rattle.hider.specs.Tiles.{Shows, BlocksAll};
 ghost use Rattle.grid_epoch.specs.Kept.{has, pieces_in, points_in};
-ghost use Rattle.buckets.specs.Pictures.{decide, grid_cells, leaf_in, leaf_micropolygons};
+ghost use Rattle.buckets.specs.Pictures.{decide, leaf_in, leaf_micropolygons};
 ghost use Rattle.buckets.specs.Sampled.{ShowsMore};
 ghost use Rattle.buckets.specs.TileWalk.{Drawing, nearest};
 ghost use Rattle.buckets.specs.Standing.{Begun, InEpoch, IsDrawn, IsGridOf, IsShadedOf, AreGrids, Uses, UsesInPart, PassesLeaf, PassesInPart};
@@ -28,27 +28,57 @@ use displace_shade::Shop;
 use fixed_math::NoMemory;
 use grid_epoch::Epoch;
 use hider::{SeenGrid, Tile};
+use moving_cells::MovingCells;
 use scene::Prim;
+use transforms::Camera;
 
-// Hides the micropolygons of a shaded grid of a primitive.
+// Hides the micropolygons of a shaded grid of a primitive that stays.
 fn hide_grid(tile: &mut Tile, seen: &SeenGrid<'_>, prim: &Prim) -> Result<(), NoMemory>
     ensures grid { tile.new.grid ≡ tile.old.grid }
-    ensures shows { OnOk result ((v : View) → IsSeenBy v seen.now → ShowsMore v (map (still prim.now.one_sided prim.now.flip) (grid_cells prim.now.smooth (grid_value seen.now.grid))) tile.old tile.new) }
+    ensures shows { OnOk result ((v : View) → IsSeenBy v seen.now → ShowsMore v (micropolygons_of (values_of prim.now.smooth seen.now.grid) prim.now.one_sided prim.now.flip) tile.old tile.new) }
 {
     tile.hide_seen(seen, prim.smooth, prim.one_sided, prim.flip)?;
     Ok(())
 }
 
+// Hides the micropolygons of a shaded grid of a primitive that moves.
+fn hide_moving(
+    tile: &mut Tile,
+    seen: &SeenGrid<'_>,
+    camera: &Camera,
+    prim: &Prim,
+) -> Result<(), NoMemory>
+    ensures grid { tile.new.grid ≡ tile.old.grid }
+    ensures shows { OnOk result (ShowsMore camera.now (micropolygons_of (values_when prim.now.smooth seen.now.grid) prim.now.one_sided prim.now.flip) tile.old tile.new) }
+{
+    let cells = MovingCells {
+        grid: seen.grid,
+        smooth: prim.smooth,
+    };
+    tile.hide(&cells, camera, prim.one_sided, prim.flip)?;
+    Ok(())
+}
+
 // Hides a leaf by its grid.
-fn hide_leaf(prim: &Prim, leaf: &Leaf, seen: &SeenGrid<'_>, tile: &mut Tile) -> Result<(), NoMemory>
+fn hide_leaf(
+    camera: &Camera,
+    prim: &Prim,
+    leaf: &Leaf,
+    seen: &SeenGrid<'_>,
+    tile: &mut Tile,
+) -> Result<(), NoMemory>
     ghost drawing: { Drawing }
+    requires camera { camera.now ≡ drawing.frame.camera }
     requires there { slice_get drawing.frame.prims leaf.now.piece.prim ≡ Some prim.now }
     requires sizes { decide drawing.frame.camera prim.now leaf.now.piece ≡ Dice leaf.now.p leaf.now.q }
     requires grid { IsGridOf drawing leaf.now.piece seen.now }
     ensures grid { tile.new.grid ≡ tile.old.grid }
     ensures shows { OnOk result (ShowsMore drawing.frame.camera (leaf_micropolygons drawing.accepted drawing.frame prim.now leaf.now.piece) tile.old tile.new) }
 {
-    hide_grid(tile, seen, prim)?;
+    match seen.grid.closing {
+        None => hide_grid(tile, seen, prim)?,
+        Some(_) => hide_moving(tile, seen, camera, prim)?,
+    }
     Ok(())
 }
 
@@ -153,15 +183,16 @@ fn use_leaf<'a>(
     ensures used { IfOk result (λ b. Uses b begun.drawing (leaf_in prim.now leaf.now.piece) epoch.old.kept shop.old.count tile.old epoch.new.kept shop.new.count tile.new) }
     ensures part { OnErr result (UsesInPart begun.drawing (leaf_in prim.now leaf.now.piece) epoch.old.kept shop.old.count shop.new.count) }
 {
+    let frame = shown.frame;
     if let Some(at) = epoch.find(&leaf.piece) {
-        hide_leaf(prim, leaf, &epoch.grid(at), tile)?;
+        hide_leaf(&frame.camera, prim, leaf, &epoch.grid(at), tile)?;
         return Ok(true);
     }
     if !epoch.room(points_of(leaf)) {
         return Ok(false);
     }
     let seen = shade_leaf(shown, prim, leaf, arena, epoch, shop)?;
-    hide_leaf(prim, leaf, &seen, tile)?;
+    hide_leaf(&frame.camera, prim, leaf, &seen, tile)?;
     Ok(true)
 }
 

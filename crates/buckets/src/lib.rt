@@ -20,6 +20,7 @@ mod walk_laws;
 pub use frame::render_frame;
 pub use frame_part::render_part;
 pub use limits::{DrawFault, Limits, Report};
+pub use moving_cells::MovingCells;
 pub use walk_laws::{
     frame_table_law, nothing_lost_law, one_epoch_law, passed_over_law, shadings_law,
 };

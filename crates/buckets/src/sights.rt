@@ -11,6 +11,7 @@ use crate::leaf_walk::prims_of;
 use crate::narrowing::{behind, narrow_to};
 use bound_split::{Extent, Sight, sight_of};
 use fixed_math::NoMemory;
+use moving::Moving;
 use patches::Piece;
 use scene::{Frame, Prim};
 use std::alloc::Global;
@@ -66,7 +67,16 @@ fn look_at(frame: &Frame, prim: &Prim, piece: &Piece) -> Sight
     ensures sight { IsSight frame.now prim.now piece.now result }
     ensures bound { pos 0 ≤ℤ prim.now.bound }
 {
-    sight_of(&prim.patch, piece, &frame.camera, prim.rate, prim.bound)
+    match &prim.closing {
+        None => sight_of(&prim.patch, piece, &frame.camera, prim.rate, prim.bound),
+        Some(last) => {
+            let moving = Moving {
+                first: &prim.patch,
+                last,
+            };
+            sight_of(&moving, piece, &frame.camera, prim.rate, prim.bound)
+        }
+    }
 }
 
 // Whether two pieces are the same one.

@@ -1,6 +1,7 @@
 //! Tests of what only a call shows: numbers, rows of them and texts, the memory forms of files, frames and notes, tokens and
-//! requests, surfaces with their maps, splits and sample places, meshes and polygons, tiles of samples, filters and levels, the
-//! joining of parts, and textures with their look-ups. What a text or a command's words can show is a case of `conformance`.
+//! requests, surfaces with their maps, splits and sample places, what moves, meshes and polygons, tiles of samples, filters and
+//! levels, the joining of parts, and textures with their look-ups. What a text or a command's words can show is a case of
+//! `conformance`.
 #![tactic(auto)]
 
 #[cfg(test)]
@@ -15,6 +16,8 @@ mod joining;
 mod lane_rows;
 #[cfg(test)]
 mod meshes;
+#[cfg(test)]
+mod motion;
 #[cfg(test)]
 mod numbers;
 #[cfg(test)]

@@ -15,11 +15,11 @@ use transforms::{Affine, Camera, FormFault, Spaces, View};
 
 const ONE: i64 = 65536;
 
-fn raw(x: i64) -> Num {
+pub fn raw(x: i64) -> Num {
     Num::sat(x as i128)
 }
 
-fn vec3(x: i64, y: i64, z: i64) -> Vec3 {
+pub fn vec3(x: i64, y: i64, z: i64) -> Vec3 {
     Vec3 {
         x: raw(x),
         y: raw(y),
@@ -27,12 +27,12 @@ fn vec3(x: i64, y: i64, z: i64) -> Vec3 {
     }
 }
 
-fn raws(p: Vec3) -> (i64, i64, i64) {
+pub fn raws(p: Vec3) -> (i64, i64, i64) {
     (p.x.raw(), p.y.raw(), p.z.raw())
 }
 
 /// A point by its raw coordinates.
-fn at(x: i128, y: i128, z: i128) -> Vec3
+pub fn at(x: i128, y: i128, z: i128) -> Vec3
     requires x_small { unsigned_abs x ≤ 2 ^ 30 }
     requires y_small { unsigned_abs y ≤ 2 ^ 30 }
     requires z_small { unsigned_abs z ≤ 2 ^ 30 }
@@ -45,7 +45,7 @@ fn at(x: i128, y: i128, z: i128) -> Vec3
     }
 }
 
-fn bilinear(a: Vec3, b: Vec3, c: Vec3, d: Vec3) -> Bilinear
+pub fn bilinear(a: Vec3, b: Vec3, c: Vec3, d: Vec3) -> Bilinear
     requires a_small { IsWithin (2 ^ 30) a }
     requires b_small { IsWithin (2 ^ 30) b }
     requires c_small { IsWithin (2 ^ 30) c }

@@ -18,3 +18,4 @@ pub mod LightBegins
 pub mod LampLaws
 pub mod Flat
 pub mod ImagesGiven
+pub mod ClosingGrids

@@ -6,6 +6,7 @@ use Rattle.scene.specs.Scene.{PrimValue, FrameValue, SceneValue}
 use Rattle.scene.specs.declared.uses.ShaderUse.{ShaderUse}
 use Rattle.shader_binding.specs.Sets.{SetValue}
 use Rattle.shader_binding.specs.Bindings.{FitsPrim}
+use Rattle.grid_variables.specs.Closings.{closing_of, places_in}
 use Rattle.displace_shade.specs.Diced.{grid_value}
 use Rattle.displace_shade.specs.Shaded.{shaded}
 use Rattle.displace_shade.specs.Shop.{leaf_of}
@@ -22,3 +23,12 @@ IsShadedIn s uses f part p q grid = (prim : PrimValue) → slice_get f.prims par
 abbrev pub IsShaded : SetValue → SceneValue → ℕ → Part → ℕ → ℕ → GridRef → Type 0
 IsShaded s scene n part p q grid =
     (f : FrameValue) (prim : PrimValue) → slice_get scene.frames n ≡ Some f → slice_get f.prims part.prim ≡ Some prim → grid_value grid ≡ shaded (leaf_of f prim part p q) s scene.uses
+
+-- the grid has the closing places of its points, where the piece's primitive moves
+abbrev pub ClosesIn : FrameValue → Part → ℕ → ℕ → GridRef → Type 0
+ClosesIn f part p q grid = (prim : PrimValue) → slice_get f.prims part.prim ≡ Some prim → places_in grid.closing ≡ closing_of (leaf_of f prim part p q) grid.p.now
+
+-- the same of frame n of a scene
+abbrev pub Closes : SceneValue → ℕ → Part → ℕ → ℕ → GridRef → Type 0
+Closes scene n part p q grid =
+    (f : FrameValue) (prim : PrimValue) → slice_get scene.frames n ≡ Some f → slice_get f.prims part.prim ≡ Some prim → places_in grid.closing ≡ closing_of (leaf_of f prim part p q) grid.p.now

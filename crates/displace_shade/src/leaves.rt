@@ -4,6 +4,7 @@ ghost use Rattle.scene.specs.declared.uses.ShaderKind.TheVariants as requested;
 ghost use Rattle.shader_binding.specs.Sets.{bound_at as bound_at_use, bound_for};
 ghost use Rattle.displace_shade.specs.Shaded.{diced_names, shaded_by, displaced as displaced_names, shaded};
 ghost use Rattle.displace_shade.specs.Diced.{Hold, grid_value};
+ghost use Rattle.grid_variables.specs.Closings.{closing_of, places_in};
 ghost use Rattle.grid_variables.specs.Places.{IsSized, IsColoured};
 ghost use Rattle.displace_shade.specs.Stages.{set_in, uses_in, Serves, ServesIf, ServesPrim, placed_by, lit_by, Makes};
 
@@ -16,7 +17,7 @@ use crate::set::ShaderSet;
 use bumpalo::Bump;
 use dice::GridRef;
 use fixed_math::NoMemory;
-use grid_variables::{Leaf, Variables, begun, grid_of, kept_near};
+use grid_variables::{Leaf, Variables, begun, grid_of, kept_near, moving_grid};
 use scene::ShaderUse;
 use std::alloc::Global;
 use texture::Texture;
@@ -197,10 +198,12 @@ pub(crate) fn shaded_leaf<'a>(
     requires cache { cache.old.textures ≡ shaders.now.textures.now }
     requires serves { ServesPrim shaders.now leaf.now }
     ensures grid { IfOk result (λ grid. grid_value grid ≡ shaded leaf.now (set_in shaders.now) (uses_in shaders.now)) }
+    ensures closing { IfOk result (λ grid. places_in grid.closing ≡ closing_of leaf.now grid.p.now) }
     ensures cache { cache.new.textures ≡ cache.old.textures }
 {
     let first = begun(work, leaf)?;
     let near = placed(shaders, cache, work, leaf, &first, leaf.displacement())?;
     let lit = lighted(shaders, cache, work, leaf, &near)?;
-    grid_behind(shaders, cache, work, arena, leaf, &lit)
+    let grid = grid_behind(shaders, cache, work, arena, leaf, &lit)?;
+    moving_grid(work, arena, leaf, first.points, grid)
 }

@@ -3,7 +3,7 @@ ghost use Rattle.std.specs.Prelude.{◌≡◌, ◌≤◌, ◌<◌, ◌+◌, All,
 ghost use Rattle.scene.specs.Scene.{FrameValue, PrimValue, HasUses};
 ghost use Rattle.shader_binding.specs.Sets.{Fits};
 ghost use Rattle.shader_binding.specs.Bindings.{FitsPrim};
-ghost use Rattle.displace_shade.specs.Pieces.{FitsPiece, IsShadedIn, IsShaded};
+ghost use Rattle.displace_shade.specs.Pieces.{FitsPiece, IsShadedIn, IsShaded, ClosesIn, Closes};
 ghost use Rattle.displace_shade.specs.Shop.{shop_set, leaf_of};
 ghost use Rattle.displace_shade.specs.Stages.{set_in};
 
@@ -57,6 +57,7 @@ fn shaded_piece<'a>(
     requires columns { p ≤ 4 }
     requires rows { q ≤ 4 }
     ensures grid { IfOk result (IsShadedIn (set_in shaders.now) shaders.now.uses.now frame.now piece.now p q) }
+    ensures closing { IfOk result (ClosesIn frame.now piece.now p q) }
     ensures cache { cache.new.textures ≡ cache.old.textures }
 {
     let leaf = leaf_at(frame, piece, p, q);
@@ -142,6 +143,7 @@ impl<'t> Shop<'t> {
         requires rows { q ≤ 4 }
         requires count { self.old.count < 18446744073709551615 }
         ensures grid { IfOk result (IsShaded (shop_set self.old) scene.now frame piece.now p q) }
+        ensures closing { IfOk result (Closes scene.now frame piece.now p q) }
         ensures set { self.new.set ≡ self.old.set }
         ensures textures { self.new.cache.textures ≡ self.old.cache.textures }
         ensures count { MatchResult result (λ _. self.new.count ≡ self.old.count + 1) (λ _. self.new.count ≡ self.old.count) }

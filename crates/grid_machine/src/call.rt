@@ -9,7 +9,7 @@ ghost use Rattle.grid_code.specs.Shapes.{register_shape};
 ghost use Rattle.grid_code.specs.Uses.{has};
 ghost use Rattle.grid_code.specs.View.{block_of};
 ghost use Rattle.grid_machine.specs.Asked.{IsLight, asked_all};
-ghost use Rattle.grid_machine.specs.Ended.{ended, ended_under};
+ghost use Rattle.grid_machine.specs.Ended.{LeavesEnded, ended, ended_under};
 ghost use Rattle.grid_machine.specs.Prepared.{IsPrepared, AreInputs};
 ghost use Rattle.place_rows.specs.Layout.{row_length};
 ghost use Rattle.grid_machine.specs.Run.{rows_of, uniform_inputs, varying_inputs, written_names, lines_given, fresh, begun, Leaves};
@@ -137,7 +137,7 @@ fn unload<'a, L: Lights, T: Textures>(
     requires clear { (k : ℕ) → IsRaw (get_or out.old k (pos 0)) }
     ensures same { T.images textures.new ≡ T.images textures.old }
     ensures raws { (k : ℕ) → IsRaw (get_or out.new k (pos 0)) }
-    ensures values { let l = lights.now in OnOk result (Leaves code.now.kind (inputs.now.columns * inputs.now.rows) out.new (ended (T.images textures.old) code.now inputs.now (L.many l) (L.places l) (L.codes l) (L.params l))) }
+    ensures values { let l = lights.now in OnOk result (LeavesEnded (T.images textures.old) code.now inputs.now out.new (L.many l) (L.places l) (L.codes l) (L.params l)) }
 {
     let prepared = prepare(code, arena, inputs)?;
     let mut machine = Machine::fresh(arena, prepared.frame)?;
@@ -179,7 +179,7 @@ pub fn run<L: Lights, T: Textures>(
     requires out { length out.old ≡ rows_of (written_names code.now.kind) * row_length (inputs.now.columns * inputs.now.rows) }
     ensures same { T.images textures.new ≡ T.images textures.old }
     ensures raws { (k : ℕ) → IsRaw (get_or out.new k (pos 0)) }
-    ensures values { let l = lights.now in OnOk result (Leaves code.now.kind (inputs.now.columns * inputs.now.rows) out.new (ended (T.images textures.old) code.now inputs.now (L.many l) (L.places l) (L.codes l) (L.params l))) }
+    ensures values { let l = lights.now in OnOk result (LeavesEnded (T.images textures.old) code.now inputs.now out.new (L.many l) (L.places l) (L.codes l) (L.params l)) }
 {
     clear(out);
     unload(code, arena, inputs, lights, textures, out)

@@ -1,9 +1,9 @@
 -- For private contracts alone: the lines of a frame, where its code stands, and the code that it is for.
-use Rattle.std.specs.Prelude.{◌≡◌, ℕ, List, [], map, ◌++◌, Option, None}
+use Rattle.std.specs.Prelude.{◌≡◌, ℕ, ℤ, List, [], map, ◌++◌, Option, None}
 use Rattle.texture.specs.Images.{Image}
 use Rattle.sl_ast.specs.declared.typed.Value.{Value}
 use Rattle.builtins.specs.Differences.{Lines}
-use Rattle.builtins.specs.Textures.{image_named, entry_of}
+use Rattle.builtins.specs.Textures.{image_named, entry_of, looked_up}
 use Rattle.grid_code.specs.Masked.{Ground}
 use Rattle.grid_code.specs.Texts.{texts_in, texts_of_all}
 use Rattle.grid_code.specs.View.{block_of}
@@ -19,6 +19,10 @@ ground_of f = record { lines = lines_of f; spaces = f.setting.spaces.now; lights
 -- the image that each look-up of the frame's code names, among these
 abbrev pub images_of : Frame → List Image → ℕ → Option Image
 images_of f ps k = image_named ps (entry_of f.look_ups.now.nodes f.entries.now k)
+
+-- what the look-up of a node gives at each place, by the coordinates that it has there
+abbrev pub look_up_of : Frame → List Image → ℕ → (ℕ → ℤ) → (ℕ → ℤ) → ℕ → Value
+look_up_of f images k s t = looked_up (lines_of f) (images_of f images k) s t
 
 -- a frame's registers and look-ups are those of code, and its texts those of values and of the code's constants
 pub record OfCode (f : Frame) (code : Code) (vs : List Value) : Type 0 where

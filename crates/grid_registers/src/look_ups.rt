@@ -6,7 +6,7 @@ ghost use Rattle.builtins.specs.Textures as spec;
 ghost use Rattle.builtins.specs.declared.shape.Shape.{Shape as AnyShape};
 ghost use Rattle.place_rows.specs.Banks.{size};
 ghost use Rattle.grid_registers.specs.Held.{texts_of, HoldsEach};
-ghost use Rattle.grid_registers.specs.Frames.{lines_of, images_of};
+ghost use Rattle.grid_registers.specs.Frames.{lines_of, look_up_of};
 ghost use Rattle.grid_registers.specs.Operands.{operand_number, OperandIn};
 ghost use Rattle.grid_registers.specs.LookUps.{PlacedIn};
 
@@ -240,7 +240,7 @@ impl Registers<'_> {
         requires count { count ≤ self.now.frame.now.places }
         requires room { (s : AnyShape) → count ≤ size row.old s }
         ensures size { (s : AnyShape) → size row.new s ≡ size row.old s }
-        ensures each { HoldsEach (texts_of self.now) row.new count (spec.looked_up (lines_of self.now.frame.now) (images_of self.now.frame.now (T.images textures.old) node) (operand_number self.now of.s) (operand_number self.now of.t)) }
+        ensures each { HoldsEach (texts_of self.now) row.new count (look_up_of self.now.frame.now (T.images textures.old) node (operand_number self.now of.s) (operand_number self.now of.t)) }
         ensures same { T.images textures.new ≡ T.images textures.old }
     {
         let entry = self.frame.entry(node);

@@ -1,11 +1,10 @@
 -- Boxes round cells in camera space.
-use Rattle.std.proofs.Common.{arith}
-use Rattle.std.specs.Prelude.{ℤ, ◌≤ℤ◌}
+use Rattle.std.proofs.Common.{◌≡◌, zero, suc, arith, List, [], ◌∷◌, length, slice_index_or}
+use Rattle.std.specs.Prelude.{ℤ, ◌≤ℤ◌, All}
 use Rattle.std.proofs.lemmas.Int.{ints}
 use Rattle.fixed_math.specs.declared.vec3.Vec3.{Vec3}
 use Rattle.fixed_math.specs.Axes.{part_of}
-use Rattle.hider.specs.declared.cell.Cell.{Cell}
-use Rattle.hider.specs.Extents.{IsBelow, IsBelowCell, IsAboveCell}
+use Rattle.hider.specs.Extents.{IsBelow, IsBelowAll, IsAboveAll}
 
 through : (x y z : ℤ) → x ≤ℤ y → y ≤ℤ z → x ≤ℤ z
 through x y z h g = omega (arith, ints)
@@ -13,18 +12,21 @@ through x y z h g = omega (arith, ints)
 pub below_through : (p q r : Vec3) → IsBelow p q → IsBelow q r → IsBelow p r
 below_through p q r h g a = through (part_of a p) (part_of a q) (part_of a r) (h a) (g a)
 
-pub below_cell : (p q : Vec3) (k : Cell) → IsBelow p q → IsBelowCell q k → IsBelowCell p k
-below_cell p q k h i = record {
-  a = below_through p q k.a.point h i.a;
-  b = below_through p q k.b.point h i.b;
-  c = below_through p q k.c.point h i.c;
-  d = below_through p q k.d.point h i.d;
-}
+-- what holds of four points holds of all
+pub all_four : (P : Vec3 → Type 0) (xs : List Vec3) (a b c d : Vec3) → length xs ≡ 4 → P (slice_index_or xs 0 a) → P (slice_index_or xs 1 b) → P (slice_index_or xs 2 c) → P (slice_index_or xs 3 d) → All P xs
+all_four P [] a b c d l pa pb pc pd n o k = absurd (omega (arith, l))
+all_four P (x ∷ []) a b c d l pa pb pc pd n o k = absurd (omega (arith, l))
+all_four P (x ∷ y ∷ []) a b c d l pa pb pc pd n o k = absurd (omega (arith, l))
+all_four P (x ∷ y ∷ z ∷ []) a b c d l pa pb pc pd n o k = absurd (omega (arith, l))
+all_four P (x ∷ y ∷ z ∷ w ∷ v ∷ vs) a b c d l pa pb pc pd n o k = absurd (omega (arith, l))
+all_four P (x ∷ y ∷ z ∷ w ∷ []) a b c d l pa pb pc pd zero o k = pa
+all_four P (x ∷ y ∷ z ∷ w ∷ []) a b c d l pa pb pc pd (suc zero) o k = pb
+all_four P (x ∷ y ∷ z ∷ w ∷ []) a b c d l pa pb pc pd (suc (suc zero)) o k = pc
+all_four P (x ∷ y ∷ z ∷ w ∷ []) a b c d l pa pb pc pd (suc (suc (suc zero))) o k = pd
+all_four P (x ∷ y ∷ z ∷ w ∷ []) a b c d l pa pb pc pd (suc (suc (suc (suc n)))) o k = absurd (omega (arith, k))
 
-pub above_cell : (p q : Vec3) (k : Cell) → IsBelow q p → IsAboveCell q k → IsAboveCell p k
-above_cell p q k h i = record {
-  a = below_through k.a.point q p i.a h;
-  b = below_through k.b.point q p i.b h;
-  c = below_through k.c.point q p i.c h;
-  d = below_through k.d.point q p i.d h;
-}
+pub below_all : (p q : Vec3) (xs : List Vec3) → IsBelow p q → IsBelowAll q xs → IsBelowAll p xs
+below_all p q xs h i k d l = below_through p q (slice_index_or xs k d) h (i k d l)
+
+pub above_all : (p q : Vec3) (xs : List Vec3) → IsBelow q p → IsAboveAll q xs → IsAboveAll p xs
+above_all p q xs h i k d l = below_through (slice_index_or xs k d) q p (i k d l) h

@@ -113,7 +113,7 @@ pub boxes_of_any : (v : View) (g : GridRef) (boxes : List Bounds) (smooth : Bool
 boxes_of_any v g boxes smooth h = record { count = h.count; each = h.each }
 
 -- ---- a cell of one colour
-seen_flat : (v : View) (k : CellValues) (i : ℕ) (f : FlatCell) (one_sided flip : Bool) (s : Sample) → IsFlat v k i f → are_all_seen f ≡ true →
+pub seen_flat : (v : View) (k : CellValues) (i : ℕ) (f : FlatCell) (one_sided flip : Bool) (s : Sample) → IsFlat v k i f → are_all_seen f ≡ true →
     fragment_of v s (still one_sided flip (cell_when k i 0)) ≡ option_and_then (λ q. covers q s.place) (seen one_sided flip (flat_quad f))
 unfolding fragment_of quad_of
 seen_flat v k i f one_sided flip s h e =
@@ -121,7 +121,7 @@ seen_flat v k i f one_sided flip s h e =
     let p = projected_is v k i f h (all_seen f e) in
     rw (d, p) refl
 
-unseen_placed : (v : View) (k : CellValues) (i : ℕ) (f : FlatCell) (one_sided flip : Bool) (s : Sample) → IsPlaced v k.corner i f → are_all_seen f ≡ false →
+pub unseen_placed : (v : View) (k : CellValues) (i : ℕ) (f : FlatCell) (one_sided flip : Bool) (s : Sample) → IsPlaced v k.corner i f → are_all_seen f ≡ false →
     fragment_of v s (still one_sided flip (cell_when k i 0)) ≡ None
 unfolding fragment_of quad_of
 unseen_placed v k i f one_sided flip s h e = let d = depth_is v k i f h ∙ e in rw d refl
@@ -258,7 +258,7 @@ unfolding turn flat_quad
 turn_is f = refl
 
 -- ---- with a box
-held_is : (b : Bounds) (f : FlatCell) (s : Spot) → b ≡ bounds_of (flat_quad f) → held_covers b f s ≡ covers (flat_quad f) s
+pub held_is : (b : Bounds) (f : FlatCell) (s : Spot) → b ≡ bounds_of (flat_quad f) → held_covers b f s ≡ covers (flat_quad f) s
 held_is b f s e = by_bool (holds b s) (λ h. rw h refl) (λ h. rw h (sym (not_held b (flat_quad f) s e h)))
 
 pub held_put : (b : Bounds) (f : FlatCell) (g : SampleGrid) (l m : List (List Fragment)) → b ≡ bounds_of (flat_quad f) →

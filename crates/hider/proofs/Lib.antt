@@ -16,6 +16,7 @@ pub mod Rows
 pub mod Boxes
 pub mod Stills
 pub mod Moves
+pub mod Passages
 pub mod Showings
 pub mod Frames
 pub mod Depths
@@ -23,3 +24,4 @@ pub mod Flats
 pub mod Smooths
 pub mod Numbers
 pub mod Besides
+pub mod Whens

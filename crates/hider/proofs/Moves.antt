@@ -1,68 +1,48 @@
 -- Where a micropolygon that moves shows: within the box on the raster of all that it passes.
-use Rattle.std.proofs.Common.{◌≡◌, ℕ, ◌<◌, ◌≤◌, arith, refl, Bool}
-use Rattle.std.specs.Prelude.{ℤ, ◌≤ℤ◌, Option, None}
+use Rattle.std.proofs.Common.{◌≡◌, ℕ, ◌<◌, ◌≤◌, zero, suc, arith, refl, Bool, true, false, List, [], ◌∷◌}
+use Rattle.std.specs.Prelude.{ℤ, ◌≤ℤ◌, Option, Some, None, slice_index_or}
 use Rattle.std.specs.Option.{option_and_then}
 use Rattle.std.proofs.lemmas.Int.{ints, int_min_is, int_max_is}
 use Rattle.fixed_math.specs.declared.vec3.Vec3.{Vec3}
 use Rattle.fixed_math.specs.declared.vec3.Axis.{Axis}
-use Rattle.fixed_math.specs.Axes.{part_of, IsInBox}
+use Rattle.fixed_math.specs.declared.vec3.Axis.TheVariants.{Z}
+use Rattle.fixed_math.specs.Axes.{part_of, origin, IsInBox}
 use Rattle.transforms.specs.declared.view.View.{View}
 use Rattle.hider.specs.declared.bounds.Bounds.{Bounds}
 use Rattle.hider.specs.declared.cell.Cell.{Cell}
 use Rattle.hider.specs.declared.quad.Quad.{Quad}
 use Rattle.hider.specs.declared.fragment.Fragment.{Fragment}
-use Rattle.hider.specs.Cells.{corner_of, projected, is_all_in_depth, is_turned_away, turn, quad_of}
-use Rattle.hider.specs.CellValues.{CellValues, cell_when, micropolygon_of, LiesBetween, MovesBetween}
+use Rattle.hider.specs.declared.sample_grid.SampleGrid.{SampleGrid}
+use Rattle.hider.specs.Cells.{Micropolygon, corner_of, projected, is_in_depth, is_all_in_depth, is_turned_away, turn, quad_of}
+use Rattle.hider.specs.CellValues.{CellValues, corner_when, corners_when, cell_when, micropolygon_of, LiesBetween, MovesBetween}
+use Rattle.transforms.specs.Raster.{raster_x, raster_y}
+use Rattle.hider.specs.declared.cell.CellCorner.{CellCorner}
+use Rattle.hider.proofs.Sights.{all_in_depth}
 use Rattle.hider.specs.Coverage.{covers}
-use Rattle.hider.specs.Extents.{IsBelow, IsBelowCell, IsAboveCell, HoldsRaster}
-use Rattle.hider.specs.Fragments.{fragment_of}
-use Rattle.hider.specs.Searching.{StaysInside}
+use Rattle.hider.specs.Extents.{IsBelow, IsBelowAll, IsNoNearer, IsSeenDepth, IsCornerBetween, Passed}
+use Rattle.hider.specs.Fragments.{covering, fragment_of}
+use Rattle.hider.specs.Searching.{IsNear, LiesBeside, StaysIn, StaysInsideFrom}
+use Rattle.hider.specs.Tiles.{IsSampleGrid, HavePut}
+use Rattle.hider.proofs.Pixels.{near_stays}
 use Rattle.hider.proofs.Cuts.{by_bool}
-use Rattle.hider.proofs.Outside.{HoldsCorners, outside_none}
+use Rattle.hider.proofs.Outside.{HoldsCorners, covered_seen, outside_none}
 
-above_both : (l x y z : ℤ) → l ≤ℤ x → l ≤ℤ y → LiesBetween x y z → l ≤ℤ z
+pub above_both : (l x y z : ℤ) → l ≤ℤ x → l ≤ℤ y → LiesBetween x y z → l ≤ℤ z
 above_both l x y z a b h = let e = int_min_is x y in let f = h.0 in omega (arith, ints, e, f, a, b)
 
 below_both : (g x y z : ℤ) → x ≤ℤ g → y ≤ℤ g → LiesBetween x y z → z ≤ℤ g
 below_both g x y z a b h = let e = int_max_is x y in let f = h.1 in omega (arith, ints, e, f, a, b)
 
-corner_in : (lo hi p q r : Vec3) → IsBelow lo p → IsBelow lo q → IsBelow p hi → IsBelow q hi → ((a : Axis) → LiesBetween (part_of a p) (part_of a q) (part_of a r)) → IsInBox lo hi r
+pub corner_in : (lo hi p q r : Vec3) → IsBelow lo p → IsBelow lo q → IsBelow p hi → IsBelow q hi → ((a : Axis) → LiesBetween (part_of a p) (part_of a q) (part_of a r)) → IsInBox lo hi r
 corner_in lo hi p q r a b c d h x = (
   above_both (part_of x lo) (part_of x p) (part_of x q) (part_of x r) (a x) (b x) (h x),
   below_both (part_of x hi) (part_of x p) (part_of x q) (part_of x r) (c x) (d x) (h x),
 )
 
--- all corners of a cell lie in a box
-record IsInside (lo hi : Vec3) (k : Cell) : Type 0 where
-  a : IsInBox lo hi k.a.point
-  b : IsInBox lo hi k.b.point
-  c : IsInBox lo hi k.c.point
-  d : IsInBox lo hi k.d.point
-
-cell_in : (v : CellValues) (i t : ℕ) (lo hi : Vec3) → MovesBetween v → i < v.count → t ≤ 65535 → IsBelowCell lo (cell_when v i 0) → IsBelowCell lo (cell_when v i 65535) →
-    IsAboveCell hi (cell_when v i 0) → IsAboveCell hi (cell_when v i 65535) → IsInside lo hi (cell_when v i t)
-unfolding cell_when
-cell_in v i t lo hi m h l a b c d = record {
-  a = corner_in lo hi (v.corner i 0 0) (v.corner i 0 65535) (v.corner i 0 t) a.a b.a c.a d.a (λ x. m i 0 t x h (omega arith) l);
-  b = corner_in lo hi (v.corner i 1 0) (v.corner i 1 65535) (v.corner i 1 t) a.b b.b c.b d.b (λ x. m i 1 t x h (omega arith) l);
-  c = corner_in lo hi (v.corner i 2 0) (v.corner i 2 65535) (v.corner i 2 t) a.c b.c c.c d.c (λ x. m i 2 t x h (omega arith) l);
-  d = corner_in lo hi (v.corner i 3 0) (v.corner i 3 65535) (v.corner i 3 t) a.d b.d c.d d.d (λ x. m i 3 t x h (omega arith) l);
-}
-
--- so they lie in its box on the raster
-corners_in : (w : View) (lo hi : Vec3) (b : Bounds) (k : Cell) → HoldsRaster w lo hi b → IsInside lo hi k → HoldsCorners b (projected w k)
-unfolding projected corner_of
-corners_in w lo hi b k h i =
-    let p = h k.a.point i.a in
-    let q = h k.b.point i.b in
-    let r = h k.c.point i.c in
-    let s = h k.d.point i.d in
-    record {
-      left = (p.0, q.0, r.0, s.0);
-      right = (p.1, q.1, r.1, s.1);
-      top = (p.2, q.2, r.2, s.2);
-      bottom = (p.3, q.3, r.3, s.3);
-    }
+-- a cell out of sight in depth isn't seen
+unseen_none : (w : View) (one_sided flip : Bool) (k : Cell) (f : Quad → Option Fragment) → is_all_in_depth w k ≡ false → option_and_then f (quad_of w one_sided flip k) ≡ None
+unfolding quad_of
+unseen_none w one_sided flip k f e = rw e refl
 
 -- what isn't shown by the projected cell isn't by what is seen of it
 pub seen_none : (w : View) (one_sided flip : Bool) (k : Cell) (f : Quad → Option Fragment) → f (projected w k) ≡ None → option_and_then f (quad_of w one_sided flip k) ≡ None
@@ -74,9 +54,79 @@ seen_none w one_sided flip k f e =
     (λ t. rw (d, t) e))
     (λ d. rw d refl)
 
-pub moving_inside : (w : View) (v : CellValues) (i : ℕ) (one_sided flip : Bool) (lo hi : Vec3) (b : Bounds) → MovesBetween v → i < v.count → IsBelowCell lo (cell_when v i 0) → IsBelowCell lo (cell_when v i 65535) →
-    IsAboveCell hi (cell_when v i 0) → IsAboveCell hi (cell_when v i 65535) → HoldsRaster w lo hi b → StaysInside b (λ s. fragment_of w s (micropolygon_of v one_sided flip i))
+-- the corners at a time between two others lie between those at these
+corner_at : (v : CellValues) (i from t to k : ℕ) → MovesBetween v → i < v.count → k < 4 → from ≤ t → t ≤ to → IsCornerBetween (corners_when v i from) (corners_when v i to) k (v.corner i k t)
+corner_at v i from t to zero m h l a b x = m i 0 from t to x h l a b
+corner_at v i from t to (suc zero) m h l a b x = m i 1 from t to x h l a b
+corner_at v i from t to (suc (suc zero)) m h l a b x = m i 2 from t to x h l a b
+corner_at v i from t to (suc (suc (suc zero))) m h l a b x = m i 3 from t to x h l a b
+corner_at v i from t to (suc (suc (suc (suc k)))) m h l a b x = absurd (omega (arith, l))
+
+depth_read : (w : View) (p : CellCorner) → is_in_depth w p ≡ true → IsSeenDepth w p.point
+depth_read w p e = (grind (arith, ints, e), grind (arith, ints, e))
+
+depths_read : (w : View) (v : CellValues) (i t : ℕ) → is_all_in_depth w (cell_when v i t) ≡ true → (k : ℕ) → k < 4 → IsSeenDepth w (v.corner i k t)
+unfolding cell_when
+depths_read w v i t e zero l = depth_read w (corner_when v i t 0) (all_in_depth w (cell_when v i t) e).0
+depths_read w v i t e (suc zero) l = depth_read w (corner_when v i t 1) (all_in_depth w (cell_when v i t) e).1
+depths_read w v i t e (suc (suc zero)) l = depth_read w (corner_when v i t 2) (all_in_depth w (cell_when v i t) e).2
+depths_read w v i t e (suc (suc (suc zero))) l = depth_read w (corner_when v i t 3) (all_in_depth w (cell_when v i t) e).3
+depths_read w v i t e (suc (suc (suc (suc k)))) l = absurd (omega (arith, l))
+
+corners_held : (w : View) (v : CellValues) (i t : ℕ) (b : Bounds) →
+    ((k : ℕ) → k < 4 → (b.left ≤ℤ raster_x w (v.corner i k t)) × (raster_x w (v.corner i k t) ≤ℤ b.right) × (b.top ≤ℤ raster_y w (v.corner i k t)) × (raster_y w (v.corner i k t) ≤ℤ b.bottom)) →
+    HoldsCorners b (projected w (cell_when v i t))
+unfolding projected corner_of cell_when
+corners_held w v i t b h =
+    let p = h 0 (omega arith) in
+    let q = h 1 (omega arith) in
+    let r = h 2 (omega arith) in
+    let s = h 3 (omega arith) in
+    record {
+      left = (p.0, q.0, r.0, s.0);
+      right = (p.1, q.1, r.1, s.1);
+      top = (p.2, q.2, r.2, s.2);
+      bottom = (p.3, q.3, r.3, s.3);
+    }
+
+-- so a micropolygon that passes within a box from one time to another shows nothing outside it at the times between
+pub stays_from : (w : View) (v : CellValues) (i from to : ℕ) (one_sided flip : Bool) (b : Bounds) → MovesBetween v → i < v.count → Passed w (corners_when v i from) (corners_when v i to) b →
+    StaysInsideFrom from to b (λ s. fragment_of w s (micropolygon_of v one_sided flip i))
 unfolding fragment_of
-moving_inside w v i one_sided flip lo hi b m h l0 l1 g0 g1 r s t o =
+stays_from w v i from to one_sided flip b m h passed s low high outside =
     let k = cell_when v i s.time in
-    seen_none w one_sided flip k (λ q. covers q s.place) (outside_none b (projected w k) s.place (corners_in w lo hi b k r (cell_in v i s.time lo hi m h t l0 l1 g0 g1)) o)
+    by_bool (is_all_in_depth w k)
+    (λ d. seen_none w one_sided flip k (λ q. covers q s.place)
+    (outside_none b (projected w k) s.place (corners_held w v i s.time b (passed (λ n. v.corner i n s.time) (λ n l. corner_at v i from s.time to n m h l low high) (depths_read w v i s.time d))) outside))
+    (λ d. unseen_none w one_sided flip k (λ q. covers q s.place) d)
+
+-- ---- the depth of what shows
+seen_some : (w : View) (one_sided flip : Bool) (k : Cell) (g : Quad → Option Fragment) (f : Fragment) → option_and_then g (quad_of w one_sided flip k) ≡ Some f → g (projected w k) ≡ Some f
+unfolding quad_of
+seen_some w one_sided flip k g f e =
+    by_bool (is_all_in_depth w k)
+    (λ d. by_bool (is_turned_away one_sided flip (turn (projected w k)))
+    (λ t. let n : None ≡ Some f = rw (d, t) at e in absurd (cc))
+    (λ t. rw (d, t) at e))
+    (λ d. let n : None ≡ Some f = rw d at e in absurd (cc))
+
+-- no nearer than a point that is below all corners at both ends
+pub no_nearer : (w : View) (v : CellValues) (i : ℕ) (one_sided flip : Bool) (lo : Vec3) → MovesBetween v → i < v.count → IsBelowAll lo (corners_when v i 0) → IsBelowAll lo (corners_when v i 65535) →
+    IsNoNearer lo.z (λ s. fragment_of w s (micropolygon_of v one_sided flip i))
+unfolding fragment_of projected corner_of cell_when
+no_nearer w v i one_sided flip lo m h first last s f t e =
+    let seen = covered_seen (projected w (cell_when v i s.time)) s.place f (seen_some w one_sided flip (cell_when v i s.time) (λ q. covers q s.place) f e) in
+    let deep : (k : ℕ) → k < 4 → lo.z ≤ℤ (v.corner i k s.time).z = λ k l.
+    let b = corner_at v i 0 s.time 65535 k m h l (omega arith) t Z in
+    above_both lo.z (slice_index_or (corners_when v i 0) k origin).z (slice_index_or (corners_when v i 65535) k origin).z (v.corner i k s.time).z (first k origin l Z) (last k origin l Z) b in
+    seen.low lo.z (deep 0 (omega arith)) (deep 1 (omega arith)) (deep 2 (omega arith)) (deep 3 (omega arith))
+
+-- ---- what is put in of one of which nothing shows but in some pixels
+pub moving_stays : (w : View) (v : CellValues) (i : ℕ) (one_sided flip : Bool) (b : Bounds) (part g : SampleGrid) → MovesBetween v → i < v.count → IsSampleGrid g → IsNear b part g →
+    Passed w (corners_when v i 0) (corners_when v i 65535) b → StaysIn part g (λ s. fragment_of w s (micropolygon_of v one_sided flip i))
+moving_stays w v i one_sided flip b part g m h valid near passed =
+    near_stays b part g (λ s. fragment_of w s (micropolygon_of v one_sided flip i)) valid near (λ s t outside. stays_from w v i 0 65535 one_sided flip b m h passed s (omega arith) t outside)
+
+-- which aren't there
+pub none_put : (w : View) (m : Micropolygon) (part g : SampleGrid) (a : List (List Fragment)) → StaysIn part g (λ s. fragment_of w s m) → ((n : ℕ) → LiesBeside part g n) → HavePut g (covering w (m ∷ [])) a a
+none_put w m part g a s b n d l = let e = s n l (b n) in rw e refl

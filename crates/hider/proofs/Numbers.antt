@@ -2,7 +2,9 @@
 use Rattle.std.proofs.Common.{◌≡◌, ℕ, ◌+◌, ◌-◌, ◌*◌, ◌<◌, ◌≤◌, ap, arith, refl, ◌∙◌, List, length, slice_index_or}
 use Rattle.std.proofs.lemmas.Nat.{div-mul-add, mod-mul-add}
 use Rattle.std.proofs.Math.Nat.{mul-le-mul_right}
-use Rattle.fixed_math.specs.Spots.{Spot, pixel_count, pixel_x, pixel_y}
+use Rattle.fixed_math.specs.Spots.{pixel_count, pixel_x, pixel_y}
+use Rattle.sample_pattern.specs.Pattern.{time}
+use Rattle.hider.specs.declared.sample.Sample.{Sample}
 use Rattle.hider.specs.declared.sample_grid.SampleGrid.{SampleGrid}
 use Rattle.hider.specs.Samples.{sample_at, sample_in}
 use Rattle.hider.specs.Tiles.{rect_of, sample_count, sample_of}
@@ -23,12 +25,13 @@ room_more g p l room h e r =
     let s : (p + 1) * (g.xs * g.ys) ≡ p * (g.xs * g.ys) + g.xs * g.ys = omega arith in
     omega (arith, m, s, e, r)
 
-pub more_pixels : (g : SampleGrid) (p : ℕ) (old new : List Spot) → length old ≡ p * (g.xs * g.ys) →
-    ((m : ℕ) (d : Spot) → m < p * (g.xs * g.ys) → slice_index_or old m d ≡ (sample_of g m).place) →
-    ((m : ℕ) (d : Spot) → m < length old → slice_index_or new m d ≡ slice_index_or old m d) →
-    ((c : ℕ) (d : Spot) → c < g.xs * g.ys → slice_index_or new (length old + c) d ≡ (sample_at g.xs g.ys (pixel_x (rect_of g) p) (pixel_y (rect_of g) p) c).place) →
-    (m : ℕ) (d : Spot) → m < (p + 1) * (g.xs * g.ys) → slice_index_or new m d ≡ (sample_of g m).place
-more_pixels g p old new l e kept each m d h =
+-- what is known of the samples of the first pixels and of those of the next, of each the same
+pub more_pixels : {A : Type 0} (of : Sample → A) (g : SampleGrid) (p : ℕ) (old new : List A) → length old ≡ p * (g.xs * g.ys) →
+    ((m : ℕ) (d : A) → m < p * (g.xs * g.ys) → slice_index_or old m d ≡ of (sample_of g m)) →
+    ((m : ℕ) (d : A) → m < length old → slice_index_or new m d ≡ slice_index_or old m d) →
+    ((c : ℕ) (d : A) → c < g.xs * g.ys → slice_index_or new (length old + c) d ≡ of (sample_at g.xs g.ys (pixel_x (rect_of g) p) (pixel_y (rect_of g) p) c)) →
+    (m : ℕ) (d : A) → m < (p + 1) * (g.xs * g.ys) → slice_index_or new m d ≡ of (sample_of g m)
+more_pixels of g p old new l e kept each m d h =
     let k = g.xs * g.ys in
     let s : (p + 1) * k ≡ p * k + k = omega arith in
     by_lt m (p * k)
@@ -40,3 +43,7 @@ more_pixels g p old new l e kept each m d h =
     let at : m ≡ length old + c = omega (arith, from, l) in
     let n = numbered g p c m small is in
     rw n (ap (λ i. slice_index_or new i d) at ∙ each c d small))
+
+pub time_at : (xs ys x y c : ℕ) → (sample_at xs ys x y c).time ≡ time x y c
+unfolding sample_at
+time_at xs ys x y c = refl

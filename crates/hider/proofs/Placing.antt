@@ -122,6 +122,11 @@ put_behind f b (g ∷ gs) s h =
 pub le_from : (a b : ℤ) → int_le a b ≡ true → a ≤ℤ b
 le_from a b e = omega (arith, ints, e)
 
+-- what is no nearer than a depth behind it is behind it
+pub behind_further : (back : Option Fragment) (z d : ℤ) → is_behind back z ≡ true → z ≤ℤ d → is_behind back d ≡ true
+behind_further None z d e h = e
+behind_further (Some b) z d e h = let f = le_from b.depth z e in le_true b.depth d (omega (arith, ints, f, h))
+
 pub kept_behind : (f : Fragment) (front : List Fragment) (back : Option Fragment) → IsKeptIn front back → is_behind back f.depth ≡ true → keep f (kept_list front back) ≡ kept_list front back
 kept_behind f front None k e = absurd (cc)
 kept_behind f front (Some b) k e =

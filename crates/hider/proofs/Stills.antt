@@ -1,13 +1,13 @@
 -- Micropolygons that are at the same points at both ends of the shutter's interval.
 use Rattle.std.proofs.Common.{◌≡◌, ℕ, ◌<◌, ◌≤◌, ap, arith, refl, Bool, List, [], ◌∷◌, inl, inr}
-use Rattle.std.specs.Prelude.{ℤ, Some, None}
+use Rattle.std.specs.Prelude.{ℤ, Some, None, slice_index_or}
 use Rattle.std.specs.Option.{option_and_then}
 use Rattle.std.specs.List.{cons_option}
 use Rattle.std.proofs.lemmas.Int.{ints, int_min_is, int_max_is}
 use Rattle.fixed_math.specs.declared.vec3.Vec3.{Vec3}
 use Rattle.fixed_math.specs.declared.vec3.Axis.{Axis}
 use Rattle.fixed_math.specs.declared.vec3.Axis.TheVariants.{X, Y, Z}
-use Rattle.fixed_math.specs.Axes.{part_of}
+use Rattle.fixed_math.specs.Axes.{part_of, origin}
 use Rattle.transforms.specs.declared.view.View.{View}
 use Rattle.hider.specs.declared.bounds.Bounds.{Bounds}
 use Rattle.hider.specs.declared.cell.Cell.{Cell}
@@ -17,9 +17,8 @@ use Rattle.hider.specs.declared.sample_grid.SampleGrid.{SampleGrid}
 use Rattle.hider.specs.declared.fragment.Fragment.{Fragment}
 use Rattle.hider.specs.Bounding.{bounds_of}
 use Rattle.hider.specs.Cells.{still, quad_of}
-use Rattle.hider.specs.CellValues.{CellValues, cell_when, micropolygon_of, LiesBetween, MovesBetween}
+use Rattle.hider.specs.CellValues.{CellValues, cell_when, corners_when, micropolygon_of, LiesBetween, MovesBetween}
 use Rattle.hider.specs.Coverage.{covers}
-use Rattle.hider.specs.Extents.{HaveSamePoints}
 use Rattle.hider.specs.Fragments.{fragment_of, covering}
 use Rattle.hider.specs.Searching.{LiesOutside, StaysInside}
 use Rattle.hider.specs.Tiles.{HavePut, rect_of, sample_of}
@@ -43,13 +42,13 @@ same_point p q r e h =
     same_parts p q (between_same q.x r.x p.x (ap (part_of X) e) (h X)) (between_same q.y r.y p.y (ap (part_of Y) e) (h Y)) (between_same q.z r.z p.z (ap (part_of Z) e) (h Z))
 
 -- so the cell is the same at all times
-pub same_cell : (v : CellValues) (i t : ℕ) → MovesBetween v → i < v.count → t ≤ 65535 → HaveSamePoints (cell_when v i 0) (cell_when v i 65535) → cell_when v i t ≡ cell_when v i 0
+pub same_cell : (v : CellValues) (i t : ℕ) → MovesBetween v → i < v.count → t ≤ 65535 → corners_when v i 0 ≡ corners_when v i 65535 → cell_when v i t ≡ cell_when v i 0
 unfolding cell_when
 same_cell v i t m h l s =
-    let a : v.corner i 0 t ≡ v.corner i 0 0 = same_point (v.corner i 0 t) (v.corner i 0 0) (v.corner i 0 65535) s.a (λ x. m i 0 t x h (omega arith) l) in
-    let b : v.corner i 1 t ≡ v.corner i 1 0 = same_point (v.corner i 1 t) (v.corner i 1 0) (v.corner i 1 65535) s.b (λ x. m i 1 t x h (omega arith) l) in
-    let c : v.corner i 2 t ≡ v.corner i 2 0 = same_point (v.corner i 2 t) (v.corner i 2 0) (v.corner i 2 65535) s.c (λ x. m i 2 t x h (omega arith) l) in
-    let d : v.corner i 3 t ≡ v.corner i 3 0 = same_point (v.corner i 3 t) (v.corner i 3 0) (v.corner i 3 65535) s.d (λ x. m i 3 t x h (omega arith) l) in
+    let a : v.corner i 0 t ≡ v.corner i 0 0 = same_point (v.corner i 0 t) (v.corner i 0 0) (v.corner i 0 65535) (ap (λ xs. slice_index_or xs 0 origin) s) (λ x. m i 0 0 t 65535 x h (omega arith) (omega arith) l) in
+    let b : v.corner i 1 t ≡ v.corner i 1 0 = same_point (v.corner i 1 t) (v.corner i 1 0) (v.corner i 1 65535) (ap (λ xs. slice_index_or xs 1 origin) s) (λ x. m i 1 0 t 65535 x h (omega arith) (omega arith) l) in
+    let c : v.corner i 2 t ≡ v.corner i 2 0 = same_point (v.corner i 2 t) (v.corner i 2 0) (v.corner i 2 65535) (ap (λ xs. slice_index_or xs 2 origin) s) (λ x. m i 2 0 t 65535 x h (omega arith) (omega arith) l) in
+    let d : v.corner i 3 t ≡ v.corner i 3 0 = same_point (v.corner i 3 t) (v.corner i 3 0) (v.corner i 3 65535) (ap (λ xs. slice_index_or xs 3 origin) s) (λ x. m i 3 0 t 65535 x h (omega arith) (omega arith) l) in
     rw (a, b, c, d) refl
 
 -- and shows what one that stays shows
@@ -59,7 +58,7 @@ unfolding fragment_of
 still_shown w v i one_sided flip s e = ap (λ k. option_and_then (λ q. covers q s.place) (quad_of w one_sided flip k)) e
 
 pub still_put : (w : View) (v : CellValues) (i : ℕ) (one_sided flip : Bool) (g : SampleGrid) (a b : List (List Fragment)) → MovesBetween v → i < v.count →
-    HaveSamePoints (cell_when v i 0) (cell_when v i 65535) → HavePut g (covering w (still one_sided flip (cell_when v i 0) ∷ [])) a b → HavePut g (covering w (micropolygon_of v one_sided flip i ∷ [])) a b
+    corners_when v i 0 ≡ corners_when v i 65535 → HavePut g (covering w (still one_sided flip (cell_when v i 0) ∷ [])) a b → HavePut g (covering w (micropolygon_of v one_sided flip i ∷ [])) a b
 still_put w v i one_sided flip g a b m h s put n d l =
     let o = sample_of g n in
     let e = still_shown w v i one_sided flip o (same_cell v i o.time m h (sample_time g.xs g.ys (rect_of g) n) s) in

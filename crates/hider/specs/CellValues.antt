@@ -1,5 +1,5 @@
 -- Micropolygons that are given by what can be asked of them: their corners at each time, and the colours and opacities of these.
-use Rattle.std.specs.Prelude.{ℕ, zero, suc, ◌+◌, ◌-◌, ◌*◌, ◌<◌, ◌≤◌, ℤ, ◌≤ℤ◌, ◌≡◌, refl, Bool, true, false, List, map, slice_index_or}
+use Rattle.std.specs.Prelude.{ℕ, zero, suc, ◌+◌, ◌-◌, ◌*◌, ◌<◌, ◌≤◌, ℤ, ◌≤ℤ◌, ◌≡◌, refl, Bool, true, false, List, [], ◌∷◌, map, slice_index_or}
 use Rattle.std.specs.Int.{int_min, int_max}
 use Rattle.std.specs.List.{range_with_len}
 use Rattle.std.proofs.Common.{arith}
@@ -37,9 +37,13 @@ micropolygons_of v one_sided flip = map (micropolygon_of v one_sided flip) (rang
 abbrev pub LiesBetween : ℤ → ℤ → ℤ → Type 0
 LiesBetween x y z = (int_min x y ≤ℤ z) × (z ≤ℤ int_max x y)
 
--- each coordinate of a corner lies at any time of the shutter's interval between those at its two ends
+-- each coordinate of a corner lies at any time between those at an earlier and at a later one
 abbrev pub MovesBetween : CellValues → Type 0
-MovesBetween v = (i k t : ℕ) (a : Axis) → i < v.count → k < 4 → t ≤ 65535 → LiesBetween (part_of a (v.corner i k 0)) (part_of a (v.corner i k 65535)) (part_of a (v.corner i k t))
+MovesBetween v = (i k s t u : ℕ) (a : Axis) → i < v.count → k < 4 → s ≤ t → t ≤ u → LiesBetween (part_of a (v.corner i k s)) (part_of a (v.corner i k u)) (part_of a (v.corner i k t))
+
+-- the four corners of cell i at a time
+abbrev pub corners_when : CellValues → ℕ → ℕ → List Vec3
+corners_when v i t = v.corner i 0 t ∷ v.corner i 1 t ∷ v.corner i 2 t ∷ v.corner i 3 t ∷ []
 
 -- the number of corner k of a cell of a grid, whose first corner is point n
 abbrev pub corner_number : ℕ → ℕ → ℕ → ℕ

@@ -1,5 +1,5 @@
 -- Where a search for samples may pass over pixels.
-use Rattle.std.specs.Prelude.{ℕ, ◌+◌, ◌*◌, ◌/◌, ◌<◌, ◌≤◌, ◌⊎◌, ◌≤ℤ◌, ◌<ℤ◌, ◌≡◌, pos, Option, None}
+use Rattle.std.specs.Prelude.{ℕ, ◌+◌, ◌*◌, ◌/◌, ◌<◌, ◌≤◌, ◌⊎◌, ◌≤ℤ◌, ◌<ℤ◌, ◌≡◌, pos, List, slice_index_or, Option, None}
 use Rattle.fixed_math.specs.Spots.{Spot, pixel_x, pixel_y}
 use Rattle.hider.specs.declared.bounds.Bounds.{Bounds}
 use Rattle.hider.specs.declared.fragment.Fragment.{Fragment}
@@ -14,6 +14,14 @@ LiesOutside b s = (s.x <ℤ b.left) ⊎ (b.right <ℤ s.x) ⊎ (s.y <ℤ b.top) 
 -- nothing shows at places outside a box, at the times of the shutter's interval
 abbrev pub StaysInside : Bounds → (Sample → Option Fragment) → Type 0
 StaysInside b shown = (s : Sample) → s.time ≤ 65535 → LiesOutside b s.place → shown s ≡ None
+
+-- nothing shows at places outside a box, from one time to another
+abbrev pub StaysInsideFrom : ℕ → ℕ → Bounds → (Sample → Option Fragment) → Type 0
+StaysInsideFrom from to b shown = (s : Sample) → from ≤ s.time → s.time ≤ to → LiesOutside b s.place → shown s ≡ None
+
+-- for each of eight steps of the shutter's interval a box outside which nothing shows in that step
+abbrev pub StaysInSteps : List Bounds → (Sample → Option Fragment) → Type 0
+StaysInSteps boxes shown = (k : ℕ) (d : Bounds) → k < 8 → StaysInsideFrom (8192 * k) (8192 * k + 8191) (slice_index_or boxes k d) shown
 
 -- a box beyond one side of the grid's pixels
 abbrev pub IsBeside : Bounds → SampleGrid → Type 0

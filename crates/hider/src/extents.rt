@@ -1,8 +1,7 @@
 // The points below and above all corners of a cell at two times.
 ghost use Rattle.std.specs.Prelude.{◌≡◌, ◌≤ℤ◌, IsTrue};
-ghost use Rattle.hider.specs.Extents.{IsBelow, IsBelowCell, IsAboveCell, HaveSamePoints};
+ghost use Rattle.hider.specs.Extents.{IsBelow, IsBelowAll, IsAboveAll};
 
-use crate::cell::Cell;
 use fixed_math::{Num, Vec3};
 
 fn lesser(a: Num, b: Num) -> Num
@@ -41,62 +40,56 @@ fn high(a: Vec3, b: Vec3) -> Vec3
     }
 }
 
-/// A point below all corners of a cell, and below another point.
-fn low_of(cell: &Cell, other: Vec3) -> Vec3
-    ensures corners { IsBelowCell result cell.now }
+/// The points of the four corners of a cell at a time.
+pub(crate) type Corners = [Vec3; 4];
+
+/// A point below four others, and below another point.
+fn low_of(corners: &Corners, other: Vec3) -> Vec3
+    ensures corners { IsBelowAll result corners.now }
     ensures other { IsBelow result other }
 {
-    low(
-        low(
-            low(cell.a.point, cell.b.point),
-            low(cell.c.point, cell.d.point),
-        ),
-        other,
-    )
+    let [a, b, c, d] = *corners;
+    low(low(low(a, b), low(c, d)), other)
 }
 
-/// A point above all corners of a cell, and above another point.
-fn high_of(cell: &Cell, other: Vec3) -> Vec3
-    ensures corners { IsAboveCell result cell.now }
+/// A point above four others, and above another point.
+fn high_of(corners: &Corners, other: Vec3) -> Vec3
+    ensures corners { IsAboveAll result corners.now }
     ensures other { IsBelow other result }
 {
-    high(
-        high(
-            high(cell.a.point, cell.b.point),
-            high(cell.c.point, cell.d.point),
-        ),
-        other,
-    )
+    let [a, b, c, d] = *corners;
+    high(high(high(a, b), high(c, d)), other)
 }
 
-/// The first corner of the least box that holds two cells.
-pub(crate) fn low_of_two(first: &Cell, last: &Cell) -> Vec3
-    ensures first { IsBelowCell result first.now }
-    ensures last { IsBelowCell result last.now }
+/// The first corner of the least box that holds a cell at two times.
+pub(crate) fn low_of_two(first: &Corners, last: &Corners) -> Vec3
+    ensures first { IsBelowAll result first.now }
+    ensures last { IsBelowAll result last.now }
 {
-    low_of(first, low_of(last, last.a.point))
+    low_of(first, low_of(last, last[0]))
 }
 
 /// The last corner of that box.
-pub(crate) fn high_of_two(first: &Cell, last: &Cell) -> Vec3
-    ensures first { IsAboveCell result first.now }
-    ensures last { IsAboveCell result last.now }
+pub(crate) fn high_of_two(first: &Corners, last: &Corners) -> Vec3
+    ensures first { IsAboveAll result first.now }
+    ensures last { IsAboveAll result last.now }
 {
-    high_of(first, high_of(last, last.a.point))
+    high_of(first, high_of(last, last[0]))
 }
 
-fn is_same_point(a: Vec3, b: Vec3) -> bool
+/// Whether two points have the same coordinates.
+pub(crate) fn is_same_point(a: Vec3, b: Vec3) -> bool
     ensures { IsTrue result → a ≡ b }
 {
     a.x.raw() == b.x.raw() && a.y.raw() == b.y.raw() && a.z.raw() == b.z.raw()
 }
 
-/// Whether two cells have the same points as their corners.
-pub(crate) fn have_same_points(a: &Cell, b: &Cell) -> bool
-    ensures { IsTrue result → HaveSamePoints a.now b.now }
+/// Whether a cell has the same points at two times.
+pub(crate) fn have_same_points(a: &Corners, b: &Corners) -> bool
+    ensures { IsTrue result → a.now ≡ b.now }
 {
-    is_same_point(a.a.point, b.a.point)
-        && is_same_point(a.b.point, b.b.point)
-        && is_same_point(a.c.point, b.c.point)
-        && is_same_point(a.d.point, b.d.point)
+    is_same_point(a[0], b[0])
+        && is_same_point(a[1], b[1])
+        && is_same_point(a[2], b[2])
+        && is_same_point(a[3], b[3])
 }

@@ -1,5 +1,5 @@
 // The cells of a grid that stays where it is, each of one colour and opacity: its points are put on the raster once.
-ghost use Rattle.std.specs.Prelude.{◌≡◌, ◌<◌, ◌≤◌, ◌^◌, ◌+ℤ◌, [], ◌∷◌, false, OnOk, length, unsigned_abs};
+ghost use Rattle.std.specs.Prelude.{◌≡◌, ◌<◌, ◌≤◌, [], ◌∷◌, false, OnOk, length};
 ghost use Rattle.transforms.specs.declared.view.View.{View};
 ghost use Rattle.hider.specs.Bounding.{bounds_of};
 ghost use Rattle.hider.specs.CellValues.{micropolygons_of, cell_when, values_of};
@@ -11,9 +11,7 @@ ghost use Rattle.hider.specs.Tiles.{HavePut, sample_count};
 
 use crate::beside::is_beside;
 use crate::bounds::Bounds;
-use crate::edges::edge_at;
 use crate::extremes::{greatest_of, least_of};
-use crate::facing::Facing;
 use crate::flat_quad::FlatQuad;
 use crate::grid_cells::first_of;
 use crate::list::FragmentList;
@@ -23,7 +21,6 @@ use crate::raster_cell::RasterCell;
 use crate::raster_point::{RasterPoint, put_on_raster};
 use crate::sample_grid::SampleGrid;
 use crate::seen_grid::SeenGrid;
-use crate::sight::is_turned_away;
 use crate::spans::part_near;
 use dice::GridRef;
 use fixed_math::{NoMemory, Vec3};
@@ -47,7 +44,7 @@ pub(crate) fn fill_points<A: Allocator>(
 
 /// The least box that holds the corners.
 #[tactic(auto, unfolding(crate::specs::Bounding::bounds_of, crate::specs::Flat::flat_quad))]
-fn bounds_of(cell: &RasterCell<'_>) -> Bounds
+pub(crate) fn bounds_of(cell: &RasterCell<'_>) -> Bounds
     ensures { result ≡ bounds_of (flat_quad (flat_of cell.now)) }
 {
     let [a, b, c, d] = [cell.a.place, cell.b.place, cell.c.place, cell.d.place];
@@ -63,15 +60,6 @@ pub(crate) fn are_all_seen(cell: &RasterCell<'_>) -> bool
     ensures { result ≡ are_all_seen (flat_of cell.now) }
 {
     cell.a.is_seen && cell.b.is_seen && cell.c.is_seen && cell.d.is_seen
-}
-
-/// The twofold area of a micropolygon with its sign, from those of its triangles.
-fn turn_of(first: i64, second: i64) -> i64
-    requires first { unsigned_abs first ≤ 2 ^ 59 }
-    requires second { unsigned_abs second ≤ 2 ^ 59 }
-    ensures { result ≡ first +ℤ second }
-{
-    first + second
 }
 
 /// Puts in what a cell shows, where that is nothing but in the pixels of `part`.
@@ -90,16 +78,8 @@ fn hide_in(
     ensures { OnOk result (bounds.now ≡ bounds_of (flat_quad (flat_of cell.now)) →
         HavePut places.now.grid (quad_covering one_sided flip (flat_quad (flat_of cell.now))) lists.old lists.new) }
 {
-    let first = edge_at(cell.a.place, cell.b.place, cell.c.place);
-    let second = edge_at(cell.a.place, cell.c.place, cell.d.place);
-    if is_turned_away(one_sided, flip, turn_of(first, second)) {
+    let Some(quad) = FlatQuad::facing(cell, bounds, one_sided, flip) else {
         return Ok(());
-    }
-    let quad = FlatQuad {
-        cell,
-        bounds,
-        first: Facing::of(cell.a, cell.b, cell.c, first),
-        second: Facing::of(cell.a, cell.c, cell.d, second),
     };
     put_rows(lists, places, part, &quad)?;
     Ok(())

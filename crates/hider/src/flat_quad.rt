@@ -1,7 +1,8 @@
 // A micropolygon of one colour and opacity, ready to be looked up at samples.
-ghost use Rattle.std.specs.Prelude.{◌≡◌, ◌<◌, ◌≤◌, ◌^◌, [], IfOk, OnOk, false, true, is_some, unsigned_abs};
+ghost use Rattle.std.specs.Prelude.{◌≡◌, ◌<◌, ◌≤◌, ◌^◌, ◌+ℤ◌, [], IfOk, IfSome, OnOk, MatchOption, false, true, is_some, unsigned_abs};
 ghost use Rattle.std.specs.List.{cons_option};
 ghost use Rattle.fixed_math.specs.Edges.{edge};
+ghost use Rattle.hider.specs.Cells.{is_turned_away, turn};
 ghost use Rattle.hider.specs.Coverage.{covers, means_at};
 ghost use Rattle.hider.specs.Flat.{IsFacingOf, flat_corner, flat_of, flat_quad, facing_covers, held_covers};
 ghost use Rattle.hider.specs.Kept.{keep, keep_all};
@@ -9,12 +10,14 @@ ghost use Rattle.hider.specs.Weighing.{AreAreas};
 
 use crate::areas::Areas;
 use crate::bounds::Bounds;
+use crate::edges::edge_at;
 use crate::facing::Facing;
 use crate::fragment::Fragment;
 use crate::list::FragmentList;
 use crate::places::Places;
 use crate::raster_cell::RasterCell;
 use crate::showing::Showing;
+use crate::sight::is_turned_away;
 use crate::spot::Spot;
 use fixed_math::NoMemory;
 
@@ -27,6 +30,41 @@ pub(crate) struct FlatQuad<'a> {
     pub(crate) second: Option<Facing<'a>>,
     pub(crate) ghost first_is: { IsFacingOf cell.now.a.now cell.now.b.now cell.now.c.now first },
     pub(crate) ghost second_is: { IsFacingOf cell.now.a.now cell.now.c.now cell.now.d.now second },
+}
+
+/// The twofold area of a micropolygon with its sign, from those of its triangles.
+fn turn_of(first: i64, second: i64) -> i64
+    requires first { unsigned_abs first ≤ 2 ^ 59 }
+    requires second { unsigned_abs second ≤ 2 ^ 59 }
+    ensures { result ≡ first +ℤ second }
+{
+    first + second
+}
+
+impl<'a> FlatQuad<'a> {
+    /// A micropolygon with a box, unless its one side is turned away.
+    pub(crate) fn facing(
+        cell: &'a RasterCell<'a>,
+        bounds: &'a Bounds,
+        one_sided: bool,
+        flip: bool,
+    ) -> Option<FlatQuad<'a>>
+        ensures turned { let away = is_turned_away one_sided flip (turn (flat_quad (flat_of cell.now))) in MatchOption result (away ≡ true) (λ q. away ≡ false) }
+        ensures cell { IfSome result (λ q. q.cell.now ≡ cell.now) }
+        ensures bounds { IfSome result (λ q. q.bounds.now ≡ bounds.now) }
+    {
+        let first = edge_at(cell.a.place, cell.b.place, cell.c.place);
+        let second = edge_at(cell.a.place, cell.c.place, cell.d.place);
+        if is_turned_away(one_sided, flip, turn_of(first, second)) {
+            return None;
+        }
+        Some(FlatQuad {
+            cell,
+            bounds,
+            first: Facing::of(cell.a, cell.b, cell.c, first),
+            second: Facing::of(cell.a, cell.c, cell.d, second),
+        })
+    }
 }
 
 /// Puts in what a triangle of a micropolygon shows where it covers a place with these areas. Its colour and opacity are those

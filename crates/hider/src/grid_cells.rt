@@ -41,6 +41,17 @@ fn corner_of(columns: usize, n: usize, k: usize) -> usize
 }
 
 impl<'a> GridCells<'a> {
+    /// The number of the point at which corner `k` of a cell lies.
+    pub fn point_of(&self, cell: usize, k: usize) -> usize
+        requires cell { cell < (values_of self.now.smooth self.now.grid).count }
+        requires corner { k < 4 }
+        ensures value { result ≡ corner_number self.now.grid.columns (first_corner self.now.grid.columns cell) k }
+        ensures inside { result < self.now.grid.columns * self.now.grid.rows }
+    {
+        let columns = self.grid.columns;
+        corner_of(columns, first_of(columns, cell), k)
+    }
+
     /// The number of the point whose colour and opacity corner `k` of a cell has.
     fn shade_of(&self, cell: usize, k: usize) -> usize
         requires cell { cell < (values_of self.now.smooth self.now.grid).count }
@@ -81,7 +92,7 @@ impl<'a> Cells for GridCells<'a> {
         Some(*self)
     }
 
-    ghost between = { λ c i k t a hi hk ht. stays_between _ };
+    ghost between = { λ c i k s t u a hi hk hs hu. stays_between _ };
 }
 
 /// The law of the cells of a grid: they are those between its points by rows, each of which stays where it is.

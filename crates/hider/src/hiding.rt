@@ -1,29 +1,30 @@
 // Cells put on the raster and into the samples that they cover.
-ghost use Rattle.std.specs.Prelude.{◌≡◌, ◌<◌, ◌≤◌, ◌≤ℤ◌, [], ◌∷◌, OnOk, length};
+ghost use Rattle.std.specs.Prelude.{◌≡◌, ◌<◌, ◌≤◌, ◌≤ℤ◌, [], ◌∷◌, Bool, OnOk, length};
 ghost use Rattle.transforms.specs.declared.view.View.{View};
 ghost use Rattle.std.specs.List.{cons_option};
 ghost use Rattle.hider.specs.Cells.{still};
-ghost use Rattle.hider.specs.CellValues.{cell_when, micropolygon_of, micropolygons_of, values_of};
-ghost use Rattle.hider.specs.Extents.{IsBelow, HoldsRaster};
+ghost use Rattle.hider.specs.CellValues.{micropolygon_of, micropolygons_of, values_of};
+ghost use Rattle.hider.specs.Searching.{IsPartOf, StaysIn};
 ghost use Rattle.hider.specs.Flat.{IsSeenBy};
-ghost use Rattle.hider.specs.Fragments.{covering};
+ghost use Rattle.hider.specs.Fragments.{covering, fragment_of};
 ghost use Rattle.hider.specs.Tiles.{HavePut, sample_count};
 
 use crate::bounded::BoundedQuad;
-use crate::bounds::Bounds;
 use crate::cell::Cell;
 use crate::cells::Cells;
-use crate::extents::{have_same_points, high_of_two, low_of_two};
+use crate::extents::have_same_points;
 use crate::flat_hiding::{fill_boxes, fill_points, hide_grid};
 use crate::list::FragmentList;
 use crate::moving::{MovingCell, cell_when};
-use crate::near::put_near;
+use crate::near::{put_near, put_rows};
+use crate::passing::{corners_when, passed_between};
 use crate::places::Places;
-use crate::runs::put_between;
+use crate::sample_grid::SampleGrid;
 use crate::seen_grid::SeenGrid;
 use crate::sight::quad_of;
 use crate::smooth_hiding::hide_smooth_grid;
-use fixed_math::{NoMemory, Vec3};
+use crate::spans::part_near;
+use fixed_math::NoMemory;
 use std::alloc::Global;
 use transforms::Camera;
 
@@ -49,42 +50,25 @@ fn hide_still(
     }
 }
 
-/// The box on the raster of a box in camera space.
-fn raster_bounds(camera: &Camera, lo: Vec3, hi: Vec3) -> Bounds
-    requires ordered { IsBelow lo hi }
-    requires near { camera.now.near ≤ℤ lo.z }
-    ensures { HoldsRaster camera.now lo hi result }
-{
-    let [[left, top], [right, bottom]] = camera.raster_box(lo, hi);
-    Bounds {
-        left,
-        right,
-        top,
-        bottom,
-    }
-}
-
-/// Puts in what a cell that moves shows at each sample: within the box on the raster of all that it passes, where that is
-/// behind the near plane.
+/// Puts in what a cell that moves shows at each sample, where that is nothing but in the pixels of `part`.
 fn hide_moving<C: Cells>(
     lists: &mut [FragmentList],
     places: &Places<'_>,
-    first: &Cell,
-    last: &Cell,
-    shown: &MovingCell<C>,
+    part: &SampleGrid,
+    cells: &C,
+    cell: usize,
+    camera: &Camera,
+    one_sided: bool,
+    flip: bool,
 ) -> Result<(), NoMemory>
-    requires first { first.now ≡ cell_when (C.values shown.now.cells.now) shown.now.cell 0 }
-    requires last { last.now ≡ cell_when (C.values shown.now.cells.now) shown.now.cell 65535 }
+    requires cell { cell < (C.values cells.now).count }
     requires enough { sample_count places.now.grid ≤ length lists.old }
-    ensures { OnOk result (HavePut places.now.grid (covering shown.now.camera.now (micropolygon_of (C.values shown.now.cells.now) shown.now.one_sided shown.now.flip shown.now.cell ∷ [])) lists.old lists.new) }
+    requires part { IsPartOf part.now places.now.grid }
+    requires beside { StaysIn part.now places.now.grid (λ s. fragment_of camera.now s (micropolygon_of (C.values cells.now) one_sided flip cell)) }
+    ensures { OnOk result (HavePut places.now.grid (covering camera.now (micropolygon_of (C.values cells.now) one_sided flip cell ∷ [])) lists.old lists.new) }
 {
-    let lo = low_of_two(first, last);
-    let hi = high_of_two(first, last);
-    if shown.camera.view().near.raw() <= lo.z.raw() {
-        put_near(lists, places, &raster_bounds(shown.camera, lo, hi), shown)
-    } else {
-        put_between(lists, places, 0, places.grid.count(), shown)
-    }
+    let shown = MovingCell::new(cells, cell, camera, one_sided, flip);
+    put_rows(lists, places, part, &shown)
 }
 
 /// Puts in what a cell shows at each sample.
@@ -101,20 +85,21 @@ fn hide_cell<C: Cells>(
     requires enough { sample_count places.now.grid ≤ length lists.old }
     ensures { OnOk result (HavePut places.now.grid (covering camera.now (micropolygon_of (C.values cells.now) one_sided flip cell ∷ [])) lists.old lists.new) }
 {
-    let first = cell_when(cells, cell, 0);
-    let last = cell_when(cells, cell, 65535);
+    let first = corners_when(cells, cell, 0);
+    let last = corners_when(cells, cell, 65535);
     if have_same_points(&first, &last) {
-        hide_still(lists, places, &first, camera, one_sided, flip)?;
+        let cell = cell_when(cells, cell, 0);
+        hide_still(lists, places, &cell, camera, one_sided, flip)?;
         return Ok(());
     }
-    let moving = MovingCell {
-        cells,
-        cell,
-        camera,
-        one_sided,
-        flip,
-    };
-    hide_moving(lists, places, &first, &last, &moving)?;
+    let part = part_near(&places.grid, &passed_between(camera, &first, &last));
+    if part.left >= part.right {
+        return Ok(());
+    }
+    if part.top >= part.bottom {
+        return Ok(());
+    }
+    hide_moving(lists, places, &part, cells, cell, camera, one_sided, flip)?;
     Ok(())
 }
 

@@ -24,6 +24,7 @@ mod means;
 mod moving;
 mod near;
 mod order;
+mod passing;
 mod places;
 mod quad;
 mod raster_cell;

@@ -1,5 +1,5 @@
 // The fragments of a sample that can show.
-ghost use Rattle.std.specs.Prelude.{◌≡◌, ◌≤◌, ◌^◌, [], List, true, unsigned_abs, MatchOption, OnOk};
+ghost use Rattle.std.specs.Prelude.{◌≡◌, ◌≤◌, ◌≤ℤ◌, ◌^◌, [], List, true, unsigned_abs, IsTrue, MatchOption, OnOk};
 ghost use Rattle.hider.specs.declared.fragment.Fragment.{Fragment};
 ghost use Rattle.hider.specs.Composite.{composite};
 ghost use Rattle.hider.specs.Coverage.{mean_at};
@@ -125,6 +125,13 @@ impl FragmentList {
         ensures { MatchOption result ((f : Fragment) → f.depth ≡ mean_at areas.now a b c → keep f self.now ≡ self.now) (λ z. z ≡ mean_at areas.now a b c) }
     {
         depth_before(&self.back, areas, a, b, c)
+    }
+
+    /// Whether no fragment shows that is no nearer than `z`.
+    pub(crate) fn hides(&self, z: Num) -> bool
+        ensures { IsTrue result → (f : Fragment) → z ≤ℤ f.depth → keep f self.now ≡ self.now }
+    {
+        is_behind(&self.back, z)
     }
 
     /// Whether an opaque fragment lies nearer than `z`.

@@ -1,7 +1,8 @@
 // Where the samples of a tile lie.
 ghost use Rattle.std.specs.Prelude.{◌≡◌, ◌<◌, ◌≤◌, length};
-ghost use Rattle.hider.specs.Tiles.{IsSampleGrid, ArePlacesOf, sample_count, sample_of};
+ghost use Rattle.hider.specs.Tiles.{IsSampleGrid, ArePlacesOf, AreTimesOf, sample_count, sample_of};
 
+use crate::sample::Sample;
 use crate::sample_grid::SampleGrid;
 use crate::spot::Spot;
 
@@ -10,8 +11,11 @@ use crate::spot::Spot;
 pub(crate) struct Places<'a> {
     pub(crate) grid: SampleGrid,
     pub(crate) spots: &'a [Spot],
+    /// The times of the first samples, of as many as something that moves has asked for.
+    pub(crate) times: &'a [u16],
     pub(crate) ghost valid: { IsSampleGrid grid },
     pub(crate) ghost placed: { ArePlacesOf grid spots.now },
+    pub(crate) ghost timed: { AreTimesOf grid times.now },
 }
 
 impl<'a> Places<'a> {
@@ -21,5 +25,27 @@ impl<'a> Places<'a> {
         ensures { result ≡ (sample_of self.now.grid n).place }
     {
         self.spots[n]
+    }
+
+    /// The time of sample `n`.
+    pub(crate) fn time(&self, n: usize) -> u16
+        requires { n < sample_count self.now.grid }
+        ensures { result ≡ (sample_of self.now.grid n).time }
+    {
+        if n < self.times.len() {
+            return self.times[n];
+        }
+        self.grid.sample(n).time
+    }
+
+    /// Sample `n`.
+    pub(crate) fn sample(&self, n: usize) -> Sample
+        requires { n < sample_count self.now.grid }
+        ensures { result ≡ sample_of self.now.grid n }
+    {
+        Sample {
+            place: self.at(n),
+            time: self.time(n),
+        }
     }
 }

@@ -1,17 +1,18 @@
 // The rows of a tile: places and fragments by the numbers of samples.
 ghost use Rattle.std.specs.Prelude.{ℕ, ◌≡◌, ◌<◌, ◌≤◌, ◌+◌, ◌*◌, ◌↔◌, true, [], IsTrue, List, length, slice_index_or, vec_capacity};
 ghost use Rattle.fixed_math.specs.Spots.{Spot};
+ghost use Rattle.sample_pattern.specs.Pattern.{time};
 ghost use Rattle.hider.specs.declared.fragment.Fragment.{Fragment};
 ghost use Rattle.hider.specs.Kept.{blocks};
 ghost use Rattle.hider.specs.Samples.{sample_at};
-ghost use Rattle.hider.specs.Tiles.{IsSampleGrid, ArePlacesOf, AreEmpty, sample_count};
+ghost use Rattle.hider.specs.Tiles.{IsSampleGrid, ArePlacesOf, AreTimesOf, AreEmpty, sample_count};
 
 use crate::list::FragmentList;
 use crate::sample_grid::SampleGrid;
 use crate::sampling::place_at;
 use crate::spot::Spot;
 use fixed_math::Num;
-use sample_pattern::pixel_hash;
+use sample_pattern::{pixel_hash, time};
 
 /// Appends the places of a pixel's samples, for which there is room.
 fn push_pixel(spots: &mut Vec<Spot>, x: u32, y: u32, xs: u32, ys: u32)
@@ -41,6 +42,34 @@ pub(crate) fn fill_places(spots: &mut Vec<Spot>, grid: &SampleGrid)
     for pixel in 0..grid.width() * grid.height() {
         let [x, y] = grid.pixel(pixel);
         push_pixel(spots, x, y, grid.xs, grid.ys);
+    }
+}
+
+/// Appends the times of a pixel's samples, for which there is room.
+fn push_times(times: &mut Vec<u16>, x: u32, y: u32, per_pixel: u32)
+    requires x { x < 4096 }
+    requires y { y < 4096 }
+    requires room { length times.old.items + per_pixel ≤ vec_capacity times.old }
+    ensures long { length times.new.items ≡ length times.old.items + per_pixel }
+    ensures room { vec_capacity times.new ≡ vec_capacity times.old }
+    ensures kept { (m d : ℕ) → m < length times.old.items → slice_index_or times.new.items m d ≡ slice_index_or times.old.items m d }
+    ensures each { (c d : ℕ) → c < per_pixel → slice_index_or times.new.items (length times.old.items + c) d ≡ time x y c }
+{
+    for cell in 0..per_pixel {
+        times.push_reserved(time(x, y, cell));
+    }
+}
+
+/// Puts the times of a grid's samples into a row that has room for them, pixel by pixel.
+pub(crate) fn fill_times(times: &mut Vec<u16>, grid: &SampleGrid)
+    requires valid { IsSampleGrid grid.now }
+    requires room { sample_count grid.now ≤ vec_capacity times.old }
+    ensures { AreTimesOf grid.now times.new.items }
+{
+    times.clear();
+    for pixel in 0..grid.width() * grid.height() {
+        let [x, y] = grid.pixel(pixel);
+        push_times(times, x, y, grid.xs * grid.ys);
     }
 }
 

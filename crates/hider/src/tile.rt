@@ -14,7 +14,7 @@ use crate::grid_cells::GridCells;
 use crate::hiding::{hide_cells, hide_seen_grid};
 use crate::list::FragmentList;
 use crate::places::Places;
-use crate::rooms::{all_block, fill_lists, fill_places, next_open};
+use crate::rooms::{all_block, fill_lists, fill_places, fill_times, next_open};
 use crate::sample_grid::SampleGrid;
 use crate::seen_grid::SeenGrid;
 use crate::spot::Spot;
@@ -30,6 +30,8 @@ pub struct Tile {
     grid: SampleGrid,
     // of at least as many samples as the grid has, so that the memory serves for further grids
     spots: Vec<Spot>,
+    // none until something moves in the tile
+    times: Vec<u16>,
     lists: Vec<FragmentList>,
     // the first sample without an opaque fragment, mostly
     open: usize,
@@ -40,7 +42,7 @@ impl Model for Tile {
 
     ghost view = { λ t. record { grid = t.grid; lists = t.lists.items } };
 
-    ghost invariant = { λ t. IsTile t.grid t.spots.items t.lists.items };
+    ghost invariant = { λ t. IsTile t.grid t.spots.items t.times.items t.lists.items };
 }
 
 /// Which samples those of a rectangle are, given by its left, top, right and bottom.
@@ -74,6 +76,7 @@ impl Tile {
         Ok(Tile {
             grid,
             spots,
+            times: Vec::new(alloc),
             lists,
             open: 0,
         })
@@ -92,8 +95,20 @@ impl Tile {
         self.lists.reserve(count.saturating_sub(self.lists.len()))?;
         fill_places(&mut self.spots, &grid);
         fill_lists(&mut self.lists, count);
+        self.times.clear();
         self.grid = grid;
         self.open = 0;
+        Ok(())
+    }
+
+    /// Works out the times of the samples, where something moves and they aren't known.
+    fn time_samples(&mut self, moves: bool) -> Result<(), NoMemory>
+        ensures { self.new ≡ self.old }
+    {
+        if moves && self.times.len() == 0 {
+            self.times.reserve(self.grid.count())?;
+            fill_times(&mut self.times, &self.grid);
+        }
         Ok(())
     }
 
@@ -111,9 +126,11 @@ impl Tile {
         ensures shows { OnOk result ((f : Sample → List Fragment) → Shows self.old f → Shows self.new (with_covering camera.now (micropolygons_of (C.values cells.now) one_sided flip) f)) }
     {
         let alloc = *self.lists.allocator();
+        self.time_samples(cells.still_grid().is_none())?;
         let places = Places {
             grid: self.grid,
             spots: self.spots.as_slice(),
+            times: self.times.as_slice(),
         };
         hide_cells(
             &mut self.lists,
@@ -143,6 +160,7 @@ impl Tile {
         let places = Places {
             grid: self.grid,
             spots: self.spots.as_slice(),
+            times: self.times.as_slice(),
         };
         hide_seen_grid(&mut self.lists, &places, seen, smooth, one_sided, flip)?;
         self.open = next_open(self.lists.as_slice(), self.open, self.grid.count());

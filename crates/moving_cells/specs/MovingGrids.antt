@@ -1,5 +1,4 @@
 -- The micropolygons of a grid whose points move, each on the straight way from its place to its closing place.
-use Rattle.std.proofs.Common.{arith}
 use Rattle.std.specs.Prelude.{ℕ, ◌≤◌, Bool, Option, Some, None, option_map, List, slice_index_or}
 use Rattle.fixed_math.specs.declared.vec3.Vec3.{Vec3}
 use Rattle.fixed_math.specs.declared.vec3.Axis.{Axis}
@@ -23,11 +22,11 @@ moving_values smooth columns rows points colours opacities closing =
 abbrev pub values_when : Bool → GridRef → CellValues
 values_when smooth g = moving_values smooth g.columns g.rows g.p.now g.ci.now g.oi.now (option_map (λ q. q.now) g.closing)
 
--- at any time a point lies between its places at the first time and at the last
-pub point-between : (closing : Option (List Vec3)) (points : List Vec3) (n t : ℕ) (a : Axis) → t ≤ 65535 →
-    LiesBetween (part_of a (point_when closing points n 0)) (part_of a (point_when closing points n 65535)) (part_of a (point_when closing points n t))
-point-between None points n t a h = stays_between _
-point-between (Some closing) points n t a h = place-between 0 t 65535 (slice_index_or points n origin) (slice_index_or closing n origin) a (omega arith) h
+-- at any time a point lies between its places at an earlier and at a later one
+pub point-between : (closing : Option (List Vec3)) (points : List Vec3) (n s t u : ℕ) (a : Axis) → s ≤ t → t ≤ u →
+    LiesBetween (part_of a (point_when closing points n s)) (part_of a (point_when closing points n u)) (part_of a (point_when closing points n t))
+point-between None points n s t u a h k = stays_between _
+point-between (Some closing) points n s t u a h k = place-between s t u (slice_index_or points n origin) (slice_index_or closing n origin) a h k
 
 pub moving-between : (smooth : Bool) (g : GridRef) → MovesBetween (values_when smooth g)
-moving-between smooth g i k t a hi hk ht = point-between (option_map (λ q. q.now) g.closing) g.p.now (corner_number g.columns (first_corner g.columns i) k) t a ht
+moving-between smooth g i k s t u a hi hk hs hu = point-between (option_map (λ q. q.now) g.closing) g.p.now (corner_number g.columns (first_corner g.columns i) k) s t u a hs hu

@@ -16,24 +16,6 @@ pub struct MovingCells<'a> {
     pub smooth: bool,
 }
 
-/// The cells of a grid at other places.
-fn cells_at<'a>(grid: &GridRef<'a>, places: &'a [Vec3], smooth: bool) -> GridCells<'a>
-    requires { length places.now ≡ grid.now.columns * grid.now.rows }
-    ensures { values_of result.smooth result.grid ≡ grid_values smooth grid.now.columns grid.now.rows places.now grid.now.ci.now grid.now.oi.now }
-{
-    GridCells {
-        grid: GridRef {
-            columns: grid.columns,
-            rows: grid.rows,
-            p: places,
-            ci: grid.ci,
-            oi: grid.oi,
-            closing: None,
-        },
-        smooth,
-    }
-}
-
 impl<'a> MovingCells<'a> {
     /// The cells where they are before they move.
     fn opening_cells(&self) -> GridCells<'a>
@@ -55,13 +37,11 @@ impl<'a> Cells for MovingCells<'a> {
     }
 
     fn corner(&self, cell: usize, k: usize, time: u16) -> Vec3 {
-        let opening = self.opening_cells().corner(cell, k, time);
+        let n = self.opening_cells().point_of(cell, k);
+        let opening = self.grid.p[n];
         match self.grid.closing {
             None => opening,
-            Some(places) => {
-                let closing = cells_at(&self.grid, places, self.smooth);
-                place_on_way(opening, closing.corner(cell, k, time), time as u32)
-            }
+            Some(closing) => place_on_way(opening, closing[n], time as u32),
         }
     }
 

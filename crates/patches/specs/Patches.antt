@@ -1,13 +1,15 @@
 -- Patches, by their kinds.
-use Rattle.std.specs.Prelude.{ℕ, ℤ, List}
+use Rattle.std.proofs.Common.{ℕ, ◌≤◌, ◌^◌, ℤ, List, [], ◌∷◌, refl, arith, lit<}
 use Rattle.fixed_math.specs.declared.vec3.Vec3.{Vec3}
+use Rattle.fixed_math.specs.Axes.{AreWithin}
+use Rattle.fixed_math.specs.Blossom.{denominator}
 use Rattle.patches.specs.declared.patch.Patch.{Patch}
 use Rattle.patches.specs.declared.patch.Patch.TheVariants.{Bilinear, Bicubic}
 use Rattle.patches.specs.Rects.{Rect}
-use Rattle.patches.specs.Boxes.{Box, PointsLieInBoxes, PartsLieInBoxes, NetsHaveRows}
+use Rattle.patches.specs.Boxes.{Box, IsWithin, PointsLieInBoxes, PartsLieInBoxes, NetsHaveRows}
 use Rattle.patches.specs.Nets.{bilinear_point, bilinear_net, bicubic_point, bicubic_net}
 use Rattle.patches.specs.Slopes.{bilinear_du, bilinear_dv, bicubic_du, bicubic_dv}
-use Rattle.patches.specs.BoxLaws.{bilinear_box, bilinear_inside, bilinear_parts, bilinear_rows, bicubic_box, bicubic_inside, bicubic_parts, bicubic_rows}
+use Rattle.patches.specs.BoxLaws.{blossom_point-within, bilinear_point-blossom, bilinear_box, bilinear_inside, bilinear_parts, bilinear_rows, bicubic_point-blossom, bicubic_box, bicubic_inside, bicubic_parts, bicubic_rows}
 
 abbrev pub patch_point : Patch → ℕ → ℕ → Vec3
 patch_point (Bilinear ps) u v = bilinear_point ps u v
@@ -45,3 +47,18 @@ patch_parts (Bicubic ps) q r hq hr k = bicubic_parts ps q r hq hr k
 pub patch_rows : NetsHaveRows patch_width patch_net
 patch_rows (Bilinear ps) r = bilinear_rows ps r
 patch_rows (Bicubic ps) r = bicubic_rows ps r
+
+-- each coordinate of each control point has a magnitude of at most 2 ^ 30
+abbrev pub IsSmallPatch : Patch → Type 0
+IsSmallPatch (Bilinear ps) = AreWithin (2 ^ 30) ps
+IsSmallPatch (Bicubic ps) = AreWithin (2 ^ 30) ps
+
+-- and so has each coordinate of each point of the surface
+pub patch_point-within : (p : Patch) (u v : ℕ) → IsSmallPatch p → u ≤ 4096 → v ≤ 4096 → IsWithin (2 ^ 30) (patch_point p u v)
+patch_point-within (Bilinear ps) u v h hu hv =
+    rw (bilinear_point-blossom ps u v)
+    (blossom_point-within 1 2 (denominator ^ 2) (2 ^ 30) ps (u ∷ []) (v ∷ []) (lit< tt) refl refl refl (omega arith, hu, tt) (omega arith, hv, tt) h)
+patch_point-within (Bicubic ps) u v h hu hv =
+    rw (bicubic_point-blossom ps u v)
+    (blossom_point-within 3 4 (denominator ^ 6) (2 ^ 30) ps (u ∷ u ∷ u ∷ []) (v ∷ v ∷ v ∷ []) (lit< tt) refl refl refl
+    (omega arith, hu, (omega arith, hu, (omega arith, hu, tt))) (omega arith, hv, (omega arith, hv, (omega arith, hv, tt))) h)

@@ -45,6 +45,14 @@ impl Bicubic {
     {
         Bicubic { points: p }
     }
+
+    /// The points.
+    pub fn points(&self) -> &[Vec3; 16]
+        ensures value { result.now ≡ self.now }
+        ensures small { AreWithin (2 ^ 30) result.now }
+    {
+        &self.points
+    }
 }
 
 /// A coordinate of control point `k`.

@@ -44,6 +44,14 @@ impl Bilinear {
     {
         Bilinear { points: p }
     }
+
+    /// The points.
+    pub fn points(&self) -> &[Vec3; 4]
+        ensures value { result.now ≡ self.now }
+        ensures small { AreWithin (2 ^ 30) result.now }
+    {
+        &self.points
+    }
 }
 
 /// A coordinate of control point `k`.

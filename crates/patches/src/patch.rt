@@ -1,5 +1,5 @@
 // A patch of any kind.
-ghost use Rattle.patches.specs.Patches.{patch_point, patch_du, patch_dv, patch_net, patch_width, patch_box, patch_inside, patch_parts, patch_rows};
+ghost use Rattle.patches.specs.Patches.{patch_point, patch_du, patch_dv, patch_net, patch_width, patch_box, patch_inside, patch_parts, patch_rows, IsSmallPatch};
 
 use crate::bicubic::Bicubic;
 use crate::bilinear::Bilinear;
@@ -14,6 +14,22 @@ use fixed_math::Vec3;
 pub enum Patch {
     Bilinear(Bilinear),
     Bicubic(Bicubic),
+}
+
+impl Patch {
+    /// Does nothing: a call tells a proof that raw coordinates of control points have a magnitude of at most 2^30.
+    pub fn recall(&self)
+        ensures { IsSmallPatch self.now }
+    {
+        match self {
+            Patch::Bilinear(patch) => {
+                let _points = patch.points();
+            }
+            Patch::Bicubic(patch) => {
+                let _points = patch.points();
+            }
+        }
+    }
 }
 
 impl Surface for Patch {

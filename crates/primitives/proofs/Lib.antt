@@ -1,4 +1,6 @@
 pub mod Lists
+pub mod OnWays
+pub mod MovingRoom
 pub mod Runs
 pub mod Distinct
 pub mod Values

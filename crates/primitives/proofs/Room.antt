@@ -131,7 +131,7 @@ few_faces params room ps (Some f) qs e =
 
 -- ---- requests
 
-few_over : (name : Req) (args : List Arg) (bases : BasisValues) (params : List Param) (room : ℕ) (ps : List Vec3) (qs : List PatchValue) → patches_over name args bases params room ps ≡ made qs → length qs ≤ room
+pub few_over : (name : Req) (args : List Arg) (bases : BasisValues) (params : List Param) (room : ℕ) (ps : List Vec3) (qs : List PatchValue) → patches_over name args bases params room ps ≡ made qs → length qs ≤ room
 few_over reqs.Patch args bases params room ps qs e = few_counted params (patch_shape args bases) room ps (counts_of (patch_shape args bases) (length ps)) qs e
 few_over reqs.PatchMesh args bases params room ps qs e = few_counted params (mesh_shape args bases) room ps (counts_of (mesh_shape args bases) (length ps)) qs e
 few_over reqs.Polygon args bases params room ps qs e = few_faces params room ps (one_face (length ps)) qs e

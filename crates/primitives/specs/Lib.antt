@@ -4,3 +4,6 @@ pub mod Spread
 pub mod Quadrics
 pub mod Patches
 pub mod Answers
+pub mod Making
+pub mod Shifts
+pub mod Moving

@@ -31,17 +31,19 @@ use Rattle.primitives.specs.declared.forms.Form.{Form}
 use Rattle.primitives.specs.Quadrics.{form_of, halves, patch_at}
 use Rattle.primitives.specs.Spread.{spread}
 
--- a patch of a primitive: its surface in camera space, the normal of the flat face that it is a piece of, its place in its mesh as
--- column, columns, row and rows, and its values of the primitive's variables
+-- a patch of a primitive: its surface in camera space, where it moves that when the shutter opens, and then that when it closes; the
+-- normal of the flat face that it is a piece of, its place in its mesh as column, columns, row and rows, and its values of the
+-- primitive's variables
 pub record PatchValue : Type 0 where
   pub patch : AnyPatch
+  pub closing : Option AnyPatch
   pub flat : Option Vec3
   pub place : List ℕ
   pub vars : List VariableValue
 
 -- the patch that stands there in its primitive, with its values of these variables
 abbrev pub patch_with : List Param → Option Vec3 → Seat → AnyPatch → PatchValue
-patch_with params flat seat patch = record { patch = patch; flat = flat; place = seat.place; vars = variables_of seat params }
+patch_with params flat seat patch = record { patch = patch; closing = None; flat = flat; place = seat.place; vars = variables_of seat params }
 
 -- patches of one kind one after another, the first of these being patch k of those that stand so in their primitive
 unfoldable pub seated : {A : Type 0} → (A → AnyPatch) → List Param → Option Vec3 → (ℕ → Seat) → ℕ → List A → List PatchValue

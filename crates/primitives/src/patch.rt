@@ -9,11 +9,13 @@ use quadrics::AnyPatch;
 use scene::{PrimitiveVariables, RequestVariables, Seat, Shared};
 use std::marker::Model;
 
-/// A patch of a primitive: its surface in camera space, the normal of the flat face that it is a piece of, the column c of m and the
-/// row d of n that it has in its mesh, as [c, m, d, n], and its values of the primitive's variables. Contracts see it as a record.
+/// A patch of a primitive: its surface in camera space, where it moves that when the shutter opens, and then that when it closes; the
+/// normal of the flat face that it is a piece of, the column c of m and the row d of n that it has in its mesh, as [c, m, d, n], and its
+/// values of the primitive's variables. Contracts see it as a record.
 #[derive(Drop)]
 pub struct PrimitivePatch {
     pub patch: AnyPatch,
+    pub closing: Option<AnyPatch>,
     pub flat: Option<Vec3>,
     pub place: [u32; 4],
     pub vars: PrimitiveVariables,
@@ -22,7 +24,7 @@ pub struct PrimitivePatch {
 impl Model for PrimitivePatch {
     ghost Value = { PatchValue };
 
-    ghost view = { λ p. record { patch = p.patch; flat = p.flat; place = p.place; vars = p.vars } };
+    ghost view = { λ p. record { patch = p.patch; closing = p.closing; flat = p.flat; place = p.place; vars = p.vars } };
 
     ghost invariant = { λ p. IsPlace p.place };
 }
@@ -42,6 +44,7 @@ pub(crate) fn patch_with(
     let place = seat.place;
     Ok(PrimitivePatch {
         patch,
+        closing: None,
         flat,
         place,
         vars,

@@ -5,7 +5,8 @@ ghost use Rattle.rib_reader.specs.Table.{row_of};
 ghost use Rattle.rib_reader.specs.Lists.{is_geometry};
 ghost use Rattle.scene.specs.Scene.{most_prims};
 ghost use Rattle.scene.specs.Seats.{IsOfKind};
-ghost use Rattle.primitives.specs.Patches.{patches_over, patches_of};
+ghost use Rattle.primitives.specs.Patches.{patches_of};
+ghost use Rattle.primitives.specs.Making.{made_over};
 ghost use Rattle.primitives.specs.Answers.{GivesMade};
 
 use crate::faces::faces_patches;
@@ -23,37 +24,46 @@ use scene_parts::{Bases, StateCode, faces_in, one_face};
 use std::alloc::Global;
 use transforms::Affine;
 
-// The patches of a request over these points, with these variables.
-fn patches_over(
-    alloc: Global,
-    request: &Request,
-    bases: Bases,
-    variables: &Shared<RequestVariables>,
-    room: usize,
-    points: &[Vec3],
-) -> Result<List<PrimitivePatch>, PrimitiveFault>
-    requires room { room ≤ most_prims }
-    requires kinds { All IsOfKind variables.now }
-    ensures { GivesMade result (patches_over request.now.name request.now.args bases variables.now room points.now) }
-{
-    match request.name {
-        Req::Patch => {
-            let shape = bases.patch_shape(request);
-            mesh_patches(alloc, variables, &shape, room, points)
+/// A primitive apart from its points: its request, the bases in force, its variables, and how many patches its frame may take.
+#[derive(Clone, Copy)]
+pub(crate) struct Primitive<'a> {
+    pub(crate) request: &'a Request,
+    pub(crate) bases: Bases,
+    pub(crate) variables: &'a Shared<RequestVariables>,
+    pub(crate) room: usize,
+}
+
+impl Primitive<'_> {
+    /// Its patches over these points.
+    pub(crate) fn over(
+        &self,
+        alloc: Global,
+        points: &[Vec3],
+    ) -> Result<List<PrimitivePatch>, PrimitiveFault>
+        requires room { self.now.room ≤ most_prims }
+        requires kinds { All IsOfKind self.now.variables.now }
+        ensures { GivesMade result (made_over self.now points.now) }
+    {
+        let (variables, room) = (self.variables, self.room);
+        match self.request.name {
+            Req::Patch => {
+                let shape = self.bases.patch_shape(self.request);
+                mesh_patches(alloc, variables, &shape, room, points)
+            }
+            Req::PatchMesh => {
+                let shape = self.bases.mesh_shape(self.request);
+                mesh_patches(alloc, variables, &shape, room, points)
+            }
+            Req::Polygon => {
+                let faces = one_face(alloc, points.len())?;
+                faces_patches(alloc, variables, room, points, faces)
+            }
+            Req::PointsPolygons => {
+                let faces = faces_in(alloc, self.request, points.len())?;
+                faces_patches(alloc, variables, room, points, faces)
+            }
+            _ => Ok(List(Vec::new(alloc))),
         }
-        Req::PatchMesh => {
-            let shape = bases.mesh_shape(request);
-            mesh_patches(alloc, variables, &shape, room, points)
-        }
-        Req::Polygon => {
-            let faces = one_face(alloc, points.len())?;
-            faces_patches(alloc, variables, room, points, faces)
-        }
-        Req::PointsPolygons => {
-            let faces = faces_in(alloc, request, points.len())?;
-            faces_patches(alloc, variables, room, points, faces)
-        }
-        _ => Ok(List(Vec::new(alloc))),
     }
 }
 
@@ -82,5 +92,11 @@ pub fn patches_of(
         return Err(PrimitiveFault::Refused(StateCode::G5));
     };
     let variables = variables_in(alloc, request)?;
-    patches_over(alloc, request, bases, &variables, room, points.as_slice())
+    let primitive = Primitive {
+        request,
+        bases,
+        variables: &variables,
+        room,
+    };
+    primitive.over(alloc, points.as_slice())
 }

@@ -1,12 +1,12 @@
 -- Patches of a scene: by their control points, or of quadrics.
-use Rattle.std.specs.Prelude.{ℕ, ℤ, List}
+use Rattle.std.specs.Prelude.{ℕ, ◌≤◌, ◌^◌, ℤ, List}
 use Rattle.fixed_math.specs.declared.vec3.Vec3.{Vec3}
 use Rattle.patches.specs.Rects.{Rect}
-use Rattle.patches.specs.Boxes.{Box, PointsLieInBoxes, PartsLieInBoxes, NetsHaveRows}
-use Rattle.patches.specs.Patches.{patch_point as plain_point, patch_du as plain_du, patch_dv as plain_dv, patch_net as plain_net, patch_width as plain_width, patch_box as plain_box, patch_inside as plain_inside, patch_parts as plain_parts, patch_rows as plain_rows}
+use Rattle.patches.specs.Boxes.{Box, IsWithin, PointsLieInBoxes, PartsLieInBoxes, NetsHaveRows}
+use Rattle.patches.specs.Patches.{patch_point as plain_point, patch_du as plain_du, patch_dv as plain_dv, patch_net as plain_net, patch_width as plain_width, patch_box as plain_box, patch_inside as plain_inside, patch_parts as plain_parts, patch_rows as plain_rows, IsSmallPatch as IsSmallPlain, patch_point-within as plain_point-within}
 use Rattle.quadrics.specs.declared.any_patch.AnyPatch.{AnyPatch}
 use Rattle.quadrics.specs.declared.any_patch.AnyPatch.TheVariants.{Plain, Quadric}
-use Rattle.quadrics.specs.Quadrics.{quadric_point, quadric_du, quadric_dv, quadric_net, quadric_box, quadric_inside, quadric_parts, quadric_rows}
+use Rattle.quadrics.specs.Quadrics.{quadric_point, quadric_du, quadric_dv, quadric_net, quadric_box, quadric_inside, quadric_parts, quadric_rows, IsSmallQuadric, quadric_point-within}
 
 abbrev pub patch_point : AnyPatch → ℕ → ℕ → Vec3
 patch_point (Plain p) u v = plain_point p u v
@@ -44,3 +44,13 @@ patch_parts (Quadric p) q r hq hr k = quadric_parts p q r hq hr k
 pub patch_rows : NetsHaveRows patch_width patch_net
 patch_rows (Plain p) r = plain_rows p r
 patch_rows (Quadric q) r = quadric_rows q r
+
+-- each coordinate of each control point has a magnitude of at most 2 ^ 30
+abbrev pub IsSmallPatch : AnyPatch → Type 0
+IsSmallPatch (Plain p) = IsSmallPlain p
+IsSmallPatch (Quadric q) = IsSmallQuadric q
+
+-- and so has each coordinate of each point of the surface
+pub patch_point-within : (p : AnyPatch) (u v : ℕ) → IsSmallPatch p → u ≤ 4096 → v ≤ 4096 → IsWithin (2 ^ 30) (patch_point p u v)
+patch_point-within (Plain p) u v h hu hv = plain_point-within p u v h hu hv
+patch_point-within (Quadric q) u v h hu hv = quadric_point-within q u v h hu hv

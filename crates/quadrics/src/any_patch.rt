@@ -1,5 +1,5 @@
 // A patch of a scene: of a primitive by its control points, or of a quadric.
-ghost use Rattle.quadrics.specs.AnyPatches.{patch_point, patch_du, patch_dv, patch_net, patch_width, patch_box, patch_inside, patch_parts, patch_rows};
+ghost use Rattle.quadrics.specs.AnyPatches.{patch_point, patch_du, patch_dv, patch_net, patch_width, patch_box, patch_inside, patch_parts, patch_rows, IsSmallPatch};
 
 use crate::quadric::Quadric;
 use arrayvec::ArrayVec;
@@ -11,6 +11,18 @@ use patches::{Curve, Dyadic, Patch, Piece, Surface};
 pub enum AnyPatch {
     Plain(Patch),
     Quadric(Quadric),
+}
+
+impl AnyPatch {
+    /// Does nothing: a call tells a proof that raw coordinates of control points have a magnitude of at most 2^30.
+    pub fn recall(&self)
+        ensures { IsSmallPatch self.now }
+    {
+        match self {
+            AnyPatch::Plain(patch) => patch.recall(),
+            AnyPatch::Quadric(patch) => patch.recall(),
+        }
+    }
 }
 
 impl Surface for AnyPatch {

@@ -2,7 +2,7 @@
 ghost use Rattle.std.specs.Prelude.{◌≡◌, ◌^◌};
 ghost use Rattle.fixed_math.specs.Axes.{AreWithin};
 ghost use Rattle.quadrics.specs.declared.quadric.Quadric.TheVariants.{Round as of_round, Ruled as of_ruled};
-ghost use Rattle.quadrics.specs.Quadrics.{quadric_point, quadric_du, quadric_dv, quadric_net, quadric_box, quadric_inside, quadric_parts, quadric_rows};
+ghost use Rattle.quadrics.specs.Quadrics.{quadric_point, quadric_du, quadric_dv, quadric_net, quadric_box, quadric_inside, quadric_parts, quadric_rows, IsSmallQuadric};
 
 use crate::round::Round;
 use crate::ruled::Ruled;
@@ -34,6 +34,20 @@ impl Quadric {
         ensures { result ≡ of_ruled p }
     {
         Quadric::Ruled(Ruled::new(p))
+    }
+
+    /// Does nothing: a call tells a proof that raw coordinates of control points have a magnitude of at most 2^30.
+    pub fn recall(&self)
+        ensures { IsSmallQuadric self.now }
+    {
+        match self {
+            Quadric::Round(patch) => {
+                let _points = patch.points();
+            }
+            Quadric::Ruled(patch) => {
+                let _points = patch.points();
+            }
+        }
     }
 }
 

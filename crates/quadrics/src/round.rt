@@ -42,6 +42,14 @@ impl Round {
     {
         Round { points: p }
     }
+
+    /// The points.
+    pub fn points(&self) -> &[Vec3; 9]
+        ensures value { result.now ≡ self.now }
+        ensures small { AreWithin (2 ^ 30) result.now }
+    {
+        &self.points
+    }
 }
 
 /// The numerator of a coordinate by the blossoms at `us` and `vs`.

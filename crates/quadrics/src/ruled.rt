@@ -43,6 +43,14 @@ impl Ruled {
     {
         Ruled { points: p }
     }
+
+    /// The points.
+    pub fn points(&self) -> &[Vec3; 6]
+        ensures value { result.now ≡ self.now }
+        ensures small { AreWithin (2 ^ 30) result.now }
+    {
+        &self.points
+    }
 }
 
 /// The numerator of a coordinate by the blossoms at `us` and `v`.

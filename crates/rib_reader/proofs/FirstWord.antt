@@ -17,7 +17,7 @@ use Rattle.rib_reader.specs.Values.{scan_of}
 use Rattle.rib_reader.specs.Rules.{lower, when, joined, word_at}
 use Rattle.rib_reader.specs.Lists.{request_code}
 use Rattle.rib_reader.specs.Laws.{spelled_all, token_kind}
-use Rattle.rib_reader.specs.Reading.{Read, args_in, list_in, unless_fault, of_scan, of_name, of_group, word_of, first_word}
+use Rattle.rib_reader.specs.Reading.{Read, args_in, list_in, unless_fault, counted_code, of_scan, of_name, of_group, word_of, first_word}
 use Rattle.rib_reader.proofs.Lowest.{lower_none, when_none}
 use Rattle.rib_reader.proofs.Spelling.{read_law}
 
@@ -46,16 +46,17 @@ same_read : (code : Option RibCode) (made r : Read) → unless_fault code made �
 same_read None made r e = cc
 same_read (Some code) made r e = absurd cc
 
-of_known : (dict : List Declared) (name : Req) (body : List Token) (line : ℕ) (r : Read) → of_scan dict name (scan_of body) line ≡ Ok r
+of_known : (dict : List Declared) (name : Req) (body : List Token) (line : ℕ) (r : Read) → of_scan dict name (counted_code name body) (scan_of body) line ≡ Ok r
     → r.name ≡ Declare → word_at r.args 0 ≡ first_word body
 of_known dict name body line r e is =
     let values : List Arg = joined name (scan_of body).values in
     let own : Option RibCode = request_code name (args_in name values) (list_in dict name values).params in
-    let before : Option RibCode = lower (when (scan_of body).broken S3) (list_in dict name values).fault in
+    let met : Option RibCode = lower (when (scan_of body).broken S3) (counted_code name body) in
+    let before : Option RibCode = lower met (list_in dict name values).fault in
     let made : Read = record { name = name; args = args_in name values; params = (list_in dict name values).params; line = line } in
     let none = no_code (lower before own) made r e in
     let same = same_read (lower before own) made r e in
-    let whole = when_none (scan_of body).broken S3 (lower_none (when (scan_of body).broken S3) (list_in dict name values).fault (lower_none before own none).0).0 in
+    let whole = when_none (scan_of body).broken S3 (lower_none (when (scan_of body).broken S3) (counted_code name body) (lower_none met (list_in dict name values).fault (lower_none before own none).0).0).0 in
     let declares : name ≡ Declare = ap (λ (q : Read). q.name) same ∙ is in
     ap (λ (q : Read). word_at q.args 0) (sym same)
     ∙ ap (λ (n : Req). word_at (args_in n (joined n (scan_of body).values)) 0) declares

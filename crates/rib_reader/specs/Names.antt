@@ -71,6 +71,8 @@ request_names =
     ∷ (codes "ErrorHandler", Known reqs.ErrorHandler)
     ∷ (codes "Hider", Known reqs.Hider)
     ∷ (codes "Shutter", Known reqs.Shutter)
+    ∷ (codes "MotionBegin", Known reqs.MotionBegin)
+    ∷ (codes "MotionEnd", Known reqs.MotionEnd)
     ∷ (codes "RelativeDetail", Known reqs.RelativeDetail)
     ∷ (codes "GeometricApproximation", Known reqs.GeometricApproximation)
     ∷ (codes "PixelVariance", Known reqs.PixelVariance)
@@ -105,7 +107,6 @@ request_names =
     ∷ (codes "TextureCoordinates", LeftOut)
     ∷ (codes "ColorSamples", LeftOut)
     ∷ (codes "DepthOfField", LeftOut)
-    ∷ (codes "MotionBegin", LeftOut)
     ∷ []
 
 -- MakeTexture and the like

@@ -1,5 +1,5 @@
 -- The requests of a scene.
-use Rattle.std.specs.Prelude.{◌≡◌, refl, codes, pos, ℕ, zero, suc, Bool, true, false, List, [], ◌∷◌, ◌++◌, Option, Some, None, Result, Ok, Err, Vec, take, drop, length, map}
+use Rattle.std.specs.Prelude.{◌≡◌, refl, codes, pos, ℕ, zero, suc, Bool, true, false, List, [], ◌∷◌, ◌++◌, Option, Some, None, Result, Ok, Err, Vec, take, drop, length, map, filter, not, ◌==◌}
 use Rattle.std.specs.List.{prefix_len}
 use Rattle.std.specs.declared.alloc.Global.{Global}
 use Rattle.rib_lex.specs.declared.token.Token.{Token}
@@ -63,14 +63,45 @@ checked before r = unless_fault (lower before (request_code r.name r.args r.para
 abbrev pub with_list : Option RibCode → Req → List Arg → Listing → ℕ → Result Read Placed
 with_list before name args l line = checked (lower before l.fault) record { name = name; args = args; params = l.params; line = line }
 
-abbrev pub of_values : List Declared → Req → Bool → List Arg → ℕ → Result Read Placed
-of_values dict name broken values line = with_list (when broken S3) name (args_in name values) (list_in dict name values) line
+abbrev pub of_values : List Declared → Req → Option RibCode → List Arg → ℕ → Result Read Placed
+of_values dict name before values line = with_list before name (args_in name values) (list_in dict name values) line
 
-abbrev pub of_scan : List Declared → Req → Scan → ℕ → Result Read Placed
-of_scan dict name s line = of_values dict name s.broken (joined name s.values) line
+-- the tokens of an array before its end, and the numbers among them, in a mixed array too
+abbrev pub is_inside : Token → Bool
+is_inside t = not_end t.kind
+  where
+    not_end : TokenKind → Bool
+    not_end kinds.Close = false
+    not_end _ = true
+
+abbrev pub is_number : Token → Bool
+is_number t = number_in t.kind
+  where
+    number_in : TokenKind → Bool
+    number_in (kinds.Number d) = true
+    number_in _ = false
+
+abbrev pub numbers_inside : List Token → ℕ
+numbers_inside items = length (filter is_number (take (prefix_len is_inside items) items))
+
+-- a motion has two times
+abbrev pub times_counted : List Token → Option RibCode
+times_counted [] = None
+times_counted (t ∷ items) = counted_behind t.kind items
+  where
+    counted_behind : TokenKind → List Token → Option RibCode
+    counted_behind kinds.Open items = when (not (numbers_inside items == 2)) S2
+    counted_behind _ items = None
+
+abbrev pub counted_code : Req → List Token → Option RibCode
+counted_code reqs.MotionBegin body = times_counted body
+counted_code _ body = None
+
+abbrev pub of_scan : List Declared → Req → Option RibCode → Scan → ℕ → Result Read Placed
+of_scan dict name counted s line = of_values dict name (lower (when s.broken S3) counted) (joined name s.values) line
 
 abbrev pub of_name : List Declared → Option Named → List Token → ℕ → Result Read Placed
-of_name dict (Some (Known name)) body line = of_scan dict name (scan_of body) line
+of_name dict (Some (Known name)) body line = of_scan dict name (counted_code name body) (scan_of body) line
 of_name dict (Some LeftOut) body line = Err (S2, line)
 of_name dict None body line = Err (S1, line)
 

@@ -14,7 +14,7 @@ use Rattle.rib_reader.specs.declared.table.Shape.TheVariants as shapes
 use Rattle.rib_reader.specs.declared.table.Words.{Words}
 use Rattle.rib_reader.specs.declared.table.Words.TheVariants.{Modes, Bicubic, Bounds}
 use Rattle.rib_reader.specs.declared.table.Rule.{Rule}
-use Rattle.rib_reader.specs.declared.table.Rule.TheVariants.{Within, AtLeast, Rising, Only, Between, OneOf, NoneOf, NoArray, Levels, WholeSphere, Declaration}
+use Rattle.rib_reader.specs.declared.table.Rule.TheVariants.{Within, AtLeast, Rising, Ordered, Only, Between, OneOf, NoneOf, NoArray, Levels, WholeSphere, Times, Declaration}
 use Rattle.rib_reader.specs.declared.table.Tail.{Tail}
 use Rattle.rib_reader.specs.declared.table.Tail.TheVariants as tails
 use Rattle.rib_reader.specs.declared.follows.Follows.{Follows}
@@ -155,6 +155,11 @@ levels_code one low high = lower
 abbrev pub sphere_code : Option ℤ → Option ℤ → Option ℤ → Option RibCode
 sphere_code radius low high = when (is_less (option_map neg_ℤ radius) low || is_less high radius) S2
 
+-- a motion's first time is less than its second; another count of times is a fault of its own
+abbrev pub times_code : Option (List Decimal) → Option RibCode
+times_code (Some (from ∷ to ∷ [])) = when (not (int_lt (num from) (num to))) S3
+times_code _ = None
+
 abbrev pub code_in : Result (Class × Kind) RibCode → Option RibCode
 code_in (Ok type) = None
 code_in (Err code) = Some code
@@ -169,6 +174,7 @@ abbrev pub rule_code : Rule → List Arg → Option RibCode
 rule_code (Within place least most) args = when (is_outside (whole_at args place) least most) S3
 rule_code (AtLeast place raw) args = when (is_below (raw_at args place) raw) S3
 rule_code (Rising first second) args = when (is_not_less (raw_at args first) (raw_at args second)) S3
+rule_code (Ordered first second) args = when (is_less (raw_at args second) (raw_at args first)) S3
 rule_code (Only place same) args = when (is_outside (raw_at args place) same same) S2
 rule_code (Between place least most) args = when (is_outside (raw_at args place) least most) S3
 rule_code (OneOf place words code) args = when (is_none_of words (word_at args place)) code
@@ -176,6 +182,7 @@ rule_code (NoneOf place words) args = when (is_one words (word_at args place)) S
 rule_code (NoArray place) args = when (is_array_at args place) S2
 rule_code Levels args = if is_one Modes (word_at args 0) then levels_code (whole_at args 1) (whole_at args 2) (whole_at args 3) else None
 rule_code WholeSphere args = sphere_code (raw_at args 0) (raw_at args 1) (raw_at args 2)
+rule_code Times args = times_code (numbers_at args 0)
 rule_code Declaration args = declare_code (word_at args 1)
 
 -- the lowest code that stands in the arguments

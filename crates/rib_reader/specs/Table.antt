@@ -8,7 +8,7 @@ use Rattle.rib_reader.specs.declared.table.Shape.TheVariants.{Whole, Number, Wor
 use Rattle.rib_reader.specs.declared.table.Words.{Words}
 use Rattle.rib_reader.specs.declared.table.Words.TheVariants.{Projections, Filters, Modes, Interpolations, Orientations, Handed, Bases, Patches, Bicubic, Wraps, Bounds}
 use Rattle.rib_reader.specs.declared.table.Rule.{Rule}
-use Rattle.rib_reader.specs.declared.table.Rule.TheVariants.{Within, AtLeast, Rising, Only, Between, OneOf, NoneOf, NoArray, Levels, WholeSphere, Declaration}
+use Rattle.rib_reader.specs.declared.table.Rule.TheVariants.{Within, AtLeast, Rising, Ordered, Only, Between, OneOf, NoneOf, NoArray, Levels, WholeSphere, Times, Declaration}
 use Rattle.rib_reader.specs.declared.table.Tail.{Tail}
 use Rattle.rib_reader.specs.declared.table.Tail.TheVariants as tails
 use Rattle.rib_reader.specs.declared.faults.RibCode.TheVariants.{S2, S3}
@@ -107,7 +107,9 @@ row_of reqs.Disk = row (Number ∷ Number ∷ Number ∷ []) (AtLeast 1 (pos 1) 
 row_of reqs.Version = passed_over
 row_of reqs.ErrorHandler = passed_over
 row_of reqs.Hider = passed_over
-row_of reqs.Shutter = passed_over
+row_of reqs.Shutter = row (Number ∷ Number ∷ []) (Ordered 0 1 ∷ []) tails.Empty
+row_of reqs.MotionBegin = row (Array 2 ∷ []) (Times ∷ []) tails.Empty
+row_of reqs.MotionEnd = plain_row []
 row_of reqs.RelativeDetail = passed_over
 row_of reqs.GeometricApproximation = passed_over
 row_of reqs.PixelVariance = passed_over

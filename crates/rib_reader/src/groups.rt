@@ -6,7 +6,7 @@ ghost use Rattle.rib_reader.specs.Rules.{joined, three_as_one, as_numbers, word_
 ghost use Rattle.rib_reader.specs.declared.req.Req.TheVariants.{Declare};
 ghost use Rattle.rib_reader.specs.declared.args.Arg.TheVariants.{Number, Numbers};
 ghost use Rattle.rib_reader.specs.Laws.{JoinLaw, SpellLaw, ReadLaw};
-ghost use Rattle.rib_reader.specs.Reading.{is_value, first_word, list_in, checked, of_values, of_scan, of_group, requests_of, GivesOne, GivesAll};
+ghost use Rattle.rib_reader.specs.Reading.{is_value, is_inside, is_number, numbers_inside, counted_code, first_word, list_in, checked, of_values, of_scan, of_group, requests_of, GivesOne, GivesAll};
 
 use crate::args::Arg;
 use crate::arguments::word;
@@ -140,17 +140,56 @@ fn read_values(
     alloc: Global,
     declarations: &Declarations<'_>,
     name: Req,
-    broken: bool,
+    before: Option<RibCode>,
     values: List<Arg>,
     line: u32,
 ) -> Result<Request, RibFault>
-    ensures { GivesOne result (of_values declarations.now name broken values line) }
+    ensures { GivesOne result (of_values declarations.now name before values line) }
 {
     let listing = listing(alloc, declarations, name, &values.0)?;
-    let before = lower_of(code_when(broken, RibCode::S3), listing.fault);
+    let before = lower_of(before, listing.fault);
     let mut args = values;
     args.0.truncate(row(name).shapes.len());
     check(alloc, before, name, args, listing.params, line)
+}
+
+// Whether a token doesn't end an array.
+fn stays_inside(token: &Token) -> bool
+    ensures { result ≡ is_inside token.now }
+{
+    !matches!(token.kind, TokenKind::Close)
+}
+
+// Whether a token is a number.
+fn is_number(token: &Token) -> bool
+    ensures { result ≡ is_number token.now }
+{
+    matches!(token.kind, TokenKind::Number(_))
+}
+
+// How many numbers stand before the end of an array.
+fn numbers_inside(items: &[Token]) -> usize
+    ensures { result ≡ numbers_inside items.now }
+{
+    items
+        .iter()
+        .take_while(|t| stays_inside(*t))
+        .filter(|t| is_number(*t))
+        .count()
+}
+
+// What is said of the number of times of a motion, which begin these tokens as an array.
+fn counted(name: Req, body: &[Token]) -> Option<RibCode>
+    ensures { result ≡ counted_code name body.now }
+{
+    if !matches!(name, Req::MotionBegin) {
+        return None;
+    }
+    let (head, items) = body.split_first()?;
+    if !matches!(head.kind, TokenKind::Open) {
+        return None;
+    }
+    code_when(numbers_inside(items) != 2, RibCode::S2)
 }
 
 fn read_known(
@@ -160,11 +199,12 @@ fn read_known(
     body: &[Token],
     line: u32,
 ) -> Result<Request, RibFault>
-    ensures { GivesOne result (of_scan declarations.now name (scan_of body.now) line) }
+    ensures { GivesOne result (of_scan declarations.now name (counted_code name body.now) (scan_of body.now) line) }
 {
     let scan = scan(alloc, body)?;
     let values = join(alloc, name, scan.values)?;
-    read_values(alloc, declarations, name, scan.broken, values, line)
+    let before = lower_of(code_when(scan.broken, RibCode::S3), counted(name, body));
+    read_values(alloc, declarations, name, before, values, line)
 }
 
 // The request of a token with those behind it.

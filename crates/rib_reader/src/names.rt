@@ -85,6 +85,8 @@ fn requests() -> &'static [Entry<Named>]
         Entry("ErrorHandler", Named::Known(Req::ErrorHandler)),
         Entry("Hider", Named::Known(Req::Hider)),
         Entry("Shutter", Named::Known(Req::Shutter)),
+        Entry("MotionBegin", Named::Known(Req::MotionBegin)),
+        Entry("MotionEnd", Named::Known(Req::MotionEnd)),
         Entry("RelativeDetail", Named::Known(Req::RelativeDetail)),
         Entry(
             "GeometricApproximation",
@@ -122,7 +124,6 @@ fn requests() -> &'static [Entry<Named>]
         Entry("TextureCoordinates", Named::LeftOut),
         Entry("ColorSamples", Named::LeftOut),
         Entry("DepthOfField", Named::LeftOut),
-        Entry("MotionBegin", Named::LeftOut),
     ]
 }
 

@@ -60,4 +60,6 @@ pub enum Req {
     Bound,
     CoordinateSystem,
     Option,
+    MotionBegin,
+    MotionEnd,
 }

@@ -28,6 +28,7 @@ pub fn row(name: Req) -> Row
         | Req::AttributeEnd
         | Req::TransformBegin
         | Req::TransformEnd
+        | Req::MotionEnd
         | Req::Identity
         | Req::ReverseOrientation => Row {
             shapes: &[],
@@ -240,10 +241,19 @@ pub fn row(name: Req) -> Row
             rules: &[Rule::AtLeast(1, 1), Rule::Only(2, FULL_TURN)],
             tail: Tail::QuadricVariables,
         },
+        Req::Shutter => Row {
+            shapes: &[Shape::Number, Shape::Number],
+            rules: &[Rule::Ordered(0, 1)],
+            tail: Tail::Empty,
+        },
+        Req::MotionBegin => Row {
+            shapes: &[Shape::Array(2)],
+            rules: &[Rule::Times],
+            tail: Tail::Empty,
+        },
         Req::Version
         | Req::ErrorHandler
         | Req::Hider
-        | Req::Shutter
         | Req::RelativeDetail
         | Req::GeometricApproximation
         | Req::PixelVariance

@@ -1,9 +1,9 @@
 // What a row says of arguments.
 ghost use Rattle.std.specs.Prelude.{◌≡◌, neg_ℤ, option_map, IfOk};
-ghost use Rattle.rib_reader.specs.Rules.{is_outside, is_below, is_less, is_not_less, is_one, is_none_of, word_at, raw_at, levels_code, sphere_code, declare_code, lowest, rule_code, args_code, follows_of};
+ghost use Rattle.rib_reader.specs.Rules.{is_outside, is_below, is_less, is_not_less, is_one, is_none_of, word_at, raw_at, numbers_at, levels_code, sphere_code, times_code, declare_code, lowest, rule_code, args_code, follows_of};
 
 use crate::args::Arg;
-use crate::arguments::{is_array_at, num, raw, shapes_fit, whole, word};
+use crate::arguments::{is_array_at, num, numbers_in, raw, shapes_fit, whole, word};
 use crate::codes::{code_when, lower_of};
 use crate::declarations::declared_type;
 use crate::faults::RibCode;
@@ -109,6 +109,19 @@ fn declaration(alloc: Global, args: &[Arg]) -> Result<Option<RibCode>, NoMemory>
     }
 }
 
+// What is said of the times of a motion.
+fn times(args: &[Arg]) -> Option<RibCode>
+    ensures { result ≡ times_code (numbers_at args.now 0) }
+{
+    match numbers_in(args, 0) {
+        Some([from, to]) => {
+            let rises = from.num().raw() < to.num().raw();
+            code_when(!rises, RibCode::S3)
+        }
+        _ => None,
+    }
+}
+
 // The code of the rule, where it doesn't hold.
 fn rule_fault(alloc: Global, rule: Rule, args: &[Arg]) -> Result<Option<RibCode>, NoMemory>
     ensures { IfOk result (λ r. r ≡ rule_code rule args.now) }
@@ -123,6 +136,9 @@ fn rule_fault(alloc: Global, rule: Rule, args: &[Arg]) -> Result<Option<RibCode>
                 is_not_less(raw(args, first), raw(args, second)),
                 RibCode::S3,
             )
+        }
+        Rule::Ordered(first, second) => {
+            code_when(is_less(raw(args, second), raw(args, first)), RibCode::S3)
         }
         Rule::Only(place, same) => {
             code_when(is_outside(raw(args, place), same, same), RibCode::S2)
@@ -141,6 +157,7 @@ fn rule_fault(alloc: Global, rule: Rule, args: &[Arg]) -> Result<Option<RibCode>
             }
         }
         Rule::WholeSphere => sphere(args),
+        Rule::Times => times(args),
         Rule::Declaration => declaration(alloc, args)?,
     })
 }

@@ -40,6 +40,8 @@ pub enum Rule {
     AtLeast(usize, i64),
     /// The number at the first place is less than that at the second, or S3.
     Rising(usize, usize),
+    /// The number at the first place is at most that at the second, or S3.
+    Ordered(usize, usize),
     /// The number there has this raw, or S2.
     Only(usize, i64),
     /// The number there has a raw from the first number to the second, or S3.
@@ -54,6 +56,8 @@ pub enum Rule {
     Levels,
     /// What `Sphere` says of its radius and of the heights at which it ends: none of it is cut off, or S2.
     WholeSphere,
+    /// What `MotionBegin` says of its times: where they are two, the first is less than the second, or S3.
+    Times,
     /// What `Declare` says of its second word.
     Declaration,
 }

@@ -1,10 +1,11 @@
 -- The scene as plain data: frames with their primitives in camera space, and the uses of shaders
 -- (RenderMan Interface 3.2, sections 3 to 5).
-use Rattle.std.specs.Prelude.{◌≡◌, ℕ, ◌*◌, ◌≤◌, ◌<◌, ℤ, pos, ◌≤ℤ◌, Bool, true, false, List, Option, Some, None, All, length, slice_get, slice_index_or}
+use Rattle.std.specs.Prelude.{◌≡◌, ℕ, ◌*◌, ◌≤◌, ◌<◌, ℤ, pos, ◌≤ℤ◌, Bool, true, false, List, Option, Some, None, IfSome, All, length, slice_get, slice_index_or}
 use Rattle.fixed_math.specs.declared.vec3.Vec3.{Vec3}
 use Rattle.transforms.specs.Map.{Map}
 use Rattle.transforms.specs.declared.view.View.{View}
 use Rattle.quadrics.specs.declared.any_patch.AnyPatch.{AnyPatch}
+use Rattle.quadrics.specs.AnyPatches.{IsSmallPatch}
 use Rattle.scene.specs.declared.params.Kind.{Kind}
 use Rattle.scene.specs.declared.params.Values.{Values}
 use Rattle.scene.specs.Kinds.{count, width, is_of_kind}
@@ -62,6 +63,7 @@ pub record IsPlace (place : List ℕ) : Type 0 where
   pub rows : slice_index_or place 3 0 ≤ 65536
 
 pub record IsPrim (p : PrimValue) : Type 0 where
+  pub small : IfSome p.closing IsSmallPatch
   pub bound_low : pos 0 ≤ℤ p.bound
   pub bound_high : p.bound ≤ℤ pos 536870912
   pub column : slice_index_or p.place 0 0 < slice_index_or p.place 1 0

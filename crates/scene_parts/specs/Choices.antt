@@ -24,7 +24,8 @@ use Rattle.scene_parts.specs.declared.code.StateCode.TheVariants.{M5, M6}
 
 -- The options in force: the raster's size; the ratio of the frame's sides and the screen window, where a scene gives them; the depths
 -- that are seen; the field of view in degrees, none where the projection is orthographic; the parts of the raster's sides between which
--- the picture lies, from xmin to xmax and from ymin to ymax; and the picture's options but for the pixels of its crop.
+-- the picture lies, from xmin to xmax and from ymin to ymax; the times at which the shutter opens and closes; and the picture's options but
+-- for the pixels of its crop.
 pub record ChoiceValues : Type 0 where
   pub width : ℕ
   pub height : ℕ
@@ -34,6 +35,7 @@ pub record ChoiceValues : Type 0 where
   pub far : ℤ
   pub fov : Option ℤ
   pub crop : List ℤ
+  pub shutter : List ℤ
   pub picture : OptionValues
 
 abbrev pub IsRatio : Option ℤ → Type 0
@@ -90,6 +92,7 @@ first_choices = record {
   far = pos 2147418112;
   fov = None;
   crop = pos 0 ∷ one ∷ pos 0 ∷ one ∷ [];
+  shutter = pos 0 ∷ pos 0 ∷ [];
   picture = first_picture;
 }
 
@@ -116,6 +119,10 @@ with_depths _ _ c = c
 abbrev pub with_crop : Option ℤ → Option ℤ → Option ℤ → Option ℤ → ChoiceValues → ChoiceValues
 with_crop (Some left) (Some right) (Some top) (Some bottom) c = record c { crop = left ∷ right ∷ top ∷ bottom ∷ [] }
 with_crop _ _ _ _ c = c
+
+abbrev pub with_shutter : Option ℤ → Option ℤ → ChoiceValues → ChoiceValues
+with_shutter (Some opens) (Some closes) c = record c { shutter = opens ∷ closes ∷ [] }
+with_shutter _ _ c = c
 
 abbrev pub is_word : Option (List ℕ) → List ℕ → Bool
 is_word None name = false
@@ -173,6 +180,7 @@ chosen_by reqs.Format args params c = with_format (whole_at args 0) (whole_at ar
 chosen_by reqs.FrameAspectRatio args params c = Ok (with_ratio (raw_at args 0) c)
 chosen_by reqs.ScreenWindow args params c = Ok (with_window (raw_at args 0) (raw_at args 1) (raw_at args 2) (raw_at args 3) c)
 chosen_by reqs.CropWindow args params c = Ok (with_crop (raw_at args 0) (raw_at args 1) (raw_at args 2) (raw_at args 3) c)
+chosen_by reqs.Shutter args params c = Ok (with_shutter (raw_at args 0) (raw_at args 1) c)
 chosen_by reqs.Clipping args params c = Ok (with_depths (raw_at args 0) (raw_at args 1) c)
 chosen_by reqs.Projection args params c = Ok (record c { fov = field_in args params })
 chosen_by reqs.PixelSamples args params c = with_samples (raw_at args 0) (raw_at args 1) c

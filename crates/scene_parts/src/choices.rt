@@ -6,7 +6,7 @@ ghost use Rattle.rib_reader.specs.Holding.{last_named};
 ghost use Rattle.rib_reader.specs.Reading.{plain};
 ghost use Rattle.fixed_math.specs.Whole.{floor_by};
 ghost use Rattle.transforms.specs.Field.{left, right, bottom, top};
-ghost use Rattle.scene_parts.specs.Choices.{ChoiceValues, AreChoices, IsWindow, IsCropWindow, first_picture, first_choices, with_format, with_ratio, with_window, with_depths, with_crop, edge_of, first_pixel, end_pixel, crop_in, picture_of, first_number, degrees_in, field_in, with_samples, filter_named, with_filter, with_exposure, with_quantize, chosen, ratio_of, window_by, view_of};
+ghost use Rattle.scene_parts.specs.Choices.{ChoiceValues, AreChoices, IsWindow, IsCropWindow, first_picture, first_choices, with_format, with_ratio, with_window, with_depths, with_crop, with_shutter, edge_of, first_pixel, end_pixel, crop_in, picture_of, first_number, degrees_in, field_in, with_samples, filter_named, with_filter, with_exposure, with_quantize, chosen, ratio_of, window_by, view_of};
 
 use crate::code::StateCode;
 use fixed_math::Num;
@@ -27,17 +27,18 @@ pub struct Choices {
     far: Num,
     fov: Option<Num>,
     crop: [Num; 4],
+    shutter: [Num; 2],
     picture: Options,
 }
 
 impl Model for Choices {
     ghost Value = { ChoiceValues };
 
-    ghost view = { λ c. record { width = c.width; height = c.height; ratio = c.ratio; window = c.window; near = c.near; far = c.far; fov = c.fov; crop = c.crop; picture = c.picture } };
+    ghost view = { λ c. record { width = c.width; height = c.height; ratio = c.ratio; window = c.window; near = c.near; far = c.far; fov = c.fov; crop = c.crop; shutter = c.shutter; picture = c.picture } };
 
-    ghost invariant = { λ c. AreChoices (record { width = c.width; height = c.height; ratio = c.ratio; window = c.window; near = c.near; far = c.far; fov = c.fov; crop = c.crop; picture = c.picture }) };
+    ghost invariant = { λ c. AreChoices (record { width = c.width; height = c.height; ratio = c.ratio; window = c.window; near = c.near; far = c.far; fov = c.fov; crop = c.crop; shutter = c.shutter; picture = c.picture }) };
 
-    ghost inverse = { λ c. record { width = c.width; height = c.height; ratio = c.ratio; window = c.window; near = c.near; far = c.far; fov = c.fov; crop = c.crop; picture = c.picture } };
+    ghost inverse = { λ c. record { width = c.width; height = c.height; ratio = c.ratio; window = c.window; near = c.near; far = c.far; fov = c.fov; crop = c.crop; shutter = c.shutter; picture = c.picture } };
 }
 
 // The picture's options at the start.
@@ -223,6 +224,7 @@ impl Choices {
             far: Num::sat(2147418112),
             fov: None,
             crop: whole_window(),
+            shutter: [Num::sat(0), Num::sat(0)],
             picture: first_picture(),
         }
     }
@@ -292,6 +294,22 @@ impl Choices {
             crop: [left, right, top, bottom],
             ..self
         }
+    }
+
+    fn with_shutter(self, opens: Num, closes: Num) -> Choices
+        ensures { result ≡ with_shutter (Some opens) (Some closes) self }
+    {
+        Choices {
+            shutter: [opens, closes],
+            ..self
+        }
+    }
+
+    /// The times at which the shutter opens and closes.
+    pub fn shutter(&self) -> [Num; 2]
+        ensures { result ≡ self.now.shutter }
+    {
+        self.shutter
     }
 
     fn with_depths(self, near: Num, far: Num) -> Choices
@@ -403,6 +421,7 @@ impl Choices {
                 request.number(2),
                 request.number(3),
             )),
+            Req::Shutter => Ok(self.with_shutter(request.number(0), request.number(1))),
             Req::Clipping => Ok(self.with_depths(request.number(0), request.number(1))),
             Req::Projection => Ok(self.with_field(field(request))),
             Req::PixelSamples => self.with_samples(request.number(0), request.number(1)),

@@ -16,6 +16,10 @@ pub enum StateCode {
     N4,
     /// A primitive outside a world.
     N5,
+    /// A request that can't stand in its place of a motion block, or the end of a motion block outside one.
+    N6,
+    /// A primitive under motions between different times.
+    N7,
     /// A transformation that has no inverse.
     G1,
     /// An entry of a transformation whose magnitude passes 2^47, which is 8388608 at 24 fraction bits.

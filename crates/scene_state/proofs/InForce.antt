@@ -6,7 +6,7 @@ use Rattle.rib_reader.specs.Reading.{Read}
 use Rattle.scene.specs.declared.uses.ShaderUse.{ShaderUse}
 use Rattle.scene.specs.Scene.{PrimValue}
 use Rattle.primitives.specs.Patches.{PatchValue}
-use Rattle.primitives.proofs.Lists.{all_none, all_first}
+use Rattle.primitives.proofs.Lists.{all_none}
 use Rattle.scene_state.specs.Shaders.{placed_in, placed, some_placed, all_placed, worn_by}
 use Rattle.scene_state.specs.State.{prim_of, with_patches}
 use Rattle.scene_state.specs.Laws.{request_in, request_at}
@@ -15,6 +15,7 @@ use Rattle.scene_state.specs.declared.shaders.Slot.{Slot}
 use Rattle.scene_state.specs.declared.shaders.Slot.TheVariants.{Waiting, Used}
 use Rattle.scene_state.specs.declared.shaders.Shaders.{Shaders}
 use Rattle.scene_state.specs.declared.state.State.{State}
+use Rattle.scene_state.proofs.Keeping.{all_mapped}
 
 use_more : (uses : List ShaderUse) (w : ShaderUse) (n : ℕ) (u : ShaderUse) → slice_get uses n ≡ Some u → slice_get (uses ++ w ∷ []) n ≡ Some u
 use_more [] w n u h = absurd cc
@@ -95,10 +96,6 @@ none_more (x ∷ xs) = none_more xs
 those_more : {A : Type 0} (xs ys : List A) → drop (length xs) (xs ++ ys) ≡ ys
 those_more [] ys = refl
 those_more (x ∷ xs) ys = those_more xs ys
-
-all_mapped : {A B : Type 0} (P : B → Type 0) (f : A → B) (xs : List A) → ((x : A) → P (f x)) → All P (map f xs)
-all_mapped P f [] each = all_none P
-all_mapped P f (x ∷ xs) each = all_first P (f x) (map f xs) (each x) (all_mapped P f xs each)
 
 pub surface_in_force : (r : Read) (object : Map) (ps : List PatchValue) (s : State) (u : ShaderUse) → request_at s.shaders s.attributes.surface ≡ Some u →
     All (λ p. slice_get (with_patches r object ps s).shaders.uses p.surface ≡ Some u) (drop (length s.prims) (with_patches r object ps s).prims)

@@ -1,31 +1,25 @@
 -- The shaders that attributes, lights' numbers and primitives name stay there, and keep their kinds.
-use Rattle.std.proofs.Common.{◌≡◌, refl, subst, ℕ, zero, suc, ◌-◌, ℤ, Bool, true, false, List, [], ◌∷◌, ◌++◌, length, map, set, Option, Some, None, Result, Ok, Err, All, slice_get, slice_index_or, if◌then◌else◌, arith, not, is_some, nat_le, ◌==◌}
+use Rattle.std.proofs.Common.{◌≡◌, refl, subst, ℕ, zero, suc, ◌-◌, ℤ, Bool, true, false, List, [], ◌∷◌, ◌++◌, length, map, set, Option, Some, None, Ok, All, slice_get, slice_index_or, if◌then◌else◌, arith, not, ◌==◌}
 use Rattle.std.specs.Ordering.{int_eq}
 use Rattle.std.specs.Option.{option_or}
 use Rattle.std.proofs.lemmas.List.Elements.{All-append, All-take, All-filter}
-use Rattle.rib_reader.specs.declared.req.Req.{Req}
-use Rattle.rib_reader.specs.declared.req.Req.TheVariants as reqs
 use Rattle.rib_reader.specs.Reading.{Read}
-use Rattle.rib_reader.specs.Rules.{word_at, raw_at, whole_at, numbers_at}
-use Rattle.transforms.specs.Map.{Map, identity, before_of}
-use Rattle.transforms.specs.Field.{camera_of}
-use Rattle.transforms.specs.declared.view.View.{View}
-use Rattle.transforms.specs.declared.fault.FormFault.{FormFault}
+use Rattle.transforms.specs.Map.{Map, identity}
+use Rattle.moving_maps.specs.MapPairs.{MapPair, still}
 use Rattle.scene.specs.Scene.{PrimValue, FrameValue, IsUse, IsSomeUse, HasUses}
-use Rattle.scene_parts.specs.Choices.{ChoiceValues, chosen, view_of}
-use Rattle.scene_parts.specs.Looks.{look_after, is_single}
-use Rattle.scene_state.specs.Shaders.{with_request, placed_in, placed, some_placed, all_placed, worn_by, light_of}
-use Rattle.scene_parts.specs.Lights.{with_light, without_light, is_among}
-use Rattle.scene_state.specs.State.{most_blocks, most_frames, most_lights, with_frame, name_or, translated_by, scaled_by, rotated_by, of_rows, Stepped, first_state, closed, opened, innermost, frame_ended, attributes_ended, transform_ended, world_with, frame_made, frame_of, world_ended, with_choices, option_set, display_set, with_current, with_before, space_of, use_of, next_shader, with_shader, light_added, light_made, handle_for, illuminated_by, light_named, prim_of, with_patches, patches_placed, room_left, primitive_under, primitive_set}
-use Rattle.scene_parts.specs.Bases.{bases_after}
-use Rattle.primitives.specs.Patches.{PatchValue, Made, patches_of}
-use Rattle.primitives.proofs.Lists.{all_none, all_one, all_first, all_then, all_either}
-use Rattle.scene_state.specs.Steps.{with_surface, with_displacement, with_atmosphere, look_set, step, after, and_then, Placed, state_from}
-use Rattle.scene_parts.specs.declared.code.StateCode.{StateCode}
-use Rattle.scene_parts.specs.declared.code.StateCode.TheVariants.{N1, N2, N5, M1, M2, M4}
 use Rattle.scene.specs.declared.uses.ShaderKind.{ShaderKind}
 use Rattle.scene.specs.declared.uses.ShaderKind.TheVariants as kinds
 use Rattle.scene.specs.declared.uses.ShaderUse.{ShaderUse}
+use Rattle.scene_parts.specs.Bases.{BasisValues}
+use Rattle.scene_parts.specs.Choices.{ChoiceValues}
+use Rattle.scene_parts.specs.Lights.{with_light, without_light, is_among}
+use Rattle.scene_parts.specs.Looks.{LookValues, is_single}
+use Rattle.primitives.specs.Patches.{PatchValue}
+use Rattle.primitives.proofs.Lists.{all_none, all_one, all_first, all_then, all_either}
+use Rattle.scene_state.specs.MotionBlocks.{Step}
+use Rattle.scene_state.specs.Shaders.{with_request, placed_in, placed, some_placed, all_placed, worn_by, light_of}
+use Rattle.scene_state.specs.State.{with_frame, first_state, closed, innermost, frame_of, use_of, next_shader, light_added, handle_for, light_named, prim_of, with_patches}
+use Rattle.scene_state.specs.Steps.{with_surface, with_displacement, with_atmosphere, taken, state_from}
 use Rattle.scene_state.specs.declared.attributes.Attributes.{Attributes}
 use Rattle.scene_state.specs.declared.shaders.Slot.{Slot}
 use Rattle.scene_state.specs.declared.shaders.Slot.TheVariants.{Waiting, Used}
@@ -35,6 +29,7 @@ use Rattle.scene_state.specs.declared.state.Block.{Block}
 use Rattle.scene_state.specs.declared.state.Block.TheVariants.{InFrame, InWorld, InAttributes, InTransform}
 use Rattle.scene_state.specs.declared.state.World.{World}
 use Rattle.scene_state.specs.declared.state.State.{State}
+use Rattle.scene_state.proofs.Changes.{Behind, BehindAll, IsKept, AnyNumber, any_number, kept_taken, kept_from}
 
 -- ---- lists
 
@@ -233,18 +228,10 @@ state_keeps s t f g = record {
 worn : (s : State) (a : Attributes) → Wears s.shaders a → IsGood s → IsGood (record s { attributes = a })
 worn s a w g = record { attributes = w; blocks = g.blocks; handles = g.handles; prims = g.prims; frames = g.frames }
 
--- ---- requests
+-- ---- what requests change
 
-abbrev pub GoodStep : Stepped → Type 0
-GoodStep (Ok s) = IsGood s
-GoodStep (Err code) = Unit {0}
-
-either : (b : Bool) (x y : Stepped) → GoodStep x → GoodStep y → GoodStep (if b then x else y)
-either true x y p q = p
-either false x y p q = q
-
-good_opened : (b : Block) (s : State) → BlockWears s.shaders b → IsGood s → GoodStep (opened b s)
-good_opened b s w g = either (nat_le most_blocks (length s.blocks)) (Err M1) (Ok (record s { blocks = s.blocks ++ b ∷ [] })) tt record {
+with_block : (b : Block) (s : State) → BlockWears s.shaders b → IsGood s → IsGood (record s { blocks = s.blocks ++ b ∷ [] })
+with_block b s w g = record {
   attributes = g.attributes;
   blocks = all_more (BlockWears s.shaders) s.blocks b g.blocks w;
   handles = g.handles;
@@ -261,44 +248,22 @@ good_closed s g = record {
   frames = g.frames;
 }
 
-good_innermost : (s : State) → IsGood s → Of (BlockWears s.shaders) (innermost s.blocks)
-good_innermost s g = all_of (BlockWears s.shaders) s.blocks (length s.blocks - 1) g.blocks
+-- what the innermost block brings back
+brought_back : (b : Block) (s : State) → innermost s.blocks ≡ Some b → IsGood s → BlockWears s.shaders b
+brought_back b s e g = subst (Of (BlockWears s.shaders)) e (all_of (BlockWears s.shaders) s.blocks (length s.blocks - 1) g.blocks)
 
--- with a current transformation, options and name of the picture of any kind
-changed : (s : State) (c : ChoiceValues) (name : List ℕ) (m : Map) (w : Option World) → IsGood s
+-- with a current transformation, options, name of the picture and world of any kind
+changed : (s : State) (c : ChoiceValues) (name : List ℕ) (m : MapPair) (w : Option World) → IsGood s
     → IsGood (record s { choices = c; name = name; current = m; world = w })
 changed s c name m w g = record { attributes = g.attributes; blocks = g.blocks; handles = g.handles; prims = g.prims; frames = g.frames }
 
-good_frame_end : (o : Option Block) (s : State) → Of (BlockWears s.shaders) o → IsGood s → GoodStep (frame_ended o s)
-good_frame_end None s w g = tt
-good_frame_end (Some (InFrame a m c name)) s w g = changed (record (closed s) { attributes = a }) c name m s.world (worn (closed s) a w (good_closed s g))
-good_frame_end (Some (InWorld a m)) s w g = tt
-good_frame_end (Some (InAttributes a m)) s w g = tt
-good_frame_end (Some (InTransform m)) s w g = tt
+-- the state behind an end of a block
+ended : (s : State) (a : Attributes) (m : MapPair) (c : ChoiceValues) (name : List ℕ) → Wears s.shaders a → IsGood s
+    → IsGood (record (closed s) { choices = c; name = name; attributes = a; current = m })
+ended s a m c name w g = changed (record (closed s) { attributes = a }) c name m s.world (worn (closed s) a w (good_closed s g))
 
-good_attributes_end : (o : Option Block) (s : State) → Of (BlockWears s.shaders) o → IsGood s → GoodStep (attributes_ended o s)
-good_attributes_end None s w g = tt
-good_attributes_end (Some (InFrame a m c name)) s w g = tt
-good_attributes_end (Some (InWorld a m)) s w g = tt
-good_attributes_end (Some (InAttributes a m)) s w g = changed (record (closed s) { attributes = a }) s.choices s.name m s.world (worn (closed s) a w (good_closed s g))
-good_attributes_end (Some (InTransform m)) s w g = tt
-
-good_transform_end : (o : Option Block) (s : State) → IsGood s → GoodStep (transform_ended o s)
-good_transform_end None s g = tt
-good_transform_end (Some (InFrame a m c name)) s g = tt
-good_transform_end (Some (InWorld a m)) s g = tt
-good_transform_end (Some (InAttributes a m)) s g = tt
-good_transform_end (Some (InTransform m)) s g = changed (closed s) s.choices s.name m s.world (good_closed s g)
-
-good_world_with : (v : Result View FormFault) (s : State) → IsGood s → GoodStep (world_with v s)
-good_world_with (Err e) s g = tt
-good_world_with (Ok camera) s g =
-    let world = Some (record { camera = camera; to_camera = s.current }) in
-    good_opened (InWorld s.attributes s.current) (record s { world = world; current = identity }) g.attributes (changed s s.choices s.name identity world g)
-
-good_frame : (o : Option World) (a : Attributes) (m : Map) (s : State) → Wears s.shaders a → IsGood s → GoodStep (frame_made o a m s)
-good_frame None a m s w g = tt
-good_frame (Some world) a m s w g = either (nat_le most_frames (length s.frames)) (Err M2) (Ok (with_frame world a m s)) tt record {
+good_frame : (w : World) (a : Attributes) (m : MapPair) (s : State) → Wears s.shaders a → IsGood s → IsGood (with_frame w a m s)
+good_frame world a m s w g = record {
   attributes = record { surface = w.surface; displacement = w.displacement; atmosphere = w.atmosphere; lights = all_none (IsShader s.shaders kinds.Light) };
   blocks = g.blocks;
   handles = all_none (IsHandle s.shaders);
@@ -306,62 +271,34 @@ good_frame (Some world) a m s w g = either (nat_le most_frames (length s.frames)
   frames = all_more (FrameHasUses s.shaders.uses) s.frames (frame_of world s) g.frames g.prims;
 }
 
-good_world_end : (o : Option Block) (s : State) → Of (BlockWears s.shaders) o → IsGood s → GoodStep (world_ended o s)
-good_world_end None s w g = tt
-good_world_end (Some (InFrame a m c name)) s w g = tt
-good_world_end (Some (InWorld a m)) s w g = good_frame s.world a m (closed s) w (good_closed s g)
-good_world_end (Some (InAttributes a m)) s w g = tt
-good_world_end (Some (InTransform m)) s w g = tt
-
-good_choices : (c : Result ChoiceValues StateCode) (s : State) → IsGood s → GoodStep (with_choices c s)
-good_choices (Ok c) s g = changed s c s.name s.current s.world g
-good_choices (Err code) s g = tt
-
-good_option : (r : Read) (s : State) → IsGood s → GoodStep (option_set r s)
-good_option r s g = either (is_some s.world) (Err N2) (with_choices (chosen r s.choices) s) tt (good_choices (chosen r s.choices) s g)
-
-good_display : (r : Read) (s : State) → IsGood s → GoodStep (display_set r s)
-good_display r s g =
-    let name = name_or (word_at r.args 0) s.name in
-    either (is_some s.world) (Err N2) (Ok (record s { name = name })) tt (changed s s.choices name s.current s.world g)
-
-good_current : (m : Result Map FormFault) (s : State) → IsGood s → GoodStep (with_current m s)
-good_current (Ok m) s g = changed s s.choices s.name m s.world g
-good_current (Err e) s g = tt
-
-good_before : (m : Result Map FormFault) (s : State) → IsGood s → GoodStep (with_before m s)
-good_before (Ok m) s g = good_current (before_of s.current m) s g
-good_before (Err e) s g = tt
-
-good_look : (r : Read) (s : State) → IsGood s → GoodStep (look_set r s)
-good_look r s g =
+good_look : (l : LookValues) (b : BasisValues) (s : State) → IsGood s → IsGood (record s { attributes = record s.attributes { look = l; bases = b } })
+good_look l b s g =
     let w = g.attributes in
-    worn s (record s.attributes { look = look_after r.name r.args r.params s.attributes.look })
-    (record { surface = w.surface; displacement = w.displacement; atmosphere = w.atmosphere; lights = w.lights }) g
+    worn s (record s.attributes { look = l; bases = b }) (record { surface = w.surface; displacement = w.displacement; atmosphere = w.atmosphere; lights = w.lights }) g
 
 -- the state with one shader request more, and what its attributes wear
 good_request : (s : State) (u : ShaderUse) → IsGood s → IsGood (record s { shaders = with_request s.shaders u })
 good_request s u g = state_keeps s (with_request s.shaders u) (keeps_request s.shaders u) g
 
-good_surface : (m : Result Map FormFault) (r : Read) (s : State) → IsGood s → GoodStep (with_shader kinds.Surface r with_surface m s)
-good_surface (Err e) r s g = tt
-good_surface (Ok m) r s g =
+good_surface : (r : Read) (m : Map) (s : State) → IsGood s
+    → IsGood (record s { shaders = with_request s.shaders (use_of kinds.Surface r m); attributes = with_surface (next_shader s) s.attributes })
+good_surface r m s g =
     let u = use_of kinds.Surface r m in
     let h = good_request s u g in
     worn (record s { shaders = with_request s.shaders u }) (with_surface (next_shader s) s.attributes)
     (record { surface = request_is s.shaders u; displacement = h.attributes.displacement; atmosphere = h.attributes.atmosphere; lights = h.attributes.lights }) h
 
-good_displacement : (m : Result Map FormFault) (r : Read) (s : State) → IsGood s → GoodStep (with_shader kinds.Displacement r with_displacement m s)
-good_displacement (Err e) r s g = tt
-good_displacement (Ok m) r s g =
+good_displacement : (r : Read) (m : Map) (s : State) → IsGood s
+    → IsGood (record s { shaders = with_request s.shaders (use_of kinds.Displacement r m); attributes = with_displacement (next_shader s) s.attributes })
+good_displacement r m s g =
     let u = use_of kinds.Displacement r m in
     let h = good_request s u g in
     worn (record s { shaders = with_request s.shaders u }) (with_displacement (next_shader s) s.attributes)
     (record { surface = h.attributes.surface; displacement = request_is s.shaders u; atmosphere = h.attributes.atmosphere; lights = h.attributes.lights }) h
 
-good_atmosphere : (m : Result Map FormFault) (r : Read) (s : State) → IsGood s → GoodStep (with_shader kinds.Volume r with_atmosphere m s)
-good_atmosphere (Err e) r s g = tt
-good_atmosphere (Ok m) r s g =
+good_atmosphere : (r : Read) (m : Map) (s : State) → IsGood s
+    → IsGood (record s { shaders = with_request s.shaders (use_of kinds.Volume r m); attributes = with_atmosphere (next_shader s) s.attributes })
+good_atmosphere r m s g =
     let u = use_of kinds.Volume r m in
     let h = good_request s u g in
     worn (record s { shaders = with_request s.shaders u }) (with_atmosphere (next_shader s) s.attributes)
@@ -383,13 +320,11 @@ good_added k number s is g = record {
   frames = g.frames;
 }
 
-good_light : (m : Result Map FormFault) (r : Read) (s : State) → IsGood s → GoodStep (light_made r m s)
-good_light (Err e) r s g = tt
-good_light (Ok m) r s g =
+good_light : (r : Read) (m : Map) (number : Option ℤ) (s : State) → IsGood s
+    → IsGood (light_added (next_shader s) number (record s { shaders = with_request s.shaders (use_of kinds.Light r m) }))
+good_light r m number s g =
     let u = use_of kinds.Light r m in
-    let t = record s { shaders = with_request s.shaders u } in
-    either (nat_le most_lights (length s.handles)) (Err M4) (Ok (light_added (next_shader s) (whole_at r.args 1) t)) tt
-    (good_added (next_shader s) (whole_at r.args 1) t (request_is s.shaders u) (good_request s u g))
+    good_added (next_shader s) number (record s { shaders = with_request s.shaders u }) (request_is s.shaders u) (good_request s u g)
 
 some_either : (s : Shaders) (b : Bool) (x y : Option ℕ) → IsSomeShader s kinds.Light x → IsSomeShader s kinds.Light y → IsSomeShader s kinds.Light (if b then x else y)
 some_either s true x y p q = p
@@ -415,9 +350,9 @@ with_light_are s k lights is all = all_either (IsShader s kinds.Light) (is_among
 without_light_are : (s : Shaders) (k : ℕ) (lights : List ℕ) → All (IsShader s kinds.Light) lights → All (IsShader s kinds.Light) (without_light k lights)
 without_light_are s k lights all = All-filter (λ n. not (n == k)) (IsShader s kinds.Light) lights all
 
-good_illuminated : (o : Option ℕ) (on : Option ℤ) (s : State) → IsSomeShader s.shaders kinds.Light o → IsGood s → GoodStep (illuminated_by o on s)
-good_illuminated None on s is g = tt
-good_illuminated (Some k) on s is g =
+good_illuminated : (k : ℕ) (on : Option ℤ) (s : State) → IsShader s.shaders kinds.Light k → IsGood s
+    → IsGood (record s { attributes = record s.attributes { lights = if is_single on then with_light k s.attributes.lights else without_light k s.attributes.lights } })
+good_illuminated k on s is g =
     let w = g.attributes in
     let put = with_light k s.attributes.lights in
     let taken = without_light k s.attributes.lights in
@@ -425,16 +360,13 @@ good_illuminated (Some k) on s is g =
     worn s (record s.attributes { lights = lights })
     (lit s lights (all_either (IsShader s.shaders kinds.Light) (is_single on) put taken (with_light_are s.shaders k s.attributes.lights is w.lights) (without_light_are s.shaders k s.attributes.lights w.lights)) w) g
 
--- ---- primitives
-
 -- each primitive of patches
-all_mapped : {A B : Type 0} (P : B → Type 0) (f : A → B) (xs : List A) → ((x : A) → P (f x)) → All P (map f xs)
+pub all_mapped : {A B : Type 0} (P : B → Type 0) (f : A → B) (xs : List A) → ((x : A) → P (f x)) → All P (map f xs)
 all_mapped P f [] each = all_none P
 all_mapped P f (x ∷ xs) each = all_first P (f x) (map f xs) (each x) (all_mapped P f xs each)
 
-pub good_patches : (r : Read) (object : Map) (ps : List PatchValue) (s : State) → IsGood s → IsGood (with_patches r object ps s)
-good_patches r object [] s g = g
-good_patches r object (q ∷ qs) s g =
+pub good_patches : (r : Read) (object : Map) (q : PatchValue) (qs : List PatchValue) (s : State) → IsGood s → IsGood (with_patches r object (q ∷ qs) s)
+good_patches r object q qs s g =
     let a = s.attributes in
     let w = g.attributes in
     let d = some_placed s.shaders a.displacement in
@@ -466,90 +398,35 @@ good_patches r object (q ∷ qs) s g =
       frames = h.frames;
     }
 
-good_made : (r : Read) (object : Map) (made : Made) (s : State) → IsGood s → GoodStep (patches_placed r object made s)
-good_made r object (Err code) s g = tt
-good_made r object (Ok ps) s g = good_patches r object ps s g
+-- ---- all requests
 
-good_under : (r : Read) (m : Result Map FormFault) (s : State) → IsGood s → GoodStep (primitive_under r m s)
-good_under r (Err e) s g = tt
-good_under r (Ok object) s g = good_made r object (patches_of r s.attributes.bases object (room_left s)) s g
+pub good_kept : (s : State) → IsGood s → IsKept IsGood AnyNumber s
+good_kept s g =
+    let a = s.attributes in
+    record {
+      same = g;
+      options = λ c name. changed s c name s.current s.world g;
+      current = λ m. changed s s.choices s.name m s.world g;
+      look = λ l b. good_look l b s g;
+      frame_begins = λ e. with_block (InFrame a s.current s.choices s.name) s g.attributes g;
+      frame_ends = λ b m c name e. ended s b m c name (brought_back (InFrame b m c name) s e g) g;
+      world_begins = λ w e. with_block (InWorld a s.current) (record s { world = Some w; current = still identity }) g.attributes
+          (changed s s.choices s.name (still identity) (Some w) g);
+      world_ends = λ w b m opens e room. good_frame w b m (closed s) (brought_back (InWorld b m) s e g) (good_closed s g);
+      attributes_begin = with_block (InAttributes a s.current) s g.attributes g;
+      attributes_end = λ b m e. ended s b m s.choices s.name (brought_back (InAttributes b m) s e g) g;
+      transform_begins = with_block (InTransform s.current) s tt g;
+      transform_ends = λ m e. changed (closed s) s.choices s.name m s.world (good_closed s g);
+      surface = λ r m. good_surface r m s g;
+      displacement = λ r m. good_displacement r m s g;
+      atmosphere = λ r m. good_atmosphere r m s g;
+      light = λ r m number is. good_light r m number s g;
+      illuminated = λ k number on e. good_illuminated k on s (subst (IsSomeShader s.shaders kinds.Light) e (named_is s.shaders number s.handles g.handles)) g;
+      patches = λ r object p ps opens. good_patches r object p ps s g;
+    }
 
-good_primitive : (r : Read) (s : State) → IsGood s → GoodStep (primitive_set r s)
-good_primitive r s g = either (is_some s.world) (primitive_under r (space_of s) s) (Err N5) (good_under r (space_of s) s g) tt
-
--- ---- the whole list
-
-pub good_step : (name : Req) (r : Read) (s : State) → IsGood s → GoodStep (step name r s)
-good_step reqs.FrameBegin r s g = either (length s.blocks == 0) (opened (InFrame s.attributes s.current s.choices s.name) s) (Err N1) (good_opened (InFrame s.attributes s.current s.choices s.name) s g.attributes g) tt
-good_step reqs.FrameEnd r s g = good_frame_end (innermost s.blocks) s (good_innermost s g) g
-good_step reqs.WorldBegin r s g = either (is_some s.world) (Err N1) (world_with (camera_of (view_of s.choices)) s) tt (good_world_with (camera_of (view_of s.choices)) s g)
-good_step reqs.WorldEnd r s g = good_world_end (innermost s.blocks) s (good_innermost s g) g
-good_step reqs.AttributeBegin r s g = good_opened (InAttributes s.attributes s.current) s g.attributes g
-good_step reqs.AttributeEnd r s g = good_attributes_end (innermost s.blocks) s (good_innermost s g) g
-good_step reqs.TransformBegin r s g = good_opened (InTransform s.current) s tt g
-good_step reqs.TransformEnd r s g = good_transform_end (innermost s.blocks) s g
-good_step reqs.Identity r s g = changed s s.choices s.name identity s.world g
-good_step reqs.ReverseOrientation r s g = good_look r s g
-good_step reqs.Declare r s g = g
-good_step reqs.Format r s g = good_option r s g
-good_step reqs.FrameAspectRatio r s g = good_option r s g
-good_step reqs.ScreenWindow r s g = good_option r s g
-good_step reqs.CropWindow r s g = good_option r s g
-good_step reqs.Clipping r s g = good_option r s g
-good_step reqs.Projection r s g = good_option r s g
-good_step reqs.PixelSamples r s g = good_option r s g
-good_step reqs.PixelFilter r s g = good_option r s g
-good_step reqs.Exposure r s g = good_option r s g
-good_step reqs.Quantize r s g = good_option r s g
-good_step reqs.Display r s g = good_display r s g
-good_step reqs.Color r s g = good_look r s g
-good_step reqs.Opacity r s g = good_look r s g
-good_step reqs.ShadingRate r s g = good_look r s g
-good_step reqs.ShadingInterpolation r s g = good_look r s g
-good_step reqs.Sides r s g = good_look r s g
-good_step reqs.Orientation r s g = good_look r s g
-good_step reqs.Surface r s g = good_surface (space_of s) r s g
-good_step reqs.Displacement r s g = good_displacement (space_of s) r s g
-good_step reqs.Atmosphere r s g = good_atmosphere (space_of s) r s g
-good_step reqs.LightSource r s g = good_light (space_of s) r s g
-good_step reqs.Illuminate r s g = good_illuminated (light_named (whole_at r.args 0) s.handles) (whole_at r.args 1) s (named_is s.shaders (whole_at r.args 0) s.handles g.handles) g
-good_step reqs.Attribute r s g = good_look r s g
-good_step reqs.Basis r s g = worn s (record s.attributes { bases = bases_after r.args s.attributes.bases }) (record { surface = g.attributes.surface; displacement = g.attributes.displacement; atmosphere = g.attributes.atmosphere; lights = g.attributes.lights }) g
-good_step reqs.Translate r s g = good_before (translated_by (raw_at r.args 0) (raw_at r.args 1) (raw_at r.args 2)) s g
-good_step reqs.Scale r s g = good_before (scaled_by (raw_at r.args 0) (raw_at r.args 1) (raw_at r.args 2)) s g
-good_step reqs.Rotate r s g = good_before (rotated_by (raw_at r.args 0) (raw_at r.args 1) (raw_at r.args 2) (raw_at r.args 3)) s g
-good_step reqs.Transform r s g = good_current (of_rows (numbers_at r.args 0)) s g
-good_step reqs.ConcatTransform r s g = good_before (of_rows (numbers_at r.args 0)) s g
-good_step reqs.Patch r s g = good_primitive r s g
-good_step reqs.PatchMesh r s g = good_primitive r s g
-good_step reqs.Polygon r s g = good_primitive r s g
-good_step reqs.PointsPolygons r s g = good_primitive r s g
-good_step reqs.Sphere r s g = good_primitive r s g
-good_step reqs.Cylinder r s g = good_primitive r s g
-good_step reqs.Cone r s g = good_primitive r s g
-good_step reqs.Disk r s g = good_primitive r s g
-good_step reqs.Version r s g = g
-good_step reqs.ErrorHandler r s g = g
-good_step reqs.Hider r s g = g
-good_step reqs.Shutter r s g = g
-good_step reqs.RelativeDetail r s g = g
-good_step reqs.GeometricApproximation r s g = g
-good_step reqs.PixelVariance r s g = g
-good_step reqs.Bound r s g = g
-good_step reqs.CoordinateSystem r s g = g
-good_step reqs.Option r s g = g
-
-abbrev pub GoodPlaced : Result State Placed → Type 0
-GoodPlaced (Ok s) = IsGood s
-GoodPlaced (Err e) = Unit {0}
-
-good_then : (t : Stepped) (line : ℕ) (go : State → Result State Placed) → GoodStep t → ((s : State) → IsGood s → GoodPlaced (go s)) → GoodPlaced (and_then t line go)
-good_then (Ok s) line go g f = f s g
-good_then (Err code) line go g f = tt
-
-good_from : (s : State) (rs : List Read) → IsGood s → GoodPlaced (state_from s rs)
-good_from s [] g = g
-good_from s (r ∷ rs) g = good_then (after r s) r.line (λ t. state_from t rs) (good_step r.name r s g) (λ t h. good_from t rs h)
+pub step_good : (x : Step) (s t : State) → taken x s ≡ Ok t → IsGood s → IsGood t
+step_good x s t e g = subst (Behind IsGood) e (kept_taken IsGood AnyNumber s (good_kept s g) x (any_number x))
 
 pub first_good : IsGood first_state
 first_good = record {
@@ -560,6 +437,6 @@ first_good = record {
   frames = all_none (FrameHasUses first_state.shaders.uses);
 }
 
--- the frames behind a list of requests name uses of the right kinds
-pub state_is_scene : (rs : List Read) (s : State) → state_from first_state rs ≡ Ok s → All (FrameHasUses s.shaders.uses) s.frames
-state_is_scene rs s e = (subst GoodPlaced e (good_from first_state rs first_good)).frames
+-- the frames behind steps name uses of the right kinds
+pub state_is_scene : (xs : List Step) (s : State) → state_from first_state xs ≡ Ok s → All (FrameHasUses s.shaders.uses) s.frames
+state_is_scene xs s e = (subst (BehindAll IsGood) e (kept_from IsGood good_kept first_state xs first_good)).frames

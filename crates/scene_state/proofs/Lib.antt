@@ -1,4 +1,5 @@
 pub mod Wearing
+pub mod Changes
 pub mod Keeping
 pub mod Places
 pub mod FirstUse
@@ -6,3 +7,4 @@ pub mod Order
 pub mod FrameCount
 pub mod InForce
 pub mod UnnamedLights
+pub mod InBlocks

@@ -1,30 +1,23 @@
 -- The uses of a scene stand in the order in which its primitives first have them.
-use Rattle.std.proofs.Common.{◌≡◌, refl, sym, ap, ◌∙◌, subst, ℕ, zero, suc, ◌<◌, ℤ, Bool, true, false, ◌||◌, ◌-◌, take, List, [], ◌∷◌, ◌++◌, length, map, Option, Some, None, Result, Ok, Err, All, slice_get, slice_index_or, is_some, nat_le, ◌==◌, append_assoc, if◌then◌else◌, arith}
+use Rattle.std.proofs.Common.{◌≡◌, refl, sym, ap, ◌∙◌, subst, ℕ, zero, suc, ◌<◌, Bool, true, false, ◌||◌, ◌-◌, take, List, [], ◌∷◌, ◌++◌, length, map, Option, Some, None, Ok, All, slice_get, slice_index_or, is_some, ◌==◌, append_assoc, arith}
 use Rattle.std.proofs.lemmas.List.{append-nil}
 use Rattle.std.proofs.lemmas.Bool.Decides.{nat_tests}
 use Rattle.std.specs.List.{list_any}
 use Rattle.std.proofs.lemmas.List.Elements.{All-append}
-use Rattle.rib_reader.specs.declared.req.Req.{Req}
-use Rattle.rib_reader.specs.declared.req.Req.TheVariants as reqs
 use Rattle.rib_reader.specs.Reading.{Read}
-use Rattle.rib_reader.specs.Rules.{word_at, raw_at, whole_at, numbers_at}
-use Rattle.transforms.specs.Map.{Map, identity, before_of}
-use Rattle.transforms.specs.Field.{camera_of}
-use Rattle.transforms.specs.declared.view.View.{View}
-use Rattle.transforms.specs.declared.fault.FormFault.{FormFault}
+use Rattle.transforms.specs.Map.{Map, identity}
+use Rattle.moving_maps.specs.MapPairs.{MapPair, still}
 use Rattle.scene.specs.Scene.{PrimValue, FrameValue, IsUse, IsSomeUse, HasUses}
-use Rattle.primitives.specs.Patches.{PatchValue, Made, patches_of}
-use Rattle.primitives.proofs.Lists.{all_none, all_one, all_first, all_then}
-use Rattle.scene_state.specs.FirstUse.{place_in, places_in, places_of, all_places, firsts, below}
-use Rattle.scene_parts.specs.Choices.{ChoiceValues, chosen, view_of}
-use Rattle.scene_state.specs.Shaders.{with_request, placed_in, placed, some_placed, all_placed, worn_by}
-use Rattle.scene_state.specs.State.{most_blocks, most_frames, most_lights, with_frame, name_or, translated_by, scaled_by, rotated_by, of_rows, Stepped, first_state, opened, innermost, closed, outer, frame_ended, attributes_ended, transform_ended, world_with, frame_made, frame_of, world_ended, with_choices, option_set, display_set, with_current, with_before, space_of, use_of, next_shader, with_shader, light_added, light_made, illuminated_by, light_named, prim_of, with_patches, patches_placed, room_left, primitive_under, primitive_set}
-use Rattle.scene_state.specs.Steps.{with_surface, with_displacement, with_atmosphere, step, after, and_then, Placed, state_from}
-use Rattle.scene_parts.specs.declared.code.StateCode.{StateCode}
-use Rattle.scene_parts.specs.declared.code.StateCode.TheVariants.{N1, N2, N5, M1, M2, M4}
 use Rattle.scene.specs.declared.uses.ShaderKind.{ShaderKind}
 use Rattle.scene.specs.declared.uses.ShaderKind.TheVariants as kinds
 use Rattle.scene.specs.declared.uses.ShaderUse.{ShaderUse}
+use Rattle.primitives.specs.Patches.{PatchValue}
+use Rattle.primitives.proofs.Lists.{all_none, all_one, all_first, all_then}
+use Rattle.scene_state.specs.FirstUse.{place_in, places_in, places_of, all_places, firsts, below}
+use Rattle.scene_state.specs.MotionBlocks.{Step}
+use Rattle.scene_state.specs.Shaders.{placed_in, placed, some_placed, all_placed, worn_by}
+use Rattle.scene_state.specs.State.{with_frame, first_state, innermost, closed, outer, frame_of, prim_of, with_patches}
+use Rattle.scene_state.specs.Steps.{state_from}
 use Rattle.scene_state.specs.declared.attributes.Attributes.{Attributes}
 use Rattle.scene_state.specs.declared.shaders.Slot.{Slot}
 use Rattle.scene_state.specs.declared.shaders.Slot.TheVariants.{Waiting, Used}
@@ -34,7 +27,8 @@ use Rattle.scene_state.specs.declared.state.Block.TheVariants.{InFrame, InWorld,
 use Rattle.scene_state.specs.declared.state.World.{World}
 use Rattle.scene_state.specs.declared.state.State.{State}
 use Rattle.scene_state.proofs.FirstUse.{Reaches, reaches_again, reaches_next}
-use Rattle.scene_state.proofs.Keeping.{IsShader, IsSomeShader, SlotIs, IsGood, GoodStep, good_step, good_patches, first_good, some_keeps, keeps_both, placed_keeps, some_placed_keeps}
+use Rattle.scene_state.proofs.Changes.{BehindAll, IsKept, AnyNumber, kept_both, kept_from}
+use Rattle.scene_state.proofs.Keeping.{IsShader, IsSomeShader, SlotIs, IsGood, good_kept, good_patches, first_good, some_keeps, keeps_both, placed_keeps, some_placed_keeps}
 
 -- ---- places that are had one after another
 
@@ -129,14 +123,6 @@ outer_world (x ∷ bs) b e w = without_last (x ∷ bs) (length (x ∷ bs) - 1) b
 ordered_closed : (s : State) (b : Block) → innermost s.blocks ≡ Some b → is_world b ≡ false → IsOrdered s → IsOrdered (closed s)
 ordered_closed s b e w o = (o.0, λ h. o.1 (sym (outer_world s.blocks b e w) ∙ h), λ h. outer_world s.blocks b e w ∙ o.2 h)
 
-abbrev pub OrderedStep : Stepped → Type 0
-OrderedStep (Ok s) = IsOrdered s
-OrderedStep (Err code) = Unit {0}
-
-either : (b : Bool) (x y : Stepped) → OrderedStep x → OrderedStep y → OrderedStep (if b then x else y)
-either true x y p q = p
-either false x y p q = q
-
 or_first_false : (a b : Bool) → (a || b) ≡ false → a ≡ false
 or_first_false true b h = absurd cc
 or_first_false false b h = refl
@@ -145,97 +131,28 @@ or_first_true : (a b : Bool) → a ≡ true → (a || b) ≡ true
 or_first_true true b h = refl
 or_first_true false b h = absurd cc
 
-ordered_opened_in : (b : Block) (s : State) → Reaches (walked s) (length s.shaders.uses) → (has_world s.blocks ≡ false → s.prims ≡ [])
-    → (is_some s.world ≡ true → (has_world s.blocks || is_world b) ≡ true) → OrderedStep (opened b s)
-ordered_opened_in b s walk shut open_ =
-    either (nat_le most_blocks (length s.blocks)) (Err M1) (Ok (record s { blocks = s.blocks ++ b ∷ [] })) tt
-    (walk, λ h. shut (or_first_false (has_world s.blocks) (is_world b) (sym (has_world-append s.blocks b) ∙ h)), λ h. has_world-append s.blocks b ∙ open_ h)
+ordered_with : (b : Block) (s : State) → Reaches (walked s) (length s.shaders.uses) → (has_world s.blocks ≡ false → s.prims ≡ [])
+    → (is_some s.world ≡ true → (has_world s.blocks || is_world b) ≡ true) → IsOrdered (record s { blocks = s.blocks ++ b ∷ [] })
+ordered_with b s walk shut opens =
+    (walk, λ h. shut (or_first_false (has_world s.blocks) (is_world b) (sym (has_world-append s.blocks b) ∙ h)), λ h. has_world-append s.blocks b ∙ opens h)
 
-ordered_opened : (b : Block) (s : State) → IsOrdered s → OrderedStep (opened b s)
-ordered_opened b s o = ordered_opened_in b s o.0 o.1 (λ h. or_first_true (has_world s.blocks) (is_world b) (o.2 h))
-
-ordered_frame_end : (b : Option Block) (s : State) → innermost s.blocks ≡ b → IsOrdered s → OrderedStep (frame_ended b s)
-ordered_frame_end None s e o = tt
-ordered_frame_end (Some (InFrame a m c name)) s e o = ordered_closed s (InFrame a m c name) e refl o
-ordered_frame_end (Some (InWorld a m)) s e o = tt
-ordered_frame_end (Some (InAttributes a m)) s e o = tt
-ordered_frame_end (Some (InTransform m)) s e o = tt
-
-ordered_attributes_end : (b : Option Block) (s : State) → innermost s.blocks ≡ b → IsOrdered s → OrderedStep (attributes_ended b s)
-ordered_attributes_end None s e o = tt
-ordered_attributes_end (Some (InFrame a m c name)) s e o = tt
-ordered_attributes_end (Some (InWorld a m)) s e o = tt
-ordered_attributes_end (Some (InAttributes a m)) s e o = ordered_closed s (InAttributes a m) e refl o
-ordered_attributes_end (Some (InTransform m)) s e o = tt
-
-ordered_transform_end : (b : Option Block) (s : State) → innermost s.blocks ≡ b → IsOrdered s → OrderedStep (transform_ended b s)
-ordered_transform_end None s e o = tt
-ordered_transform_end (Some (InFrame a m c name)) s e o = tt
-ordered_transform_end (Some (InWorld a m)) s e o = tt
-ordered_transform_end (Some (InAttributes a m)) s e o = tt
-ordered_transform_end (Some (InTransform m)) s e o = ordered_closed s (InTransform m) e refl o
+ordered_opened : (b : Block) (s : State) → IsOrdered s → IsOrdered (record s { blocks = s.blocks ++ b ∷ [] })
+ordered_opened b s o = ordered_with b s o.0 o.1 (λ h. or_first_true (has_world s.blocks) (is_world b) (o.2 h))
 
 or_last_true : (a : Bool) → (a || true) ≡ true
 or_last_true true = refl
 or_last_true false = refl
 
-ordered_world_with : (v : Result View FormFault) (s : State) → IsOrdered s → OrderedStep (world_with v s)
-ordered_world_with (Err e) s o = tt
-ordered_world_with (Ok camera) s o =
-    ordered_opened_in (InWorld s.attributes s.current) (record s { world = Some (record { camera = camera; to_camera = s.current }); current = identity })
-    o.0 o.1 (λ h. or_last_true (has_world s.blocks))
-
 none_open : (w : Option World) → w ≡ None → is_some w ≡ true → ⊥
 none_open None e h = cc
 none_open (Some w) e h = cc
 
-ordered_frame : (w : Option World) (a : Attributes) (m : Map) (s : State) → Reaches (walked s) (length s.shaders.uses) → OrderedStep (frame_made w a m s)
-ordered_frame None a m s walk = tt
-ordered_frame (Some world) a m s walk =
-    either (nat_le most_frames (length s.frames)) (Err M2) (Ok (with_frame world a m s)) tt (
-      subst (λ ns. Reaches ns (length s.shaders.uses)) (sym (append-nil (all_places (s.frames ++ frame_of world s ∷ [])) ∙ all_places-append s.frames (frame_of world s))) walk,
-      λ h. refl,
-      λ h. absurd (none_open None refl h),
-    )
-
-ordered_world_end : (b : Option Block) (s : State) → IsOrdered s → OrderedStep (world_ended b s)
-ordered_world_end None s o = tt
-ordered_world_end (Some (InFrame a m c name)) s o = tt
-ordered_world_end (Some (InWorld a m)) s o = ordered_frame s.world a m (closed s) o.0
-ordered_world_end (Some (InAttributes a m)) s o = tt
-ordered_world_end (Some (InTransform m)) s o = tt
-
-ordered_choices : (c : Result ChoiceValues StateCode) (s : State) → IsOrdered s → OrderedStep (with_choices c s)
-ordered_choices (Ok c) s o = o
-ordered_choices (Err code) s o = tt
-
-ordered_option : (r : Read) (s : State) → IsOrdered s → OrderedStep (option_set r s)
-ordered_option r s o = either (is_some s.world) (Err N2) (with_choices (chosen r s.choices) s) tt (ordered_choices (chosen r s.choices) s o)
-
-ordered_display : (r : Read) (s : State) → IsOrdered s → OrderedStep (display_set r s)
-ordered_display r s o = either (is_some s.world) (Err N2) (Ok (record s { name = name_or (word_at r.args 0) s.name })) tt o
-
-ordered_current : (m : Result Map FormFault) (s : State) → IsOrdered s → OrderedStep (with_current m s)
-ordered_current (Ok m) s o = o
-ordered_current (Err e) s o = tt
-
-ordered_before : (m : Result Map FormFault) (s : State) → IsOrdered s → OrderedStep (with_before m s)
-ordered_before (Ok m) s o = ordered_current (before_of s.current m) s o
-ordered_before (Err e) s o = tt
-
-ordered_shader : (kind : ShaderKind) (r : Read) (wear : ℕ → Attributes → Attributes) (m : Result Map FormFault) (s : State) → IsOrdered s → OrderedStep (with_shader kind r wear m s)
-ordered_shader kind r wear (Err e) s o = tt
-ordered_shader kind r wear (Ok m) s o = o
-
-ordered_light : (m : Result Map FormFault) (r : Read) (s : State) → IsOrdered s → OrderedStep (light_made r m s)
-ordered_light (Err e) r s o = tt
-ordered_light (Ok m) r s o =
-    either (nat_le most_lights (length s.handles)) (Err M4)
-    (Ok (light_added (next_shader s) (whole_at r.args 1) (record s { shaders = with_request s.shaders (use_of kinds.Light r m) }))) tt o
-
-ordered_illuminated : (k : Option ℕ) (on : Option ℤ) (s : State) → IsOrdered s → OrderedStep (illuminated_by k on s)
-ordered_illuminated None on s o = tt
-ordered_illuminated (Some k) on s o = o
+ordered_frame : (w : World) (a : Attributes) (m : MapPair) (s : State) → Reaches (walked s) (length s.shaders.uses) → IsOrdered (with_frame w a m s)
+ordered_frame w a m s walk = (
+  subst (λ ns. Reaches ns (length s.shaders.uses)) (sym (append-nil (all_places (s.frames ++ frame_of w s ∷ [])) ∙ all_places-append s.frames (frame_of w s))) walk,
+  λ h. refl,
+  λ h. absurd (none_open None refl h),
+)
 
 -- ---- primitives
 
@@ -274,9 +191,9 @@ places_of-both : (ps qs : List PrimValue) → places_of (ps ++ qs) ≡ places_of
 places_of-both [] qs = refl
 places_of-both (p ∷ ps) qs = ap (λ ns. places_in p ++ ns) (places_of-both ps qs) ∙ sym (append_assoc (places_in p) (places_of ps) (places_of qs))
 
-ordered_patches : (r : Read) (object : Map) (ps : List PatchValue) (s : State) → is_some s.world ≡ true → IsGood s → IsOrdered s → IsOrdered (with_patches r object ps s)
-ordered_patches r object [] s opens g o = o
-ordered_patches r object (q ∷ qs) s opens g o =
+ordered_patches : (r : Read) (object : Map) (q : PatchValue) (qs : List PatchValue) (s : State) → is_some s.world ≡ true → IsGood s → IsOrdered s
+    → IsOrdered (with_patches r object (q ∷ qs) s)
+ordered_patches r object q qs s opens g o =
     let a = s.attributes in
     let w = g.attributes in
     let d = some_placed s.shaders a.displacement in
@@ -295,7 +212,7 @@ ordered_patches r object (q ∷ qs) s opens g o =
     let had_l = all_reaches v.0 kinds.Light a.lights vs (all_then (IsShader s.shaders kinds.Light) (IsShader v.0 kinds.Light) a.lights (to_v.shaders kinds.Light) w.lights) had_v in
     let made = prim_of r object a.look (worn_by s.shaders a).1 in
     let rest = map made qs in
-    let all = (good_patches r object (q ∷ qs) s g).prims in
+    let all = (good_patches r object q qs s g).prims in
     let later : All (HasUses l.0.uses) rest = λ k d h. all_behind (HasUses l.0.uses) s.prims (made q) rest all k d h in
     let first : Reaches (walked s ++ places_in (made q)) (length l.0.uses) =
     subst (λ ns. Reaches ns (length l.0.uses)) (grouped (walked s) (place_in d.1) f.1 (place_in v.1) l.1) had_l in
@@ -313,103 +230,43 @@ ordered_patches r object (q ∷ qs) s opens g o =
     all_behind P [] p qs all = λ k d h. all (suc k) d (omega (arith, h))
     all_behind P (x ∷ ps) p qs all = all_behind P ps p qs (λ k d h. all (suc k) d (omega (arith, h)))
 
-ordered_made : (r : Read) (object : Map) (made : Made) (s : State) → is_some s.world ≡ true → IsGood s → IsOrdered s → OrderedStep (patches_placed r object made s)
-ordered_made r object (Err code) s opens g o = tt
-ordered_made r object (Ok ps) s opens g o = ordered_patches r object ps s opens g o
+-- ---- all requests
 
-ordered_under : (r : Read) (m : Result Map FormFault) (s : State) → is_some s.world ≡ true → IsGood s → IsOrdered s → OrderedStep (primitive_under r m s)
-ordered_under r (Err e) s opens g o = tt
-ordered_under r (Ok object) s opens g o = ordered_made r object (patches_of r s.attributes.bases object (room_left s)) s opens g o
+ordered_kept : (s : State) → IsGood s → IsOrdered s → IsKept IsOrdered AnyNumber s
+ordered_kept s g o = record {
+  same = o;
+  options = λ c name. o;
+  current = λ m. o;
+  look = λ l b. o;
+  frame_begins = λ e. ordered_opened (InFrame s.attributes s.current s.choices s.name) s o;
+  frame_ends = λ a m c name e. ordered_closed s (InFrame a m c name) e refl o;
+  world_begins = λ w e. ordered_with (InWorld s.attributes s.current) (record s { world = Some w; current = still identity }) o.0 o.1 (λ h. or_last_true (has_world s.blocks));
+  world_ends = λ w a m opens e room. ordered_frame w a m (closed s) o.0;
+  attributes_begin = ordered_opened (InAttributes s.attributes s.current) s o;
+  attributes_end = λ a m e. ordered_closed s (InAttributes a m) e refl o;
+  transform_begins = ordered_opened (InTransform s.current) s o;
+  transform_ends = λ m e. ordered_closed s (InTransform m) e refl o;
+  surface = λ r m. o;
+  displacement = λ r m. o;
+  atmosphere = λ r m. o;
+  light = λ r m number is. o;
+  illuminated = λ k number on e. o;
+  patches = λ r object p ps opens. ordered_patches r object p ps s opens g o;
+}
 
-ordered_primitive : (r : Read) (s : State) → IsGood s → IsOrdered s → OrderedStep (primitive_set r s)
-ordered_primitive r s g o = by_world (is_some s.world) refl
-  where
-    by_world : (b : Bool) → is_some s.world ≡ b → OrderedStep (if b then primitive_under r (space_of s) s else Err N5)
-    by_world true opens = ordered_under r (space_of s) s opens g o
-    by_world false opens = tt
+abbrev IsGoodInOrder : State → Type 0
+IsGoodInOrder s = IsGood s × IsOrdered s
 
--- ---- the whole list
-
-ordered_step : (name : Req) (r : Read) (s : State) → IsGood s → IsOrdered s → OrderedStep (step name r s)
-ordered_step reqs.FrameBegin r s g o = either (length s.blocks == 0) (opened (InFrame s.attributes s.current s.choices s.name) s) (Err N1) (ordered_opened (InFrame s.attributes s.current s.choices s.name) s o) tt
-ordered_step reqs.FrameEnd r s g o = ordered_frame_end (innermost s.blocks) s refl o
-ordered_step reqs.WorldBegin r s g o = either (is_some s.world) (Err N1) (world_with (camera_of (view_of s.choices)) s) tt (ordered_world_with (camera_of (view_of s.choices)) s o)
-ordered_step reqs.WorldEnd r s g o = ordered_world_end (innermost s.blocks) s o
-ordered_step reqs.AttributeBegin r s g o = ordered_opened (InAttributes s.attributes s.current) s o
-ordered_step reqs.AttributeEnd r s g o = ordered_attributes_end (innermost s.blocks) s refl o
-ordered_step reqs.TransformBegin r s g o = ordered_opened (InTransform s.current) s o
-ordered_step reqs.TransformEnd r s g o = ordered_transform_end (innermost s.blocks) s refl o
-ordered_step reqs.Identity r s g o = o
-ordered_step reqs.ReverseOrientation r s g o = o
-ordered_step reqs.Declare r s g o = o
-ordered_step reqs.Format r s g o = ordered_option r s o
-ordered_step reqs.FrameAspectRatio r s g o = ordered_option r s o
-ordered_step reqs.ScreenWindow r s g o = ordered_option r s o
-ordered_step reqs.CropWindow r s g o = ordered_option r s o
-ordered_step reqs.Clipping r s g o = ordered_option r s o
-ordered_step reqs.Projection r s g o = ordered_option r s o
-ordered_step reqs.PixelSamples r s g o = ordered_option r s o
-ordered_step reqs.PixelFilter r s g o = ordered_option r s o
-ordered_step reqs.Exposure r s g o = ordered_option r s o
-ordered_step reqs.Quantize r s g o = ordered_option r s o
-ordered_step reqs.Display r s g o = ordered_display r s o
-ordered_step reqs.Color r s g o = o
-ordered_step reqs.Opacity r s g o = o
-ordered_step reqs.ShadingRate r s g o = o
-ordered_step reqs.ShadingInterpolation r s g o = o
-ordered_step reqs.Sides r s g o = o
-ordered_step reqs.Orientation r s g o = o
-ordered_step reqs.Attribute r s g o = o
-ordered_step reqs.Basis r s g o = o
-ordered_step reqs.PatchMesh r s g o = ordered_primitive r s g o
-ordered_step reqs.Polygon r s g o = ordered_primitive r s g o
-ordered_step reqs.PointsPolygons r s g o = ordered_primitive r s g o
-ordered_step reqs.Sphere r s g o = ordered_primitive r s g o
-ordered_step reqs.Cylinder r s g o = ordered_primitive r s g o
-ordered_step reqs.Cone r s g o = ordered_primitive r s g o
-ordered_step reqs.Disk r s g o = ordered_primitive r s g o
-ordered_step reqs.Version r s g o = o
-ordered_step reqs.ErrorHandler r s g o = o
-ordered_step reqs.Hider r s g o = o
-ordered_step reqs.Shutter r s g o = o
-ordered_step reqs.RelativeDetail r s g o = o
-ordered_step reqs.GeometricApproximation r s g o = o
-ordered_step reqs.PixelVariance r s g o = o
-ordered_step reqs.Bound r s g o = o
-ordered_step reqs.CoordinateSystem r s g o = o
-ordered_step reqs.Option r s g o = o
-ordered_step reqs.Surface r s g o = ordered_shader kinds.Surface r with_surface (space_of s) s o
-ordered_step reqs.Displacement r s g o = ordered_shader kinds.Displacement r with_displacement (space_of s) s o
-ordered_step reqs.Atmosphere r s g o = ordered_shader kinds.Volume r with_atmosphere (space_of s) s o
-ordered_step reqs.LightSource r s g o = ordered_light (space_of s) r s o
-ordered_step reqs.Illuminate r s g o = ordered_illuminated (light_named (whole_at r.args 0) s.handles) (whole_at r.args 1) s o
-ordered_step reqs.Translate r s g o = ordered_before (translated_by (raw_at r.args 0) (raw_at r.args 1) (raw_at r.args 2)) s o
-ordered_step reqs.Scale r s g o = ordered_before (scaled_by (raw_at r.args 0) (raw_at r.args 1) (raw_at r.args 2)) s o
-ordered_step reqs.Rotate r s g o = ordered_before (rotated_by (raw_at r.args 0) (raw_at r.args 1) (raw_at r.args 2) (raw_at r.args 3)) s o
-ordered_step reqs.Transform r s g o = ordered_current (of_rows (numbers_at r.args 0)) s o
-ordered_step reqs.ConcatTransform r s g o = ordered_before (of_rows (numbers_at r.args 0)) s o
-ordered_step reqs.Patch r s g o = ordered_primitive r s g o
-
-abbrev BothPlaced : Result State Placed → Type 0
-BothPlaced (Ok s) = IsGood s × IsOrdered s
-BothPlaced (Err e) = Unit {0}
-
-then_both : (t : Stepped) (line : ℕ) (go : State → Result State Placed) → GoodStep t → OrderedStep t → ((s : State) → IsGood s → IsOrdered s → BothPlaced (go s))
-    → BothPlaced (and_then t line go)
-then_both (Ok s) line go g o f = f s g o
-then_both (Err code) line go g o f = tt
-
-both_from : (s : State) (rs : List Read) → IsGood s → IsOrdered s → BothPlaced (state_from s rs)
-both_from s [] g o = (g, o)
-both_from s (r ∷ rs) g o =
-    then_both (after r s) r.line (λ t. state_from t rs) (good_step r.name r s g) (ordered_step r.name r s g o) (λ t h p. both_from t rs h p)
+both_kept : (s : State) → IsGoodInOrder s → IsKept IsGoodInOrder AnyNumber s
+both_kept s h = kept_both IsGood IsOrdered AnyNumber s (good_kept s h.0) (ordered_kept s h.0 h.1)
 
 no_blocks : (bs : List Block) → (length bs == 0) ≡ true → has_world bs ≡ false
 no_blocks [] h = refl
 no_blocks (b ∷ bs) h = absurd (grind (arith, nat_tests, h))
 
 -- the uses of a scene stand in the order of their first use
-pub scene_in_order : (rs : List Read) (s : State) → state_from first_state rs ≡ Ok s → (length s.blocks == 0) ≡ true → firsts (all_places s.frames) ≡ below (length s.shaders.uses)
-scene_in_order rs s e h =
-    let o = (subst BothPlaced e (both_from first_state rs first_good (refl, λ h. refl, λ h. absurd (none_open None refl h)))).1 in
+pub scene_in_order : (xs : List Step) (s : State) → state_from first_state xs ≡ Ok s → (length s.blocks == 0) ≡ true → firsts (all_places s.frames) ≡ below (length s.shaders.uses)
+scene_in_order xs s e h =
+    let first : IsOrdered first_state = (refl, λ h. refl, λ h. absurd (none_open None refl h)) in
+    let o = (subst (BehindAll IsGoodInOrder) e (kept_from IsGoodInOrder both_kept first_state xs (first_good, first))).1 in
     subst (λ ns. Reaches ns (length s.shaders.uses)) (ap (λ ps. all_places s.frames ++ places_of ps) (o.1 (no_blocks s.blocks h)) ∙ append-nil (all_places s.frames)) o.0

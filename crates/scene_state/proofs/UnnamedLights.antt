@@ -1,32 +1,25 @@
 -- The primitives of a world begin with the places of the lights in force that have no number: each request keeps that.
-use Rattle.std.proofs.Common.{◌≡◌, ◌∙◌, refl, sym, ap, subst, ℕ, zero, suc, ◌-◌, ◌<◌, ◌≤◌, ℤ, Bool, true, false, ◌==◌, not, is_some, nat_lt, nat_le, take, List, [], ◌∷◌, ◌++◌, length, map, set, Option, Some, None, Result, Ok, Err, All, slice_get, slice_index_or, append_assoc, if◌then◌else◌, arith}
+use Rattle.std.proofs.Common.{◌≡◌, ◌∙◌, refl, sym, ap, subst, ℕ, zero, suc, ◌-◌, ◌<◌, ◌≤◌, ℤ, Bool, true, false, ◌==◌, not, is_some, nat_lt, take, List, [], ◌∷◌, ◌++◌, length, map, set, Option, Some, None, Ok, All, slice_get, slice_index_or, append_assoc, if◌then◌else◌, arith}
 use Rattle.std.specs.Option.{option_or, option_map}
 use Rattle.std.specs.Ordering.{int_eq}
 use Rattle.std.proofs.lemmas.List.{append-nil}
 use Rattle.std.proofs.lemmas.List.Elements.{All-append, All-take, All-filter, filter-append}
 use Rattle.std.proofs.lemmas.Bool.Decides.{nat_tests}
-use Rattle.rib_reader.specs.declared.req.Req.{Req}
-use Rattle.rib_reader.specs.declared.req.Req.TheVariants as reqs
 use Rattle.rib_reader.specs.Reading.{Read}
-use Rattle.rib_reader.specs.Rules.{word_at, raw_at, whole_at, numbers_at}
-use Rattle.transforms.specs.Map.{Map, identity, before_of}
-use Rattle.transforms.specs.Field.{camera_of}
-use Rattle.transforms.specs.declared.view.View.{View}
-use Rattle.transforms.specs.declared.fault.FormFault.{FormFault}
+use Rattle.transforms.specs.Map.{Map, identity}
+use Rattle.moving_maps.specs.MapPairs.{MapPair, still}
 use Rattle.scene.specs.Scene.{PrimValue}
-use Rattle.primitives.specs.Patches.{PatchValue, Made, patches_of}
+use Rattle.scene.specs.declared.uses.ShaderKind.TheVariants as kinds
+use Rattle.scene.specs.declared.uses.ShaderUse.{ShaderUse}
+use Rattle.primitives.specs.Patches.{PatchValue}
 use Rattle.primitives.proofs.Lists.{all_none, all_one, all_first, all_then}
-use Rattle.scene_parts.specs.Choices.{ChoiceValues, chosen, view_of}
 use Rattle.scene_parts.specs.Looks.{is_single}
 use Rattle.scene_parts.specs.Lights.{with_light, without_light, is_among, made_before}
 use Rattle.scene_parts.proofs.BoundedLights.{all_left}
-use Rattle.scene_parts.specs.declared.code.StateCode.{StateCode}
-use Rattle.scene_parts.specs.declared.code.StateCode.TheVariants.{N1, N2, N5, M1, M2, M4}
-use Rattle.scene.specs.declared.uses.ShaderKind.TheVariants as kinds
-use Rattle.scene.specs.declared.uses.ShaderUse.{ShaderUse}
+use Rattle.scene_state.specs.MotionBlocks.{Step}
 use Rattle.scene_state.specs.Shaders.{with_request, placed_in, placed, some_placed, all_placed, worn_by, light_of}
-use Rattle.scene_state.specs.State.{most_blocks, most_frames, most_lights, with_frame, name_or, translated_by, scaled_by, rotated_by, of_rows, Stepped, first_state, opened, innermost, closed, outer, frame_ended, attributes_ended, transform_ended, world_with, frame_made, world_ended, with_choices, option_set, display_set, with_current, with_before, space_of, use_of, next_shader, with_shader, light_added, light_made, illuminated_by, light_named, prim_of, with_patches, patches_placed, room_left, primitive_under, primitive_set}
-use Rattle.scene_state.specs.Steps.{with_surface, with_displacement, with_atmosphere, step}
+use Rattle.scene_state.specs.State.{with_frame, first_state, innermost, closed, outer, use_of, next_shader, light_added, light_named, prim_of, with_patches}
+use Rattle.scene_state.specs.Steps.{taken}
 use Rattle.scene_state.specs.Unnamed.{first_named, AreAt, SomeAreAt, last_lights, LastAreAt}
 use Rattle.scene_state.specs.declared.attributes.Attributes.{Attributes}
 use Rattle.scene_state.specs.declared.shaders.Slot.{Slot}
@@ -37,7 +30,8 @@ use Rattle.scene_state.specs.declared.state.Block.{Block}
 use Rattle.scene_state.specs.declared.state.Block.TheVariants.{InFrame, InWorld, InAttributes, InTransform}
 use Rattle.scene_state.specs.declared.state.World.{World}
 use Rattle.scene_state.specs.declared.state.State.{State}
-use Rattle.scene_state.proofs.Keeping.{Of, all_more, all_of, IsShader, SlotIs, BlockWears, IsHandle, IsGood, placed_keeps, some_placed_keeps, keeps_both}
+use Rattle.scene_state.proofs.Changes.{Behind, IsKept, StepHas, kept_taken}
+use Rattle.scene_state.proofs.Keeping.{Of, all_more, all_of, all_mapped, IsShader, SlotIs, BlockWears, IsHandle, IsGood, placed_keeps, some_placed_keeps, keeps_both}
 
 -- ---- places of requests
 
@@ -296,7 +290,7 @@ within_more o es (InAttributes a m ∷ bs) b i w = within_more o es bs b i w
 within_more o es (InTransform m ∷ bs) b i w = within_more o es bs b i w
 
 -- a world begins
-within_first : (o : Option ℕ) (es : List ℕ) (bs : List Block) (a : Attributes) (m : Map) → All NotWorld bs → Within o es (bs ++ InWorld a m ∷ [])
+within_first : (o : Option ℕ) (es : List ℕ) (bs : List Block) (a : Attributes) (m : MapPair) → All NotWorld bs → Within o es (bs ++ InWorld a m ∷ [])
 within_first o es [] a m all = all_none (Inside o es)
 within_first o es (InFrame b n c name ∷ bs) a m all = within_first o es bs a m (λ j d h. all (suc j) d (omega (arith, h)))
 within_first o es (InWorld b n ∷ bs) a m all = absurd (all 0 (InWorld b n) (omega arith))
@@ -326,7 +320,7 @@ within_back o es (InTransform m ∷ x ∷ bs) zero b l e i w = absurd (omega (ar
 within_back o es (InTransform m ∷ bs) (suc n) b l e i w = within_back o es bs n b (omega (arith, l)) e i w
 
 -- the innermost block is the world's
-within_ends : (o : Option ℕ) (es : List ℕ) (bs : List Block) (n : ℕ) (a : Attributes) (m : Map) → suc n ≡ length bs → slice_get bs n ≡ Some (InWorld a m) → Within o es bs
+within_ends : (o : Option ℕ) (es : List ℕ) (bs : List Block) (n : ℕ) (a : Attributes) (m : MapPair) → suc n ≡ length bs → slice_get bs n ≡ Some (InWorld a m) → Within o es bs
     → All NotWorld (take n bs)
 within_ends o es [] n a m l e w = absurd w
 within_ends o es (b ∷ bs) zero a m l e w = all_none NotWorld
@@ -339,7 +333,7 @@ outer_back : (o : Option ℕ) (es : List ℕ) (bs : List Block) (b : Block) → 
 outer_back o es [] b e i w = absurd w
 outer_back o es (x ∷ bs) b e i w = within_back o es (x ∷ bs) (length (x ∷ bs) - 1) b (omega arith) e i w
 
-outer_ends : (o : Option ℕ) (es : List ℕ) (bs : List Block) (a : Attributes) (m : Map) → innermost bs ≡ Some (InWorld a m) → Within o es bs → All NotWorld (outer bs)
+outer_ends : (o : Option ℕ) (es : List ℕ) (bs : List Block) (a : Attributes) (m : MapPair) → innermost bs ≡ Some (InWorld a m) → Within o es bs → All NotWorld (outer bs)
 outer_ends o es [] a m e w = absurd w
 outer_ends o es (x ∷ bs) a m e w = within_ends o es (x ∷ bs) (length (x ∷ bs) - 1) a m (omega arith) e w
 
@@ -376,18 +370,6 @@ last_are_at s l =
     subst (λ es. SomeAreAt slots es (last_lights s.prims)) (sym (made_is (first_named s.handles) l.first s.attributes.lights l.front))
     (of_map slots l.first (slice_get s.prims (length s.prims - 1)) (all_of (λ p. AreAt slots l.first p.lights) s.prims (length s.prims - 1) l.prims))
 
-abbrev pub LitStep : Stepped → Type 0
-LitStep (Ok s) = IsLit s
-LitStep (Err code) = Unit {0}
-
-either : (b : Bool) (x y : Stepped) → LitStep x → LitStep y → LitStep (if b then x else y)
-either true x y p q = p
-either false x y p q = q
-
-either_when : (b : Bool) (x y : Stepped) → (b ≡ true → LitStep x) → (b ≡ false → LitStep y) → LitStep (if b then x else y)
-either_when true x y p q = p refl
-either_when false x y p q = q refl
-
 -- ---- blocks that open and end
 
 nested_more : (t : Bool) (o : Option ℕ) (es : List ℕ) (bs : List Block) (b : Block) → NotWorld b → (t ≡ true → Inside o es b) → Nested t o es bs → Nested t o es (bs ++ b ∷ [])
@@ -395,10 +377,10 @@ nested_more false o es bs b w i n = all_more NotWorld bs b n w
 nested_more true o es bs b w i n = within_more o es bs b (i refl) n
 
 lit_opened : (b : Block) (s : State) (l : IsLit s) → NotWorld b → BlockFront (first_named s.handles) b → (is_some s.world ≡ true → Inside (first_named s.handles) l.first b)
-    → LitStep (opened b s)
+    → IsLit (record s { blocks = s.blocks ++ b ∷ [] })
 lit_opened b s l w f i =
     let o = first_named s.handles in
-    either (nat_le most_blocks (length s.blocks)) (Err M1) (Ok (record s { blocks = s.blocks ++ b ∷ [] })) tt record {
+    record {
       handles = l.handles;
       first = l.first;
       front = l.front;
@@ -411,24 +393,22 @@ lit_opened b s l w f i =
 has : (s : State) → IsLit s → HasFront (first_named s.handles) s.attributes.lights
 has s l = record { first = l.first; front = l.front }
 
-lit_frame_begun : (s : State) → IsLit s → LitStep (if length s.blocks == 0 then opened (InFrame s.attributes s.current s.choices s.name) s else Err N1)
-lit_frame_begun s l =
+lit_frame_begun : (s : State) → (length s.blocks == 0) ≡ true → IsLit s → IsLit (record s { blocks = s.blocks ++ InFrame s.attributes s.current s.choices s.name ∷ [] })
+lit_frame_begun s e l =
     let o = first_named s.handles in
-    either_when (length s.blocks == 0) (opened (InFrame s.attributes s.current s.choices s.name) s) (Err N1)
-    (λ e. lit_opened (InFrame s.attributes s.current s.choices s.name) s l tt (has s l)
-    (λ t. absurd (none_within o l.first s.blocks e (subst (λ b. Nested b o l.first s.blocks) t l.nested)))) (λ e. tt)
+    lit_opened (InFrame s.attributes s.current s.choices s.name) s l tt (has s l)
+    (λ t. absurd (none_within o l.first s.blocks e (subst (λ b. Nested b o l.first s.blocks) t l.nested)))
 
-lit_world_with : (v : Result View FormFault) (s : State) → is_some s.world ≡ false → IsLit s → LitStep (world_with v s)
-lit_world_with (Err e) s t l = tt
-lit_world_with (Ok camera) s t l =
+lit_world : (w : World) (s : State) → is_some s.world ≡ false → IsLit s
+    → IsLit (record s { world = Some w; current = still identity; blocks = s.blocks ++ InWorld s.attributes s.current ∷ [] })
+lit_world w s none l =
     let o = first_named s.handles in
-    let begun = record s { world = Some (record { camera = camera; to_camera = s.current }); current = identity } in
-    either (nat_le most_blocks (length s.blocks)) (Err M1) (Ok (record begun { blocks = s.blocks ++ InWorld s.attributes s.current ∷ [] })) tt record {
+    record {
       handles = l.handles;
       first = l.first;
       front = l.front;
       blocks = all_more (BlockFront o) s.blocks (InWorld s.attributes s.current) l.blocks (has s l);
-      nested = within_first o l.first s.blocks s.attributes s.current (subst (λ b. Nested b o l.first s.blocks) t l.nested);
+      nested = within_first o l.first s.blocks s.attributes s.current (subst (λ b. Nested b o l.first s.blocks) none l.nested);
       prims = l.prims;
       shut = λ h. absurd cc;
     }
@@ -460,70 +440,22 @@ lit_back true slots hs ls ks bs ps b l e w h i =
 block_at : (s : State) (b : Block) → innermost s.blocks ≡ Some b → IsLit s → BlockFront (first_named s.handles) b
 block_at s b e l = subst (Of (BlockFront (first_named s.handles))) e (all_of (BlockFront (first_named s.handles)) s.blocks (length s.blocks - 1) l.blocks)
 
-lit_frame_end : (b : Option Block) (s : State) → innermost s.blocks ≡ b → IsLit s → LitStep (frame_ended b s)
-lit_frame_end None s e l = tt
-lit_frame_end (Some (InFrame a m c name)) s e l =
-    lit_back (is_some s.world) s.shaders.slots s.handles s.attributes.lights a.lights s.blocks s.prims (InFrame a m c name) l e tt (block_at s (InFrame a m c name) e l) (λ i. absurd i)
-lit_frame_end (Some (InWorld a m)) s e l = tt
-lit_frame_end (Some (InAttributes a m)) s e l = tt
-lit_frame_end (Some (InTransform m)) s e l = tt
+lit_ended : (b : Block) (ks : List ℕ) (s : State) (l : IsLit s) → innermost s.blocks ≡ Some b → NotWorld b → HasFront (first_named s.handles) ks
+    → (Inside (first_named s.handles) l.first b → Front (first_named s.handles) l.first ks) → Lit s.shaders.slots s.handles ks (outer s.blocks) (is_some s.world) s.prims
+lit_ended b ks s l e w h i = lit_back (is_some s.world) s.shaders.slots s.handles s.attributes.lights ks s.blocks s.prims b l e w h i
 
-lit_attributes_end : (b : Option Block) (s : State) → innermost s.blocks ≡ b → IsLit s → LitStep (attributes_ended b s)
-lit_attributes_end None s e l = tt
-lit_attributes_end (Some (InFrame a m c name)) s e l = tt
-lit_attributes_end (Some (InWorld a m)) s e l = tt
-lit_attributes_end (Some (InAttributes a m)) s e l =
-    lit_back (is_some s.world) s.shaders.slots s.handles s.attributes.lights a.lights s.blocks s.prims (InAttributes a m) l e tt (block_at s (InAttributes a m) e l) (λ i. i)
-lit_attributes_end (Some (InTransform m)) s e l = tt
-
-lit_transform_end : (b : Option Block) (s : State) → innermost s.blocks ≡ b → IsLit s → LitStep (transform_ended b s)
-lit_transform_end None s e l = tt
-lit_transform_end (Some (InFrame a m c name)) s e l = tt
-lit_transform_end (Some (InWorld a m)) s e l = tt
-lit_transform_end (Some (InAttributes a m)) s e l = tt
-lit_transform_end (Some (InTransform m)) s e l =
-    lit_back (is_some s.world) s.shaders.slots s.handles s.attributes.lights s.attributes.lights s.blocks s.prims (InTransform m) l e tt (has s l) (λ i. l.front)
-
-lit_frame : (o : Option World) (a : Attributes) (m : Map) (s : State) → s.world ≡ o → innermost s.blocks ≡ Some (InWorld a m) → IsLit s → LitStep (frame_made o a m (closed s))
-lit_frame None a m s w e l = tt
-lit_frame (Some world) a m s w e l =
+lit_frame : (w : World) (a : Attributes) (m : MapPair) (s : State) → s.world ≡ Some w → innermost s.blocks ≡ Some (InWorld a m) → IsLit s → IsLit (with_frame w a m (closed s))
+lit_frame w a m s opens e l =
     let o = first_named s.handles in
-    either (nat_le most_frames (length s.frames)) (Err M2) (Ok (with_frame world a m (closed s))) tt record {
+    record {
       handles = all_none (λ h. Late None h.light);
       first = [];
       front = (free []).front;
       blocks = λ j d h. block_free (slice_index_or (outer s.blocks) j d);
-      nested = outer_ends o l.first s.blocks a m e (subst (λ x. Nested (is_some x) o l.first s.blocks) w l.nested);
+      nested = outer_ends o l.first s.blocks a m e (subst (λ x. Nested (is_some x) o l.first s.blocks) opens l.nested);
       prims = all_none (λ p. AreAt s.shaders.slots [] p.lights);
       shut = λ h. refl;
     }
-
-lit_world_end : (b : Option Block) (s : State) → innermost s.blocks ≡ b → IsLit s → LitStep (world_ended b s)
-lit_world_end None s e l = tt
-lit_world_end (Some (InFrame a m c name)) s e l = tt
-lit_world_end (Some (InWorld a m)) s e l = lit_frame s.world a m s refl e l
-lit_world_end (Some (InAttributes a m)) s e l = tt
-lit_world_end (Some (InTransform m)) s e l = tt
-
--- ---- options and transformations
-
-lit_choices : (c : Result ChoiceValues StateCode) (s : State) → IsLit s → LitStep (with_choices c s)
-lit_choices (Ok c) s l = l
-lit_choices (Err code) s l = tt
-
-lit_option : (r : Read) (s : State) → IsLit s → LitStep (option_set r s)
-lit_option r s l = either (is_some s.world) (Err N2) (with_choices (chosen r s.choices) s) tt (lit_choices (chosen r s.choices) s l)
-
-lit_display : (r : Read) (s : State) → IsLit s → LitStep (display_set r s)
-lit_display r s l = either (is_some s.world) (Err N2) (Ok (record s { name = name_or (word_at r.args 0) s.name })) tt l
-
-lit_current : (m : Result Map FormFault) (s : State) → IsLit s → LitStep (with_current m s)
-lit_current (Ok m) s l = l
-lit_current (Err e) s l = tt
-
-lit_before : (m : Result Map FormFault) (s : State) → IsLit s → LitStep (with_before m s)
-lit_before (Ok m) s l = lit_current (before_of s.current m) s l
-lit_before (Err e) s l = tt
 
 -- ---- shaders and lights
 
@@ -543,18 +475,6 @@ lit_request : (s : State) (u : ShaderUse) → IsLit s → IsLit (record s { shad
 lit_request s u l =
     lit_stays s.shaders.slots (s.shaders.slots ++ Waiting u ∷ []) s.handles s.attributes.lights s.blocks (is_some s.world) s.prims
     (λ k n h. at_more s.shaders.slots (Waiting u) k n h) l
-
-lit_surface : (m : Result Map FormFault) (r : Read) (s : State) → IsLit s → LitStep (with_shader kinds.Surface r with_surface m s)
-lit_surface (Err e) r s l = tt
-lit_surface (Ok m) r s l = lit_request s (use_of kinds.Surface r m) l
-
-lit_displacement : (m : Result Map FormFault) (r : Read) (s : State) → IsLit s → LitStep (with_shader kinds.Displacement r with_displacement m s)
-lit_displacement (Err e) r s l = tt
-lit_displacement (Ok m) r s l = lit_request s (use_of kinds.Displacement r m) l
-
-lit_atmosphere : (m : Result Map FormFault) (r : Read) (s : State) → IsLit s → LitStep (with_shader kinds.Volume r with_atmosphere m s)
-lit_atmosphere (Err e) r s l = tt
-lit_atmosphere (Ok m) r s l = lit_request s (use_of kinds.Volume r m) l
 
 -- a light's number and place come behind all others
 lit_added : (number : ℤ) (k : ℕ) (slots : List Slot) (hs : List Handle) (ls : List ℕ) (bs : List Block) (t : Bool) (ps : List PrimValue) → All (λ n. n < k) ls → All (BlockBelow k) bs
@@ -604,13 +524,6 @@ lit_made (Some number) u s some g l =
     (all_then (IsHandle s.shaders) (λ h. h.light < next_shader s) s.handles (λ h is. slot_there s.shaders.uses s.shaders.slots h.light is) g.handles)
     (lit_request s u l)
 
-lit_light : (m : Result Map FormFault) (r : Read) (s : State) → (whole_at r.args 1 ≡ None → ⊥) → IsGood s → IsLit s → LitStep (light_made r m s)
-lit_light (Err e) r s some g l = tt
-lit_light (Ok m) r s some g l =
-    let u = use_of kinds.Light r m in
-    either (nat_le most_lights (length s.handles)) (Err M4) (Ok (light_added (next_shader s) (whole_at r.args 1) (record s { shaders = with_request s.shaders u }))) tt
-    (lit_made (whole_at r.args 1) u s some g l)
-
 abbrev pub SomeLate : Option ℕ → Option ℕ → Type 0
 SomeLate o None = Unit {0}
 SomeLate o (Some k) = Late o k
@@ -641,9 +554,9 @@ front_taken : (o : Option ℕ) (k : ℕ) (es ls : List ℕ) → Late o k → Fro
 front_taken None k es ls late f = absurd late
 front_taken (Some n) k es ls late f = front_without n k es ls late f
 
-lit_illuminated : (k : Option ℕ) (on : Option ℤ) (s : State) → SomeLate (first_named s.handles) k → IsLit s → LitStep (illuminated_by k on s)
-lit_illuminated None on s late l = tt
-lit_illuminated (Some k) on s late l =
+lit_illuminated : (k : ℕ) (on : Option ℤ) (s : State) → Late (first_named s.handles) k → IsLit s
+    → IsLit (record s { attributes = record s.attributes { lights = if is_single on then with_light k s.attributes.lights else without_light k s.attributes.lights } })
+lit_illuminated k on s late l =
     let o = first_named s.handles in
     let ls = s.attributes.lights in
     record {
@@ -658,14 +571,9 @@ lit_illuminated (Some k) on s late l =
 
 -- ---- primitives
 
-all_mapped : {A B : Type 0} (P : B → Type 0) (f : A → B) (xs : List A) → ((x : A) → P (f x)) → All P (map f xs)
-all_mapped P f [] each = all_none P
-all_mapped P f (x ∷ xs) each = all_first P (f x) (map f xs) (each x) (all_mapped P f xs each)
-
-lit_patches : (r : Read) (object : Map) (ps : List PatchValue) (s : State) → is_some s.world ≡ true → IsGood s → IsLit s → IsLit (with_patches r object ps s)
+lit_patches : (r : Read) (object : Map) (q : PatchValue) (qs : List PatchValue) (s : State) → is_some s.world ≡ true → IsGood s → IsLit s → IsLit (with_patches r object (q ∷ qs) s)
 unfolding lit_stays
-lit_patches r object [] s opens g l = l
-lit_patches r object (q ∷ qs) s opens g l =
+lit_patches r object q qs s opens g l =
     let a = s.attributes in
     let w = g.attributes in
     let d = some_placed s.shaders a.displacement in
@@ -694,82 +602,39 @@ lit_patches r object (q ∷ qs) s opens g l =
     both_ways true t f = cc
     both_ways false t f = cc
 
-lit_placed : (r : Read) (object : Map) (made : Made) (s : State) → is_some s.world ≡ true → IsGood s → IsLit s → LitStep (patches_placed r object made s)
-lit_placed r object (Err code) s opens g l = tt
-lit_placed r object (Ok ps) s opens g l = lit_patches r object ps s opens g l
-
-lit_under : (r : Read) (m : Result Map FormFault) (s : State) → is_some s.world ≡ true → IsGood s → IsLit s → LitStep (primitive_under r m s)
-lit_under r (Err e) s opens g l = tt
-lit_under r (Ok object) s opens g l = lit_placed r object (patches_of r s.attributes.bases object (room_left s)) s opens g l
-
-lit_primitive : (r : Read) (s : State) → IsGood s → IsLit s → LitStep (primitive_set r s)
-lit_primitive r s g l = either_when (is_some s.world) (primitive_under r (space_of s) s) (Err N5) (λ opens. lit_under r (space_of s) s opens g l) (λ e. tt)
-
 -- ---- all requests
 
 -- a light's request has a number
-abbrev pub HasNumber : Req → Read → Type 0
-HasNumber name r = name ≡ reqs.LightSource → whole_at r.args 1 ≡ None → ⊥
+abbrev pub IsNumber : Option ℤ → Type 0
+IsNumber number = number ≡ None → ⊥
 
-pub lit_step : (name : Req) (r : Read) (s : State) → HasNumber name r → IsGood s → IsLit s → LitStep (step name r s)
-lit_step reqs.FrameBegin r s some g l = lit_frame_begun s l
-lit_step reqs.FrameEnd r s some g l = lit_frame_end (innermost s.blocks) s refl l
-lit_step reqs.WorldBegin r s some g l = either_when (is_some s.world) (Err N1) (world_with (camera_of (view_of s.choices)) s) (λ e. tt) (λ e. lit_world_with (camera_of (view_of s.choices)) s e l)
-lit_step reqs.WorldEnd r s some g l = lit_world_end (innermost s.blocks) s refl l
-lit_step reqs.AttributeBegin r s some g l = lit_opened (InAttributes s.attributes s.current) s l tt (has s l) (λ e. l.front)
-lit_step reqs.AttributeEnd r s some g l = lit_attributes_end (innermost s.blocks) s refl l
-lit_step reqs.TransformBegin r s some g l = lit_opened (InTransform s.current) s l tt tt (λ e. tt)
-lit_step reqs.TransformEnd r s some g l = lit_transform_end (innermost s.blocks) s refl l
-lit_step reqs.Identity r s some g l = l
-lit_step reqs.ReverseOrientation r s some g l = l
-lit_step reqs.Declare r s some g l = l
-lit_step reqs.Color r s some g l = l
-lit_step reqs.Opacity r s some g l = l
-lit_step reqs.ShadingRate r s some g l = l
-lit_step reqs.ShadingInterpolation r s some g l = l
-lit_step reqs.Sides r s some g l = l
-lit_step reqs.Orientation r s some g l = l
-lit_step reqs.Attribute r s some g l = l
-lit_step reqs.Basis r s some g l = l
-lit_step reqs.Version r s some g l = l
-lit_step reqs.ErrorHandler r s some g l = l
-lit_step reqs.Hider r s some g l = l
-lit_step reqs.Shutter r s some g l = l
-lit_step reqs.RelativeDetail r s some g l = l
-lit_step reqs.GeometricApproximation r s some g l = l
-lit_step reqs.PixelVariance r s some g l = l
-lit_step reqs.Bound r s some g l = l
-lit_step reqs.CoordinateSystem r s some g l = l
-lit_step reqs.Option r s some g l = l
-lit_step reqs.Format r s some g l = lit_option r s l
-lit_step reqs.FrameAspectRatio r s some g l = lit_option r s l
-lit_step reqs.ScreenWindow r s some g l = lit_option r s l
-lit_step reqs.CropWindow r s some g l = lit_option r s l
-lit_step reqs.Clipping r s some g l = lit_option r s l
-lit_step reqs.Projection r s some g l = lit_option r s l
-lit_step reqs.PixelSamples r s some g l = lit_option r s l
-lit_step reqs.PixelFilter r s some g l = lit_option r s l
-lit_step reqs.Exposure r s some g l = lit_option r s l
-lit_step reqs.Quantize r s some g l = lit_option r s l
-lit_step reqs.Display r s some g l = lit_display r s l
-lit_step reqs.Surface r s some g l = lit_surface (space_of s) r s l
-lit_step reqs.Displacement r s some g l = lit_displacement (space_of s) r s l
-lit_step reqs.Atmosphere r s some g l = lit_atmosphere (space_of s) r s l
-lit_step reqs.LightSource r s some g l = lit_light (space_of s) r s (some refl) g l
-lit_step reqs.Illuminate r s some g l = lit_illuminated (light_named (whole_at r.args 0) s.handles) (whole_at r.args 1) s (named_late (first_named s.handles) (whole_at r.args 0) s.handles l.handles) l
-lit_step reqs.Translate r s some g l = lit_before (translated_by (raw_at r.args 0) (raw_at r.args 1) (raw_at r.args 2)) s l
-lit_step reqs.Scale r s some g l = lit_before (scaled_by (raw_at r.args 0) (raw_at r.args 1) (raw_at r.args 2)) s l
-lit_step reqs.Rotate r s some g l = lit_before (rotated_by (raw_at r.args 0) (raw_at r.args 1) (raw_at r.args 2) (raw_at r.args 3)) s l
-lit_step reqs.Transform r s some g l = lit_current (of_rows (numbers_at r.args 0)) s l
-lit_step reqs.ConcatTransform r s some g l = lit_before (of_rows (numbers_at r.args 0)) s l
-lit_step reqs.Patch r s some g l = lit_primitive r s g l
-lit_step reqs.PatchMesh r s some g l = lit_primitive r s g l
-lit_step reqs.Polygon r s some g l = lit_primitive r s g l
-lit_step reqs.PointsPolygons r s some g l = lit_primitive r s g l
-lit_step reqs.Sphere r s some g l = lit_primitive r s g l
-lit_step reqs.Cylinder r s some g l = lit_primitive r s g l
-lit_step reqs.Cone r s some g l = lit_primitive r s g l
-lit_step reqs.Disk r s some g l = lit_primitive r s g l
+abbrev pub StepHasNumber : Step → Type 0
+StepHasNumber x = StepHas IsNumber x
+
+lit_kept : (s : State) → IsGood s → IsLit s → IsKept IsLit IsNumber s
+lit_kept s g l =
+    let a = s.attributes in
+    let o = first_named s.handles in
+    record {
+      same = l;
+      options = λ c name. l;
+      current = λ m. l;
+      look = λ looks bases. l;
+      frame_begins = λ e. lit_frame_begun s e l;
+      frame_ends = λ b m c name e. lit_ended (InFrame b m c name) b.lights s l e tt (block_at s (InFrame b m c name) e l) (λ i. absurd i);
+      world_begins = λ w none. lit_world w s none l;
+      world_ends = λ w b m opens e room. lit_frame w b m s opens e l;
+      attributes_begin = lit_opened (InAttributes a s.current) s l tt (has s l) (λ e. l.front);
+      attributes_end = λ b m e. lit_ended (InAttributes b m) b.lights s l e tt (block_at s (InAttributes b m) e l) (λ i. i);
+      transform_begins = lit_opened (InTransform s.current) s l tt tt (λ e. tt);
+      transform_ends = λ m e. lit_ended (InTransform m) a.lights s l e tt (has s l) (λ i. l.front);
+      surface = λ r m. lit_request s (use_of kinds.Surface r m) l;
+      displacement = λ r m. lit_request s (use_of kinds.Displacement r m) l;
+      atmosphere = λ r m. lit_request s (use_of kinds.Volume r m) l;
+      light = λ r m number is. lit_made number (use_of kinds.Light r m) s is g l;
+      illuminated = λ k number on e. lit_illuminated k on s (subst (SomeLate o) e (named_late o number s.handles l.handles)) l;
+      patches = λ r object p ps opens. lit_patches r object p ps s opens g l;
+    }
 
 pub first_lit : IsLit first_state
 first_lit = record {
@@ -782,5 +647,5 @@ first_lit = record {
   shut = λ h. refl;
 }
 
-pub step_lit : (name : Req) (r : Read) (s t : State) → step name r s ≡ Ok t → HasNumber name r → IsGood s → IsLit s → IsLit t
-step_lit name r s t e some g l = subst LitStep e (lit_step name r s some g l)
+pub step_lit : (x : Step) (s t : State) → taken x s ≡ Ok t → StepHasNumber x → IsGood s → IsLit s → IsLit t
+step_lit x s t e some g l = subst (Behind IsLit) e (kept_taken IsLit IsNumber s (lit_kept s g l) x some)

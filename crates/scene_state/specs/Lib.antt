@@ -5,3 +5,5 @@ pub mod Steps
 pub mod Answers
 pub mod Laws
 pub mod Unnamed
+pub mod MotionBlocks
+pub mod Standing

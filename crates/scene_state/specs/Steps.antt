@@ -1,8 +1,10 @@
 -- What each request does to the state, and the scene of a list of requests.
-use Rattle.std.specs.Prelude.{ℕ, ◌-◌, ◌==◌, List, [], ◌∷◌, length, slice_get, Option, Some, None, Result, Ok, Err, if◌then◌else◌}
+use Rattle.std.specs.Prelude.{ℕ, ℤ, Bool, ◌&&◌, ◌-◌, ◌==◌, List, [], ◌∷◌, length, slice_get, Option, Some, None, Result, Ok, Err, if◌then◌else◌}
 use Rattle.rib_reader.specs.declared.req.Req.{Req}
 use Rattle.rib_reader.specs.declared.req.Req.TheVariants as reqs
-use Rattle.rib_reader.specs.Rules.{raw_at, whole_at, numbers_at}
+use Rattle.rib_reader.specs.Rules.{whole_at}
+use Rattle.moving_maps.specs.MapPairs.{still}
+use Rattle.moving_maps.specs.declared.change.When.TheVariants.{Always, First, Last}
 use Rattle.rib_reader.specs.Reading.{Read}
 use Rattle.transforms.specs.Map.{identity}
 use Rattle.scene.specs.Scene.{SceneValue}
@@ -11,9 +13,10 @@ use Rattle.scene_parts.specs.Bases.{bases_after}
 use Rattle.scene_state.specs.declared.attributes.Attributes.{Attributes}
 use Rattle.scene_state.specs.declared.state.State.{State}
 use Rattle.scene_state.specs.declared.state.Block.TheVariants.{InAttributes, InTransform}
-use Rattle.scene_state.specs.State.{Stepped, first_state, opened, innermost, frame_begun, frame_ended, attributes_ended, transform_ended, world_begun, world_ended, option_set, display_set, translated_by, scaled_by, rotated_by, of_rows, with_current, with_before, space_of, shader_set, light_made, illuminated_by, light_named, primitive_set}
+use Rattle.scene_state.specs.State.{Stepped, first_state, opened, innermost, frame_begun, frame_ended, attributes_ended, transform_ended, world_begun, world_ended, option_set, display_set, motion_begun, turned, space_of, shader_set, light_made, illuminated_by, light_named, primitive_set, first_looked_at, both_placed}
+use Rattle.scene_state.specs.MotionBlocks.{Step, Alone, Begins, First as FirstOf, Both, Ends, Misplaced, is_patch, line_of, steps_of, are_closed}
 use Rattle.scene_parts.specs.declared.code.StateCode.{StateCode}
-use Rattle.scene_parts.specs.declared.code.StateCode.TheVariants.{N4}
+use Rattle.scene_parts.specs.declared.code.StateCode.TheVariants.{N4, N6}
 use Rattle.scene.specs.declared.uses.ShaderKind.TheVariants as kinds
 
 abbrev pub with_surface : ℕ → Attributes → Attributes
@@ -42,6 +45,7 @@ step reqs.AttributeEnd r s = attributes_ended (innermost s.blocks) s
 step reqs.TransformBegin r s = opened (InTransform s.current) s
 step reqs.TransformEnd r s = transform_ended (innermost s.blocks) s
 step reqs.Format r s = option_set r s
+step reqs.Shutter r s = option_set r s
 step reqs.FrameAspectRatio r s = option_set r s
 step reqs.ScreenWindow r s = option_set r s
 step reqs.CropWindow r s = option_set r s
@@ -65,12 +69,12 @@ step reqs.Displacement r s = shader_set kinds.Displacement r with_displacement s
 step reqs.Atmosphere r s = shader_set kinds.Volume r with_atmosphere s
 step reqs.LightSource r s = light_made r (space_of s) s
 step reqs.Illuminate r s = illuminated_by (light_named (whole_at r.args 0) s.handles) (whole_at r.args 1) s
-step reqs.Identity r s = Ok (record s { current = identity })
-step reqs.Transform r s = with_current (of_rows (numbers_at r.args 0)) s
-step reqs.ConcatTransform r s = with_before (of_rows (numbers_at r.args 0)) s
-step reqs.Translate r s = with_before (translated_by (raw_at r.args 0) (raw_at r.args 1) (raw_at r.args 2)) s
-step reqs.Scale r s = with_before (scaled_by (raw_at r.args 0) (raw_at r.args 1) (raw_at r.args 2)) s
-step reqs.Rotate r s = with_before (rotated_by (raw_at r.args 0) (raw_at r.args 1) (raw_at r.args 2) (raw_at r.args 3)) s
+step reqs.Identity r s = Ok (record s { current = still identity })
+step reqs.Transform r s = turned Always r s
+step reqs.ConcatTransform r s = turned Always r s
+step reqs.Translate r s = turned Always r s
+step reqs.Scale r s = turned Always r s
+step reqs.Rotate r s = turned Always r s
 step reqs.Basis r s = bases_set r s
 step reqs.Patch r s = primitive_set r s
 step reqs.PatchMesh r s = primitive_set r s
@@ -85,6 +89,22 @@ step _ r s = Ok s
 abbrev pub after : Read → State → Stepped
 after r s = step r.name r s
 
+-- in a motion block: a patch or a mesh, or a transformation
+abbrev pub first_after : ℤ → ℤ → Read → State → Stepped
+first_after from to r s = if is_patch r.name then first_looked_at from to r s else turned (First from to) r s
+
+abbrev pub both_after : ℤ → ℤ → Read → Read → State → Stepped
+both_after from to first last s = if is_patch first.name then both_placed from to first last s else turned (Last from to) last s
+
+-- the state behind a step
+abbrev pub taken : Step → State → Stepped
+taken (Alone r) s = after r s
+taken (Begins r) s = motion_begun s
+taken (FirstOf from to r) s = first_after from to r s
+taken (Both from to first last) s = both_after from to first last s
+taken (Ends r) s = Ok s
+taken (Misplaced r) s = Err N6
+
 -- a fault with the line of its request
 abbrev pub Placed : Type 0
 Placed = StateCode × ℕ
@@ -93,10 +113,10 @@ abbrev pub and_then : Stepped → ℕ → (State → Result State Placed) → Re
 and_then (Ok s) line go = go s
 and_then (Err code) line go = Err (code, line)
 
--- the state behind these requests, or the first fault
-abbrev pub state_from : State → List Read → Result State Placed
+-- the state behind these steps, or the first fault
+abbrev pub state_from : State → List Step → Result State Placed
 state_from s [] = Ok s
-state_from s (r ∷ rs) = and_then (after r s) r.line (λ t. state_from t rs)
+state_from s (x ∷ xs) = and_then (taken x s) (line_of x) (λ t. state_from t xs)
 
 abbrev pub line_or_first : Option Read → ℕ
 line_or_first (Some r) = r.line
@@ -106,11 +126,11 @@ line_or_first None = 1
 abbrev pub last_line : List Read → ℕ
 last_line rs = line_or_first (slice_get rs (length rs - 1))
 
--- at the end no block is open
-abbrev pub ended : ℕ → Result State Placed → Result SceneValue Placed
-ended line (Ok s) = if length s.blocks == 0 then Ok (record { frames = s.frames; uses = s.shaders.uses }) else Err (N4, line)
-ended line (Err e) = Err e
+-- at the end no block is open, of a motion neither
+abbrev pub ended : Bool → ℕ → Result State Placed → Result SceneValue Placed
+ended closed line (Ok s) = if closed && (length s.blocks == 0) then Ok (record { frames = s.frames; uses = s.shaders.uses }) else Err (N4, line)
+ended closed line (Err e) = Err e
 
 -- the scene of a list of requests, or its first fault with its line
 abbrev pub scene_of : List Read → Result SceneValue Placed
-scene_of rs = ended (last_line rs) (state_from first_state rs)
+scene_of rs = ended (are_closed (steps_of rs)) (last_line rs) (state_from first_state (steps_of rs))

@@ -1,6 +1,6 @@
 // Blocks: what they save, and what their ends bring back.
 ghost use Rattle.std.specs.Prelude.{◌≡◌, Some, [], ◌∷◌, ◌++◌, IfOk};
-ghost use Rattle.scene_state.specs.State.{opened, innermost, outer, frame_begun, closed, frame_ended, frame_of, frame_made, attributes_ended, transform_ended, world_begun, world_ended};
+ghost use Rattle.scene_state.specs.State.{opened, motion_begun, innermost, outer, frame_begun, closed, frame_ended, frame_of, frame_made, attributes_ended, transform_ended, world_begun, world_ended};
 ghost use Rattle.scene_state.specs.Answers.{Steps};
 ghost use Rattle.scene_state.specs.declared.state.Block.TheVariants.{InAttributes, InTransform};
 
@@ -8,6 +8,7 @@ use crate::attributes::Attributes;
 use crate::fault::StepFault;
 use crate::state::{Block, State, World};
 use fixed_math::{List, NoMemory};
+use moving_maps::MovingMap;
 use scene::Frame;
 use scene_parts::{LightsInForce, StateCode};
 use std::alloc::Global;
@@ -49,7 +50,7 @@ impl State {
         &mut self,
         alloc: Global,
         attributes: Attributes,
-        current: Affine,
+        current: MovingMap,
     ) -> Result<(), NoMemory>
         ensures { IfOk result (λ _. self.new ≡ record self.old { attributes = attributes; current = current }) }
     {
@@ -57,6 +58,16 @@ impl State {
         self.current = current;
         let first = self.first_named().unwrap_or(self.shaders.slots.len());
         self.attributes.lights.settle(alloc, first)
+    }
+
+    /// Begins a motion block, which is none of those that save something.
+    pub(crate) fn begin_motion(&self) -> Result<(), StepFault>
+        ensures { Steps result (motion_begun self.now) self.now }
+    {
+        if self.blocks.len() >= MOST_BLOCKS {
+            return Err(StepFault::Refused(StateCode::M1));
+        }
+        Ok(())
     }
 
     pub(crate) fn begin_frame(&mut self) -> Result<(), StepFault>
@@ -159,7 +170,7 @@ impl State {
             camera,
             to_camera: self.current,
         });
-        self.current = Affine::identity();
+        self.current = MovingMap::still(Affine::identity());
         self.open(block)
     }
 
@@ -173,7 +184,7 @@ impl State {
             name: self.name.shared()?,
             options: self.choices.picture(view.width, view.height),
             camera: world.camera,
-            world: world.to_camera,
+            world: *world.to_camera.first(),
             prims: self.prims.take(alloc),
         })
     }

@@ -1,11 +1,13 @@
 //! The scene of a list of requests: the graphics state (RenderMan Interface 3.2, sections 3 to 5), request by request.
 #![tactic(auto)]
 
+mod alike;
 mod attributes;
 mod blocks;
 mod fault;
 mod laws;
 mod lights;
+mod motion_blocks;
 mod placing;
 mod prims;
 mod reading;

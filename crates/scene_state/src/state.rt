@@ -6,6 +6,7 @@ use crate::attributes::Attributes;
 use crate::prims::Prims;
 use crate::shaders::{Handle, Shaders};
 use fixed_math::{List, NoMemory, Text};
+use moving_maps::MovingMap;
 use scene::{Frame, Shared};
 use scene_parts::Choices;
 use std::alloc::Global;
@@ -16,31 +17,31 @@ use transforms::{Affine, Camera};
 pub(crate) enum Block {
     InFrame {
         attributes: Attributes,
-        current: Affine,
+        current: MovingMap,
         choices: Choices,
         name: Shared<Text>,
     },
     InWorld {
         attributes: Attributes,
-        current: Affine,
+        current: MovingMap,
     },
     InAttributes {
         attributes: Attributes,
-        current: Affine,
+        current: MovingMap,
     },
     InTransform {
-        current: Affine,
+        current: MovingMap,
     },
 }
 
-/// What an open world is seen by: its camera, and the map from world space to camera space.
+/// What an open world is seen by: its camera, and the map from world space to camera space, which may move.
 #[derive(Clone, Copy)]
 pub(crate) struct World {
     pub(crate) camera: Camera,
-    pub(crate) to_camera: Affine,
+    pub(crate) to_camera: MovingMap,
 }
 
-/// The options with the name of the picture; the attributes; the current transformation; the open blocks, the innermost
+/// The options with the name of the picture; the attributes; the current transformation, which may move; the open blocks, the innermost
 /// last; the open world, and its primitives so far; the lights' numbers since the last world; all shader requests; and the
 /// frames so far.
 #[derive(Drop)]
@@ -48,7 +49,7 @@ pub(crate) struct State {
     pub(crate) choices: Choices,
     pub(crate) name: Shared<Text>,
     pub(crate) attributes: Attributes,
-    pub(crate) current: Affine,
+    pub(crate) current: MovingMap,
     pub(crate) blocks: List<Block>,
     pub(crate) world: Option<World>,
     pub(crate) prims: Prims,
@@ -76,7 +77,7 @@ impl State {
             choices: Choices::first(),
             name,
             attributes,
-            current: Affine::identity(),
+            current: MovingMap::still(Affine::identity()),
             blocks: List(Vec::new(alloc)),
             world: None,
             prims: Prims::new(alloc),

@@ -9,6 +9,7 @@ ghost use Rattle.scene_state.specs.Answers.{Steps};
 
 use crate::fault::StepFault;
 use crate::state::State;
+use moving_maps::When;
 use rib_reader::{Req, Request};
 use scene::Shared;
 use scene_parts::StateCode;
@@ -57,8 +58,8 @@ impl State {
         Ok(())
     }
 
-    /// Changes the state by a request. The fault is the first that the request gives, of its nesting, of its geometry, or of a
-    /// limit.
+    /// Changes the state by a request outside of motion blocks. The fault is the first that the request gives, of its nesting, of
+    /// its geometry, or of a limit.
     pub(crate) fn step(&mut self, alloc: Global, request: &Request) -> Result<(), StepFault>
         requires { LastAreAt self.old }
         ensures { Steps result (after (plain request.now) self.old) self.new }
@@ -72,7 +73,8 @@ impl State {
             Req::AttributeEnd => self.end_attributes(alloc),
             Req::TransformBegin => self.begin_transform(),
             Req::TransformEnd => self.end_transform(),
-            Req::Format
+            Req::Shutter
+            | Req::Format
             | Req::FrameAspectRatio
             | Req::ScreenWindow
             | Req::CropWindow
@@ -103,11 +105,8 @@ impl State {
                 self.set_identity();
                 Ok(())
             }
-            Req::Transform => self.transform(request),
-            Req::ConcatTransform => self.concat(request),
-            Req::Translate => self.translate(request),
-            Req::Scale => self.scale(request),
-            Req::Rotate => self.rotate(request),
+            Req::Transform | Req::ConcatTransform | Req::Translate | Req::Scale | Req::Rotate =>
+                self.turn(When::Always, request),
             Req::Basis => {
                 self.set_bases(request);
                 Ok(())

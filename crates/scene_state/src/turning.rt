@@ -3,22 +3,18 @@ ghost use Rattle.std.specs.Prelude.{◌≡◌, Some, map, length};
 ghost use Rattle.fixed_math.specs.Decimal.{num};
 ghost use Rattle.rib_reader.specs.Rules.{raw_at, numbers_at};
 ghost use Rattle.rib_reader.specs.declared.req.Req.TheVariants as reqs;
+ghost use Rattle.rib_reader.specs.Reading.{plain};
 ghost use Rattle.transforms.specs.Map.{identity};
-ghost use Rattle.scene_state.specs.State.{translated_by, scaled_by, rotated_by, of_rows, with_current, with_before, space_of};
+ghost use Rattle.moving_maps.specs.MapPairs.{still};
+ghost use Rattle.scene_state.specs.State.{before_by, change_of, instead_by, last_space_of, of_rows, rotated_by, scaled_by, space_of, times_of, translated_by, turned};
 ghost use Rattle.scene_state.specs.Answers.{Steps};
 
 use crate::fault::StepFault;
 use crate::state::State;
-use fixed_math::{Decimal, Num, Vec3};
-use rib_reader::Request;
+use fixed_math::{Decimal, Vec3};
+use moving_maps::{Change, MovingMap, Times, When};
+use rib_reader::{Req, Request};
 use transforms::{Affine, FormFault};
-
-// The vector of three numbers.
-fn vector(x: Num, y: Num, z: Num) -> Vec3
-    ensures { result ≡ record { x = x; y = y; z = z } }
-{
-    Vec3 { x, y, z }
-}
 
 // The map that sixteen numbers give.
 fn of_rows(rows: &[Decimal]) -> Result<Affine, FormFault>
@@ -30,73 +26,117 @@ fn of_rows(rows: &[Decimal]) -> Result<Affine, FormFault>
     Affine::concat(&decimals.map(|decimal| decimal.num()))
 }
 
+// A map that goes before the current transformation.
+fn before_by(map: Result<Affine, FormFault>) -> Result<Change, FormFault>
+    ensures { result ≡ before_by map }
+{
+    Ok(Change::Before(map?))
+}
+
+// A map that stands in the current transformation's place.
+fn instead_by(map: Result<Affine, FormFault>) -> Result<Change, FormFault>
+    ensures { result ≡ instead_by map }
+{
+    Ok(Change::Instead(map?))
+}
+
+// What a translation does.
+fn translation(request: &Request) -> Result<Change, FormFault>
+    requires { request.now.name ≡ reqs.Translate }
+    ensures { result ≡ before_by (translated_by (raw_at request.now.args 0) (raw_at request.now.args 1) (raw_at request.now.args 2)) }
+{
+    let by = Vec3 {
+        x: request.number(0),
+        y: request.number(1),
+        z: request.number(2),
+    };
+    Ok(Change::Before(Affine::translate(by)))
+}
+
+// What a scale does.
+fn scaling(request: &Request) -> Result<Change, FormFault>
+    requires { request.now.name ≡ reqs.Scale }
+    ensures { result ≡ before_by (scaled_by (raw_at request.now.args 0) (raw_at request.now.args 1) (raw_at request.now.args 2)) }
+{
+    let by = Vec3 {
+        x: request.number(0),
+        y: request.number(1),
+        z: request.number(2),
+    };
+    before_by(Affine::scale(by))
+}
+
+// What a rotation does.
+fn rotation(request: &Request) -> Result<Change, FormFault>
+    requires { request.now.name ≡ reqs.Rotate }
+    ensures { result ≡ before_by (rotated_by (raw_at request.now.args 0) (raw_at request.now.args 1) (raw_at request.now.args 2) (raw_at request.now.args 3)) }
+{
+    let axis = Vec3 {
+        x: request.number(1),
+        y: request.number(2),
+        z: request.number(3),
+    };
+    before_by(Affine::rotate(request.number(0), axis))
+}
+
+// What a request does to the current transformation.
+fn change_of(request: &Request) -> Result<Change, FormFault>
+    ensures { result ≡ change_of (plain request.now) }
+{
+    match request.name {
+        Req::Transform => instead_by(of_rows(request.array(0, 16))),
+        Req::ConcatTransform => before_by(of_rows(request.array(0, 16))),
+        Req::Translate => translation(request),
+        Req::Scale => scaling(request),
+        Req::Rotate => rotation(request),
+        _ => Ok(Change::Before(Affine::identity())),
+    }
+}
+
 impl State {
-    fn set_current(&mut self, map: Result<Affine, FormFault>) -> Result<(), StepFault>
-        ensures { Steps result (with_current map self.old) self.new }
+    /// The current transformation forgets all.
+    pub(crate) fn set_identity(&mut self)
+        ensures { self.new ≡ record self.old { current = still identity } }
     {
-        self.current = map?;
+        self.current = MovingMap::still(Affine::identity());
+    }
+
+    /// Changes the current transformation by a request that is of these times.
+    pub(crate) fn turn(&mut self, when: When, request: &Request) -> Result<(), StepFault>
+        ensures { Steps result (turned when (plain request.now) self.old) self.new }
+    {
+        let change = change_of(request)?;
+        self.current = self.current.behind(&when, &change)?;
         Ok(())
     }
 
-    fn set_before(&mut self, map: Result<Affine, FormFault>) -> Result<(), StepFault>
-        ensures { Steps result (with_before map self.old) self.new }
-    {
-        let map = map?;
-        let current = self.current;
-        self.set_current(current.before(&map))
-    }
-
-    pub(crate) fn set_identity(&mut self)
-        ensures { self.new ≡ record self.old { current = identity } }
-    {
-        self.current = Affine::identity();
-    }
-
-    pub(crate) fn transform(&mut self, request: &Request) -> Result<(), StepFault>
-        requires { request.now.name ≡ reqs.Transform }
-        ensures { Steps result (with_current (of_rows (numbers_at request.now.args 0)) self.old) self.new }
-    {
-        self.set_current(of_rows(request.array(0, 16)))
-    }
-
-    pub(crate) fn concat(&mut self, request: &Request) -> Result<(), StepFault>
-        requires { request.now.name ≡ reqs.ConcatTransform }
-        ensures { Steps result (with_before (of_rows (numbers_at request.now.args 0)) self.old) self.new }
-    {
-        self.set_before(of_rows(request.array(0, 16)))
-    }
-
-    pub(crate) fn translate(&mut self, request: &Request) -> Result<(), StepFault>
-        requires { request.now.name ≡ reqs.Translate }
-        ensures { Steps result (with_before (translated_by (raw_at request.now.args 0) (raw_at request.now.args 1) (raw_at request.now.args 2)) self.old) self.new }
-    {
-        let by = vector(request.number(0), request.number(1), request.number(2));
-        self.set_before(Ok(Affine::translate(by)))
-    }
-
-    pub(crate) fn scale(&mut self, request: &Request) -> Result<(), StepFault>
-        requires { request.now.name ≡ reqs.Scale }
-        ensures { Steps result (with_before (scaled_by (raw_at request.now.args 0) (raw_at request.now.args 1) (raw_at request.now.args 2)) self.old) self.new }
-    {
-        let by = vector(request.number(0), request.number(1), request.number(2));
-        self.set_before(Affine::scale(by))
-    }
-
-    pub(crate) fn rotate(&mut self, request: &Request) -> Result<(), StepFault>
-        requires { request.now.name ≡ reqs.Rotate }
-        ensures { Steps result (with_before (rotated_by (raw_at request.now.args 0) (raw_at request.now.args 1) (raw_at request.now.args 2) (raw_at request.now.args 3)) self.old) self.new }
-    {
-        let axis = vector(request.number(1), request.number(2), request.number(3));
-        self.set_before(Affine::rotate(request.number(0), axis))
-    }
-
-    /// The map from the current space to camera space.
+    /// The map from the current space to camera space, at the first time.
     pub(crate) fn space(&self) -> Result<Affine, FormFault>
         ensures { result ≡ space_of self.now }
     {
         match &self.world {
-            Some(world) => world.to_camera.before(&self.current),
-            None => Ok(self.current),
+            Some(world) => world.to_camera.first().before(self.current.first()),
+            None => Ok(*self.current.first()),
+        }
+    }
+
+    /// The same at the last time.
+    pub(crate) fn last_space(&self) -> Result<Affine, FormFault>
+        ensures { result ≡ last_space_of self.now }
+    {
+        match &self.world {
+            Some(world) => world.to_camera.last().before(self.current.last()),
+            None => Ok(*self.current.last()),
+        }
+    }
+
+    /// The times of the motions in force.
+    pub(crate) fn times(&self) -> Times
+        ensures { result ≡ times_of self.now }
+    {
+        match &self.world {
+            Some(world) => world.to_camera.times().joined(self.current.times()),
+            None => self.current.times(),
         }
     }
 }

@@ -1,5 +1,5 @@
 -- The typed tree of an expression is well typed once functions stand in place of their calls.
-use Rattle.std.proofs.Common.{◌≡◌, ◌<◌, ℕ, zero, suc, ◌+◌, Bool, true, false, ◌&&◌, ◌||◌, not, cond, List, [], ◌∷◌, map, get_or, length, Option, Some, None, Ok, Err, codes, refl, ap, ap₂, ◌∙◌, subst, arith}
+use Rattle.std.proofs.Common.{◌≡◌, ◌<◌, ℕ, zero, suc, ◌+◌, Bool, true, ◌&&◌, ◌||◌, not, cond, List, [], ◌∷◌, map, get_or, length, Option, Some, None, Ok, Err, codes, refl, ap, ap₂, ◌∙◌, subst, arith}
 use Rattle.std.proofs.lemmas.Bool.{cond_both, and_parts}
 use Rattle.std.specs.Str.{bytes_eq}
 use Rattle.sl_ast.specs.Syntax as U

@@ -1,5 +1,5 @@
 -- How great a tree with functions in place is, as the code reckons before it makes one: no part of the tree's definition.
-use Rattle.std.specs.Prelude.{◌≡◌, ℕ, Bool, true, false, ◌&&◌, nat_lt, min, List, [], ◌∷◌, ◌++◌}
+use Rattle.std.specs.Prelude.{◌≡◌, Bool, true, false, ◌&&◌, nat_lt, min, List, [], ◌∷◌, ◌++◌}
 use Rattle.sl_expressions.specs.Typed.{stmts}
 use Rattle.sl_expressions.specs.Scope.{Callee, body_in}
 use Rattle.sl_typing.specs.Functions.{Program}

@@ -3,7 +3,7 @@ use Rattle.std.specs.Prelude.{slice_get}
 use Rattle.acceptance.specs.Listed.{listed_with}
 use Rattle.acceptance.specs.Textures.{joined, names_at}
 use Rattle.acceptance.specs.Reading.{names_read, tree_read}
-use Rattle.acceptance.proofs.Listing.{AllAt, all_listed, names_next, all_next, names_done, all_done}
+use Rattle.acceptance.proofs.Listing.{all_listed, names_next, all_next, names_done, all_done}
 use Rattle.acceptance.proofs.Textured.{names_placed, names_counted, place_low}
 use Rattle.acceptance.proofs.textures.all_entries.Goals as goal
 

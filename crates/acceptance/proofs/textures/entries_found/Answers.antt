@@ -1,4 +1,4 @@
-use Rattle.std.proofs.Common.{ap, ◌∙◌, sym, subst, map, arith}
+use Rattle.std.proofs.Common.{ap, ◌∙◌, subst, map, arith}
 use Rattle.std.proofs.lemmas.List.{take_all}
 use Rattle.sl_ast.specs.TypedView.{tree_expr}
 use Rattle.acceptance.specs.Listed.{AreAt, IsAt, with_some}

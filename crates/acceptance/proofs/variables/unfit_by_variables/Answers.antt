@@ -1,4 +1,4 @@
-use Rattle.std.proofs.Common.{◌∙◌, ap, sym}
+use Rattle.std.proofs.Common.{◌∙◌, sym}
 use Rattle.sl_look_ups.specs.Naming.{binding_params}
 use Rattle.acceptance.specs.PrimFit.{binds_unfit}
 use Rattle.acceptance.specs.Reading.{tree_read}

@@ -1,12 +1,11 @@
-use Rattle.std.proofs.Common.{ap, refl}
+use Rattle.std.proofs.Common.{ap}
 use Rattle.scene.specs.Scene.{PrimValue}
-use Rattle.buckets.proofs.HiddenGrids.{grid_hidden}
+use Rattle.hider.specs.CellValues.{values_of}
+use Rattle.buckets.proofs.HiddenGrids.{cells_hidden}
 use Rattle.buckets.proofs.leaf_use.hide_grid.Goals as goal
 
 pub returns-clause-shows : goal.returns-clause-shows
 returns-clause-shows c = λ v h.
-    let g = c.args.seen.now.grid in
-    grid_hidden c.args.tile.now c.hide_seen.new.self v v c.prim.inside.smooth c.args.prim.now.smooth c.prim.inside.one_sided c.args.prim.now.one_sided c.prim.inside.flip c.args.prim.now.flip
-    g.columns g.rows g.p.now g.ci.now g.oi.now
-    refl (ap (λ (p : PrimValue). p.smooth) c.prim.view_is) (ap (λ (p : PrimValue). p.one_sided) c.prim.view_is) (ap (λ (p : PrimValue). p.flip) c.prim.view_is)
+    cells_hidden c.args.tile.now c.hide_seen.new.self v (λ b. values_of b c.args.seen.now.grid) c.prim.inside.smooth c.args.prim.now.smooth c.prim.inside.one_sided c.args.prim.now.one_sided c.prim.inside.flip c.args.prim.now.flip
+    (ap (λ (p : PrimValue). p.smooth) c.prim.view_is) (ap (λ (p : PrimValue). p.one_sided) c.prim.view_is) (ap (λ (p : PrimValue). p.flip) c.prim.view_is)
     (λ f s. c.in_ok-hide_seen.ensures.shows v f h s)

@@ -1,20 +1,26 @@
-use Rattle.std.proofs.Common.{◌∙◌, List, sym, ap, subst, map}
-use Rattle.hider.specs.declared.cell.Cell.{Cell}
-use Rattle.hider.specs.Cells.{Micropolygon, still}
-use Rattle.bound_split.specs.declared.splits.Decision.{Decision}
-use Rattle.displace_shade.specs.Shaded.{GridValue}
-use Rattle.buckets.specs.Pictures.{grid_cells, diced_cells, leaf_cells, leaf_micropolygons}
+use Rattle.std.proofs.Common.{◌∙◌, ap, subst}
+use Rattle.transforms.specs.declared.view.View.{View}
+use Rattle.hider.specs.CellValues.{CellValues, micropolygons_of}
+use Rattle.moving_cells.specs.MovingGrids.{values_when}
 use Rattle.buckets.specs.Sampled.{ShowsMore}
+use Rattle.buckets.proofs.HiddenGrids.{stays, leaf_made}
 use Rattle.buckets.proofs.leaf_use.hide_leaf.Goals as goal
 
-pub returns-clause-shows : goal.returns-clause-shows
-unfolding leaf_micropolygons diced_cells
-returns-clause-shows g c =
+pub returns-in_ok-hide_grid-in-None-clause-shows : goal.returns-in_ok-hide_grid-in-None-clause-shows
+returns-in_ok-hide_grid-in-None-clause-shows g c =
     let d = g.drawing in
     let p = c.args.prim.now in
     let leaf = c.args.leaf.now in
-    let seen : List Cell → List Micropolygon = map (still p.one_sided p.flip) in
-    let is = c.requires.1.1 in
-    let made = ap (λ (v : GridValue). seen (grid_cells p.smooth v)) (is.1 p leaf.p leaf.q c.requires.0 c.requires.1.0)
-    ∙ ap (λ (e : Decision). seen (leaf_cells d.accepted d.frame p leaf.piece e)) (sym c.requires.1.0) in
-    subst (λ ns. ShowsMore d.frame.camera ns c.args.tile.now c.hide_grid.new.tile) made (c.in_ok-hide_grid.ensures.shows d.frame.camera is.0)
+    let seen = c.args.seen.now in
+    let is = c.requires.1.1.1 in
+    let made = ap (λ (k : CellValues). micropolygons_of k p.one_sided p.flip) (stays p.smooth seen.grid c.in-None.is) ∙ leaf_made d p leaf.piece leaf.p leaf.q seen.grid c.requires.1.0 c.requires.1.1.0 is.1 in
+    subst (λ ns. ShowsMore d.frame.camera ns c.args.tile.now c.hide_grid.new.tile) made (c.in_ok-hide_grid-in-None.ensures.shows d.frame.camera is.0)
+
+pub returns-in_ok-hide_moving-in-Some-clause-shows : goal.returns-in_ok-hide_moving-in-Some-clause-shows
+returns-in_ok-hide_moving-in-Some-clause-shows g c =
+    let d = g.drawing in
+    let p = c.args.prim.now in
+    let leaf = c.args.leaf.now in
+    let grid = c.args.seen.now.grid in
+    subst (λ ns. ShowsMore d.frame.camera ns c.args.tile.now c.hide_moving.new.tile) (leaf_made d p leaf.piece leaf.p leaf.q grid c.requires.1.0 c.requires.1.1.0 c.requires.1.1.1.1)
+    (subst (λ (v : View). ShowsMore v (micropolygons_of (values_when p.smooth grid) p.one_sided p.flip) c.args.tile.now c.hide_moving.new.tile) c.requires.0 c.in_ok-hide_moving-in-Some.ensures.shows)

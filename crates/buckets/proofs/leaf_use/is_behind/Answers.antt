@@ -1,7 +1,7 @@
 use Rattle.std.proofs.Common.{◌≡◌, ◌∙◌, sym, ap, subst, ◌↔◌}
 use Rattle.std.specs.Prelude.{ℤ, IsTrue}
 use Rattle.patches.specs.Parts.{rect_of}
-use Rattle.quadrics.specs.AnyPatches.{patch_box}
+use Rattle.buckets.specs.Pictures.{prim_box}
 use Rattle.bound_split.specs.Extents.{extent_of}
 use Rattle.bound_split.specs.declared.extents.Extent.{Extent}
 use Rattle.scene.specs.Scene.{FrameValue}
@@ -17,5 +17,5 @@ returns-clause-behind c = λ d f same shows.
     let prim = c.args.prim.now in
     let deep : c.of-sight.result.extent.nearest ≡ leaf_nearest d.frame prim part =
     ap (λ (x : Extent). x.nearest) c.of-sight.ensures.sight.extent
-    ∙ ap (λ (v : FrameValue). (extent_of v.camera prim.bound (patch_box prim.patch (rect_of part))).nearest) (sym same) in
+    ∙ ap (λ (v : FrameValue). (extent_of v.camera prim.bound (prim_box prim (rect_of part))).nearest) (sym same) in
     subst (λ (z : ℤ). IsTrue c.all_behind.result ↔ BlocksAll z c.args.tile.now.grid f) deep (c.all_behind.ensures f shows)

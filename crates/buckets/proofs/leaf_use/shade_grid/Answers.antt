@@ -3,8 +3,15 @@ use Rattle.std.specs.Prelude.{slice_get, Some}
 use Rattle.scene.specs.Scene.{FrameValue}
 use Rattle.displace_shade.specs.Shaded.{GridValue}
 use Rattle.displace_shade.specs.Shop.{shop_set}
-use Rattle.buckets.proofs.Using.{shaded_points}
+use Rattle.buckets.proofs.Using.{shaded_as, shaded_points}
 use Rattle.buckets.proofs.leaf_use.shade_grid.Goals as goal
+
+pub returns-clause-grid : goal.returns-clause-grid
+returns-clause-grid g c =
+    let shown = c.args.shown.now in
+    let leaf = c.args.leaf.now in
+    let r = c.requires in
+    shaded_as g.begun.drawing shown.scene.now shown.index shown.frame.now (shop_set c.args.shop.now) c.args.prim.now leaf.piece leaf.p leaf.q c.in_ok-grid.grid r.0.scene r.0.frame r.1.0 shown.there r.1.1.0 r.1.1.1.0 c.in_ok-grid.ensures.grid c.in_ok-grid.ensures.closing
 
 pub returns-clause-points : goal.returns-clause-points
 returns-clause-points g c =

@@ -1,4 +1,5 @@
-use Rattle.std.proofs.Common.{◌∙◌, true, false, refl, sym, arith}
+use Rattle.std.proofs.Common.{◌∙◌, ap, true, false, refl, sym, arith}
+use Rattle.scene.specs.Scene.{FrameValue}
 use Rattle.outside.proofs.Puts.{on_err}
 use Rattle.buckets.specs.Pictures.{leaf_in}
 use Rattle.buckets.specs.Standing.{UsesInPart}
@@ -7,13 +8,19 @@ use Rattle.buckets.proofs.leaf_use.use_leaf.Goals as goal
 
 pub hide_leaf-requires : goal.hide_leaf-requires
 hide_leaf-requires g c = (
-  c.requires.1.1.0,
+  ap (λ (f : FrameValue). f.camera) (c.frame.view_is ∙ c.requires.0.frame),
   (
-    c.requires.1.1.1.0,
+    c.requires.1.1.0,
     (
-        grid_at g.begun.drawing c.args.epoch.now.kept c.in-Some.at c.args.leaf.now.piece c.grid.result c.requires.1.1.1.1.1.1.1.1 c.in-Some.ensures.place c.grid.ensures),
+      c.requires.1.1.1.0,
+      grid_at g.begun.drawing c.args.epoch.now.kept c.in-Some.at c.args.leaf.now.piece c.grid.result c.requires.1.1.1.1.1.1.1.1 c.in-Some.ensures.place c.grid.ensures,
+    ),
   ),
 )
+
+pub hide_leaf-requires-2 : goal.hide_leaf-requires-2
+hide_leaf-requires-2 g c =
+    (ap (λ (f : FrameValue). f.camera) (c.frame.view_is ∙ c.requires.0.frame), (c.requires.1.1.0, (c.requires.1.1.1.0, c.in_ok-seen.ensures.grid)))
 
 pub returns-in_err-hide_leaf-clause-part : goal.returns-in_err-hide_leaf-clause-part
 returns-in_err-hide_leaf-clause-part g c =

@@ -3,6 +3,8 @@ use Rattle.std.proofs.lemmas.Option.{get_or_from_slice_get}
 use Rattle.scene.specs.Scene.{HasUses}
 use Rattle.displace_shade.specs.Shaded.{shaded}
 use Rattle.displace_shade.specs.Shop.{set_value}
+use Rattle.grid_variables.specs.Points.{Leaf}
+use Rattle.grid_variables.specs.Closings.{closing_of}
 use Rattle.grid_variables.proofs.Results.{if_ok}
 use Rattle.displace_shade.proofs.shop.shaded_piece.Goals as goal
 
@@ -19,3 +21,6 @@ shaded_leaf-requires-clause-serves c =
 
 pub returns-clause-grid : goal.returns-clause-grid
 returns-clause-grid c = if_ok c.shaded_leaf.result _ _ (λ grid h prim e. h ∙ ap (λ l. shaded l (set_value c.args.shaders.now.set.now c.args.shaders.now.textures.now) c.args.shaders.now.uses.now) (c.leaf_at-leaf.ensures.leaf prim e)) c.shaded_leaf.ensures.grid
+
+pub returns-clause-closing : goal.returns-clause-closing
+returns-clause-closing c = if_ok c.shaded_leaf.result _ _ (λ grid h prim e. h ∙ ap (λ (l : Leaf). closing_of l grid.p.now) (c.leaf_at-leaf.ensures.leaf prim e)) c.shaded_leaf.ensures.closing

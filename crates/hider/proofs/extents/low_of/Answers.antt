@@ -1,14 +1,18 @@
-use Rattle.hider.proofs.Boxes.{below_through}
+use Rattle.std.proofs.Common.{slice_index_or}
+use Rattle.hider.specs.Extents.{IsBelow}
+use Rattle.hider.proofs.Boxes.{all_four, below_through}
 use Rattle.hider.proofs.extents.low_of.Goals as goal
 
 pub returns-clause-corners : goal.returns-clause-corners
 returns-clause-corners c =
-    let k = c.args.cell.now in
     let p = c.low-4.result in
     let q = c.low-3.result in
-    record {
-      a = below_through p q k.a.point c.low-4.ensures.first (below_through q c.low.result k.a.point c.low-3.ensures.first c.low.ensures.first);
-      b = below_through p q k.b.point c.low-4.ensures.first (below_through q c.low.result k.b.point c.low-3.ensures.first c.low.ensures.second);
-      c = below_through p q k.c.point c.low-4.ensures.first (below_through q c.low-2.result k.c.point c.low-3.ensures.second c.low-2.ensures.first);
-      d = below_through p q k.d.point c.low-4.ensures.first (below_through q c.low-2.result k.d.point c.low-3.ensures.second c.low-2.ensures.second);
-    }
+    let i = slice_index_or c.args.corners.now 0 c.index-corners-0.result in
+    let j = slice_index_or c.args.corners.now 1 c.index-corners-1.result in
+    let k = slice_index_or c.args.corners.now 2 c.index-corners-2.result in
+    let l = slice_index_or c.args.corners.now 3 c.index-corners-3.result in
+    all_four (IsBelow p) c.args.corners.now c.index-corners-0.result c.index-corners-1.result c.index-corners-2.result c.index-corners-3.result c.type_inv.corners
+    (below_through p q i c.low-4.ensures.first (below_through q c.low.result i c.low-3.ensures.first c.low.ensures.first))
+    (below_through p q j c.low-4.ensures.first (below_through q c.low.result j c.low-3.ensures.first c.low.ensures.second))
+    (below_through p q k c.low-4.ensures.first (below_through q c.low-2.result k c.low-3.ensures.second c.low-2.ensures.first))
+    (below_through p q l c.low-4.ensures.first (below_through q c.low-2.result l c.low-3.ensures.second c.low-2.ensures.second))

@@ -23,5 +23,5 @@ loop-pixel-preserved c =
     record {
       counted = omega (arith, s, counted, long);
       room = rw (e.room) i.room;
-      each = more_pixels g p c.loop-pixel.spots.items c.push_pixel.new.spots.items i.counted i.each e.kept (rw (c.pixel.ensures.value) at e.each);
+      each = more_pixels (λ s. s.place) g p c.loop-pixel.spots.items c.push_pixel.new.spots.items i.counted i.each e.kept (rw (c.pixel.ensures.value) at e.each);
     }

@@ -3,6 +3,7 @@ use Rattle.std.specs.Prelude.{Some, slice_get}
 use Rattle.scene.specs.Scene.{HasUses}
 use Rattle.displace_shade.specs.Shaded.{shaded}
 use Rattle.shader_binding.specs.Bindings.{FitsPrim}
+use Rattle.grid_variables.specs.Closings.{closing_of, places_in}
 use Rattle.displace_shade.specs.Diced.{grid_value}
 use Rattle.displace_shade.specs.Shop.{set_value, shop_set, leaf_of}
 use Rattle.displace_shade.proofs.BoundLaws.{some_is}
@@ -26,3 +27,9 @@ returns-clause-grid c =
     λ f prim ef ep. subst (λ g. slice_get g.prims c.args.piece.now.prim ≡ Some prim → grid_value c.in_ok-grid.grid ≡ shaded (leaf_of g prim c.args.piece.now c.args.p c.args.q) s c.args.scene.now.uses) (some_is x f (sym c.frame_at-frame.ensures.frame ∙ ef))
     (λ e. c.in_ok-grid.ensures.grid prim e ∙ ap (λ ps. shaded (leaf_of x prim c.args.piece.now c.args.p c.args.q) (set_value c.args.self.now.set ps) c.uses_of.result.now) c.textures.ensures
     ∙ ap (λ us. shaded (leaf_of x prim c.args.piece.now c.args.p c.args.q) s us) c.uses_of.ensures) ep
+
+pub returns-clause-closing : goal.returns-clause-closing
+returns-clause-closing c =
+    let x = c.frame_at-frame.result.now in
+    λ f prim ef ep. subst (λ g. slice_get g.prims c.args.piece.now.prim ≡ Some prim → places_in c.in_ok-grid.grid.closing ≡ closing_of (leaf_of g prim c.args.piece.now c.args.p c.args.q) c.in_ok-grid.grid.p.now) (some_is x f (sym c.frame_at-frame.ensures.frame ∙ ef))
+    (λ e. c.in_ok-grid.ensures.closing prim e) ep

@@ -58,21 +58,22 @@ with_depths-requires-clause-near c = c.number-in-Clipping.ensures.limits 0 (pos 
 
 -- requests for no option change none
 none_chosen : (n : Req) (args : List Arg) (params : List Param) (c : ChoiceValues) → (n ≡ reqs.Format → ⊥) → (n ≡ reqs.FrameAspectRatio → ⊥) → (n ≡ reqs.ScreenWindow → ⊥) → (n ≡ reqs.Clipping → ⊥) → (n ≡ reqs.CropWindow → ⊥)
-    → (n ≡ reqs.Projection → ⊥) → (n ≡ reqs.PixelSamples → ⊥) → (n ≡ reqs.PixelFilter → ⊥) → (n ≡ reqs.Exposure → ⊥) → (n ≡ reqs.Quantize → ⊥) → Ok c ≡ chosen_by n args params c
-none_chosen reqs.Format args params c h1 h2 h3 h4 h10 h5 h6 h7 h8 h9 = absurd (h1 refl)
-none_chosen reqs.FrameAspectRatio args params c h1 h2 h3 h4 h10 h5 h6 h7 h8 h9 = absurd (h2 refl)
-none_chosen reqs.ScreenWindow args params c h1 h2 h3 h4 h10 h5 h6 h7 h8 h9 = absurd (h3 refl)
-none_chosen reqs.Clipping args params c h1 h2 h3 h4 h10 h5 h6 h7 h8 h9 = absurd (h4 refl)
-none_chosen reqs.CropWindow args params c h1 h2 h3 h4 h10 h5 h6 h7 h8 h9 = absurd (h10 refl)
-none_chosen reqs.Projection args params c h1 h2 h3 h4 h10 h5 h6 h7 h8 h9 = absurd (h5 refl)
-none_chosen reqs.PixelSamples args params c h1 h2 h3 h4 h10 h5 h6 h7 h8 h9 = absurd (h6 refl)
-none_chosen reqs.PixelFilter args params c h1 h2 h3 h4 h10 h5 h6 h7 h8 h9 = absurd (h7 refl)
-none_chosen reqs.Exposure args params c h1 h2 h3 h4 h10 h5 h6 h7 h8 h9 = absurd (h8 refl)
-none_chosen reqs.Quantize args params c h1 h2 h3 h4 h10 h5 h6 h7 h8 h9 = absurd (h9 refl)
-none_chosen _ args params c h1 h2 h3 h4 h10 h5 h6 h7 h8 h9 = refl
+    → (n ≡ reqs.Shutter → ⊥) → (n ≡ reqs.Projection → ⊥) → (n ≡ reqs.PixelSamples → ⊥) → (n ≡ reqs.PixelFilter → ⊥) → (n ≡ reqs.Exposure → ⊥) → (n ≡ reqs.Quantize → ⊥) → Ok c ≡ chosen_by n args params c
+none_chosen reqs.Format args params c h1 h2 h3 h4 h10 h11 h5 h6 h7 h8 h9 = absurd (h1 refl)
+none_chosen reqs.FrameAspectRatio args params c h1 h2 h3 h4 h10 h11 h5 h6 h7 h8 h9 = absurd (h2 refl)
+none_chosen reqs.ScreenWindow args params c h1 h2 h3 h4 h10 h11 h5 h6 h7 h8 h9 = absurd (h3 refl)
+none_chosen reqs.Clipping args params c h1 h2 h3 h4 h10 h11 h5 h6 h7 h8 h9 = absurd (h4 refl)
+none_chosen reqs.CropWindow args params c h1 h2 h3 h4 h10 h11 h5 h6 h7 h8 h9 = absurd (h10 refl)
+none_chosen reqs.Shutter args params c h1 h2 h3 h4 h10 h11 h5 h6 h7 h8 h9 = absurd (h11 refl)
+none_chosen reqs.Projection args params c h1 h2 h3 h4 h10 h11 h5 h6 h7 h8 h9 = absurd (h5 refl)
+none_chosen reqs.PixelSamples args params c h1 h2 h3 h4 h10 h11 h5 h6 h7 h8 h9 = absurd (h6 refl)
+none_chosen reqs.PixelFilter args params c h1 h2 h3 h4 h10 h11 h5 h6 h7 h8 h9 = absurd (h7 refl)
+none_chosen reqs.Exposure args params c h1 h2 h3 h4 h10 h11 h5 h6 h7 h8 h9 = absurd (h8 refl)
+none_chosen reqs.Quantize args params c h1 h2 h3 h4 h10 h11 h5 h6 h7 h8 h9 = absurd (h9 refl)
+none_chosen _ args params c h1 h2 h3 h4 h10 h11 h5 h6 h7 h8 h9 = refl
 
 pub returns-in_default : goal.returns-in_default
 returns-in_default c =
     let d = c.in_default in
     none_chosen c.args.request.now.name c.args.request.now.args c.args.request.now.params c.args.self
-    d.not-Format d.not-FrameAspectRatio d.not-ScreenWindow d.not-Clipping d.not-CropWindow d.not-Projection d.not-PixelSamples d.not-PixelFilter d.not-Exposure d.not-Quantize
+    d.not-Format d.not-FrameAspectRatio d.not-ScreenWindow d.not-Clipping d.not-CropWindow d.not-Shutter d.not-Projection d.not-PixelSamples d.not-PixelFilter d.not-Exposure d.not-Quantize

@@ -3,6 +3,7 @@ use Rattle.rib_reader.specs.Reading.{plain}
 use Rattle.scene.specs.Scene.{FrameValue, SceneValue, IsScene}
 use Rattle.scene.specs.declared.uses.ShaderUse.{ShaderUse}
 use Rattle.scene_state.specs.FirstUse.{InFirstUse}
+use Rattle.scene_state.specs.MotionBlocks.{steps_of}
 use Rattle.scene_state.specs.Steps.{state_from}
 use Rattle.scene_state.proofs.Keeping.{state_is_scene}
 use Rattle.scene_state.proofs.Order.{scene_in_order}
@@ -17,10 +18,10 @@ taken c = ap₂ scene_with (sym c.replace.ensures.value) (sym c.replace-2.ensure
 
 pub invariant_of-result : goal.invariant_of-result
 invariant_of-result c =
-    let rs = map plain c.args.requests.now in
-    subst IsScene (taken c) (state_is_scene rs c.go_through.new.self (ap (λ s. state_from s rs) (sym c.requires) ∙ c.in_ok-go_through.ensures))
+    let xs = steps_of (map plain c.args.requests.now) in
+    subst IsScene (taken c) (state_is_scene xs c.go_through.new.self (ap (λ s. state_from s xs) (sym c.requires) ∙ c.in_ok-closed.ensures.state))
 
 pub returns-clause-uses : goal.returns-clause-uses
 returns-clause-uses c =
-    let rs = map plain c.args.requests.now in
-    subst InFirstUse (taken c) (scene_in_order rs c.go_through.new.self (ap (λ s. state_from s rs) (sym c.requires) ∙ c.in_ok-go_through.ensures) (search rules))
+    let xs = steps_of (map plain c.args.requests.now) in
+    subst InFirstUse (taken c) (scene_in_order xs c.go_through.new.self (ap (λ s. state_from s xs) (sym c.requires) ∙ c.in_ok-closed.ensures.state) (search rules))
