@@ -16,6 +16,7 @@ pub mod Rows
 pub mod Boxes
 pub mod Stills
 pub mod Moves
+pub mod Quarters
 pub mod Passages
 pub mod Showings
 pub mod Frames
@@ -25,3 +26,4 @@ pub mod Smooths
 pub mod Numbers
 pub mod Besides
 pub mod Whens
+pub mod StepPuts

@@ -1,12 +1,12 @@
 -- Where a micropolygon that moves shows: within the box on the raster of all that it passes.
 use Rattle.std.proofs.Common.{◌≡◌, ℕ, ◌<◌, ◌≤◌, zero, suc, arith, refl, Bool, true, false, List, [], ◌∷◌}
-use Rattle.std.specs.Prelude.{ℤ, ◌≤ℤ◌, Option, Some, None, slice_index_or}
+use Rattle.std.specs.Prelude.{ℤ, ◌≤ℤ◌, Option, Some, None}
 use Rattle.std.specs.Option.{option_and_then}
 use Rattle.std.proofs.lemmas.Int.{ints, int_min_is, int_max_is}
 use Rattle.fixed_math.specs.declared.vec3.Vec3.{Vec3}
 use Rattle.fixed_math.specs.declared.vec3.Axis.{Axis}
 use Rattle.fixed_math.specs.declared.vec3.Axis.TheVariants.{Z}
-use Rattle.fixed_math.specs.Axes.{part_of, origin, IsInBox}
+use Rattle.fixed_math.specs.Axes.{part_of, IsInBox}
 use Rattle.transforms.specs.declared.view.View.{View}
 use Rattle.hider.specs.declared.bounds.Bounds.{Bounds}
 use Rattle.hider.specs.declared.cell.Cell.{Cell}
@@ -19,9 +19,9 @@ use Rattle.transforms.specs.Raster.{raster_x, raster_y}
 use Rattle.hider.specs.declared.cell.CellCorner.{CellCorner}
 use Rattle.hider.proofs.Sights.{all_in_depth}
 use Rattle.hider.specs.Coverage.{covers}
-use Rattle.hider.specs.Extents.{IsBelow, IsBelowAll, IsNoNearer, IsSeenDepth, IsCornerBetween, Passed}
+use Rattle.hider.specs.Extents.{HoldsRaster, IsBelow, IsNoNearer, IsSeenDepth, IsCornerBetween, Passed}
 use Rattle.hider.specs.Fragments.{covering, fragment_of}
-use Rattle.hider.specs.Searching.{IsNear, LiesBeside, StaysIn, StaysInsideFrom}
+use Rattle.hider.specs.Searching.{IsNear, LiesBeside, StaysIn, StaysInside, StaysInsideFrom}
 use Rattle.hider.specs.Tiles.{IsSampleGrid, HavePut}
 use Rattle.hider.proofs.Pixels.{near_stays}
 use Rattle.hider.proofs.Cuts.{by_bool}
@@ -110,22 +110,27 @@ seen_some w one_sided flip k g f e =
     (λ t. rw (d, t) at e))
     (λ d. let n : None ≡ Some f = rw d at e in absurd (cc))
 
--- no nearer than a point that is below all corners at both ends
-pub no_nearer : (w : View) (v : CellValues) (i : ℕ) (one_sided flip : Bool) (lo : Vec3) → MovesBetween v → i < v.count → IsBelowAll lo (corners_when v i 0) → IsBelowAll lo (corners_when v i 65535) →
+-- no nearer than the nearest point of a box that holds all corners at all times
+pub no_nearer : (w : View) (v : CellValues) (i : ℕ) (one_sided flip : Bool) (lo hi : Vec3) → ((k t : ℕ) → k < 4 → t ≤ 65535 → IsInBox lo hi (v.corner i k t)) →
     IsNoNearer lo.z (λ s. fragment_of w s (micropolygon_of v one_sided flip i))
 unfolding fragment_of projected corner_of cell_when
-no_nearer w v i one_sided flip lo m h first last s f t e =
+no_nearer w v i one_sided flip lo hi held s f t e =
     let seen = covered_seen (projected w (cell_when v i s.time)) s.place f (seen_some w one_sided flip (cell_when v i s.time) (λ q. covers q s.place) f e) in
-    let deep : (k : ℕ) → k < 4 → lo.z ≤ℤ (v.corner i k s.time).z = λ k l.
-    let b = corner_at v i 0 s.time 65535 k m h l (omega arith) t Z in
-    above_both lo.z (slice_index_or (corners_when v i 0) k origin).z (slice_index_or (corners_when v i 65535) k origin).z (v.corner i k s.time).z (first k origin l Z) (last k origin l Z) b in
+    let deep : (k : ℕ) → k < 4 → lo.z ≤ℤ (v.corner i k s.time).z = λ k l. (held k s.time l t Z).0 in
     seen.low lo.z (deep 0 (omega arith)) (deep 1 (omega arith)) (deep 2 (omega arith)) (deep 3 (omega arith))
 
+-- and nothing of it shows outside a box on the raster that holds the places of that box
+pub stays_held : (w : View) (v : CellValues) (i : ℕ) (one_sided flip : Bool) (lo hi : Vec3) (b : Bounds) → ((k t : ℕ) → k < 4 → t ≤ 65535 → IsInBox lo hi (v.corner i k t)) → HoldsRaster w lo hi b →
+    StaysInside b (λ s. fragment_of w s (micropolygon_of v one_sided flip i))
+unfolding fragment_of
+stays_held w v i one_sided flip lo hi b held h s t outside =
+    let k = cell_when v i s.time in
+    seen_none w one_sided flip k (λ q. covers q s.place) (outside_none b (projected w k) s.place (corners_held w v i s.time b (λ n l. h (v.corner i n s.time) (held n s.time l t))) outside)
+
 -- ---- what is put in of one of which nothing shows but in some pixels
-pub moving_stays : (w : View) (v : CellValues) (i : ℕ) (one_sided flip : Bool) (b : Bounds) (part g : SampleGrid) → MovesBetween v → i < v.count → IsSampleGrid g → IsNear b part g →
-    Passed w (corners_when v i 0) (corners_when v i 65535) b → StaysIn part g (λ s. fragment_of w s (micropolygon_of v one_sided flip i))
-moving_stays w v i one_sided flip b part g m h valid near passed =
-    near_stays b part g (λ s. fragment_of w s (micropolygon_of v one_sided flip i)) valid near (λ s t outside. stays_from w v i 0 65535 one_sided flip b m h passed s (omega arith) t outside)
+pub moving_stays : (w : View) (v : CellValues) (i : ℕ) (one_sided flip : Bool) (b : Bounds) (part g : SampleGrid) → IsSampleGrid g → IsNear b part g →
+    StaysInside b (λ s. fragment_of w s (micropolygon_of v one_sided flip i)) → StaysIn part g (λ s. fragment_of w s (micropolygon_of v one_sided flip i))
+moving_stays w v i one_sided flip b part g valid near stays = near_stays b part g (λ s. fragment_of w s (micropolygon_of v one_sided flip i)) valid near stays
 
 -- which aren't there
 pub none_put : (w : View) (m : Micropolygon) (part g : SampleGrid) (a : List (List Fragment)) → StaysIn part g (λ s. fragment_of w s m) → ((n : ℕ) → LiesBeside part g n) → HavePut g (covering w (m ∷ [])) a a

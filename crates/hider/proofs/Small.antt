@@ -1,7 +1,7 @@
 -- Products of places fit 64 bits.
 use Rattle.std.proofs.Common.{◌≡◌, ◌^◌, ◌≤◌, ◌<◌, arith, refl, ◌∙◌, unsigned_abs, to_z, of_z, FitsSigned}
 use Rattle.std.specs.Prelude.{ℤ, ◌-ℤ◌, ◌*ℤ◌}
-use Rattle.std.specs.Int.{w64}
+use Rattle.std.specs.Int.{w64, int_min, int_max}
 use lib.Signed.{mag}
 use Rattle.std.proofs.lemmas.Int.{ints, to_z-of_z, fits_signed_from_abs, unsigned_abs-mul}
 use Rattle.std.proofs.lemmas.Nat.{mul-le}
@@ -42,3 +42,10 @@ less_read p q r x y h k e f g = difference_read p q r h k e ∙ rw (f, g) refl
 
 pub less_bound : (p q : ℤ) → unsigned_abs p ≤ 2 ^ 58 → unsigned_abs q ≤ 2 ^ 58 → unsigned_abs (to_z w64 (of_z w64 (to_z w64 (of_z w64 p) -ℤ to_z w64 (of_z w64 q)))) ≤ 2 ^ 59
 less_bound p q h k = rw (less_value p q p q h k refl refl) (omega (arith, ints))
+
+-- what the code reads of the less and the greater of two places
+pub min_read : (r p q x y : ℤ) → mag r < 2 ^ 63 → r ≡ int_min (to_z w64 (of_z w64 p)) (to_z w64 (of_z w64 q)) → p ≡ x → q ≡ y → unsigned_abs x ≤ 2 ^ 28 → unsigned_abs y ≤ 2 ^ 28 → to_z w64 (of_z w64 r) ≡ int_min x y
+min_read r p q x y m e f g h k = read_whole r m ∙ e ∙ rw (f, g, read64 x (omega arith), read64 y (omega arith)) refl
+
+pub max_read : (r p q x y : ℤ) → mag r < 2 ^ 63 → r ≡ int_max (to_z w64 (of_z w64 p)) (to_z w64 (of_z w64 q)) → p ≡ x → q ≡ y → unsigned_abs x ≤ 2 ^ 28 → unsigned_abs y ≤ 2 ^ 28 → to_z w64 (of_z w64 r) ≡ int_max x y
+max_read r p q x y m e f g h k = read_whole r m ∙ e ∙ rw (f, g, read64 x (omega arith), read64 y (omega arith)) refl

@@ -36,10 +36,6 @@ raster_point v p = record {
   is_seen = is_seen v p.z;
 }
 
--- the corners of cell i at a time, as a camera sees them
-abbrev pub corners_on_raster : View → CellValues → ℕ → ℕ → List RasterPoint
-corners_on_raster v cells i t = raster_point v (cells.corner i 0 t) ∷ raster_point v (cells.corner i 1 t) ∷ raster_point v (cells.corner i 2 t) ∷ raster_point v (cells.corner i 3 t) ∷ []
-
 -- all points, in order
 pub record AreOnRaster (v : View) (points : List Vec3) (seen : List RasterPoint) : Type 0 where
   pub count : length seen ≡ length points

@@ -11,3 +11,6 @@ pub mod Extents
 pub mod Bounding
 pub mod Weighing
 pub mod Flat
+pub mod Steps
+pub mod StepRows
+pub mod SeenCorners

@@ -58,13 +58,6 @@ AreTimesOf g times = (n d : ℕ) → n < length times → n < sample_count g →
 abbrev pub AreEmpty : List (List Fragment) → Type 0
 AreEmpty lists = (n : ℕ) (d : List Fragment) → n < length lists → slice_index_or lists n d ≡ []
 
--- a grid of samples with a place and a list of fragments for each
-pub record IsTile (g : SampleGrid) (spots : List Spot) (moments : List ℕ) (lists : List (List Fragment)) : Type 0 where
-  pub grid : IsSampleGrid g
-  pub places : ArePlacesOf g spots
-  pub times : AreTimesOf g moments
-  pub enough : sample_count g ≤ length lists
-
 -- ---- a tile, as contracts see it: of each sample, by number, the fragments that it has
 pub record TileValue : Type 0 where
   pub grid : SampleGrid

@@ -1,5 +1,6 @@
 // The points below and above all corners of a cell at two times.
-ghost use Rattle.std.specs.Prelude.{◌≡◌, ◌≤ℤ◌, IsTrue};
+ghost use Rattle.std.specs.Prelude.{◌≡◌, ◌≤ℤ◌, All, IsTrue};
+ghost use Rattle.hider.specs.CellValues.{Encloses};
 ghost use Rattle.hider.specs.Extents.{IsBelow, IsBelowAll, IsAboveAll};
 
 use fixed_math::{Num, Vec3};
@@ -17,7 +18,7 @@ fn greater(a: Num, b: Num) -> Num
 }
 
 /// The least of each coordinate of two points.
-fn low(a: Vec3, b: Vec3) -> Vec3
+pub(crate) fn low(a: Vec3, b: Vec3) -> Vec3
     ensures first { IsBelow result a }
     ensures second { IsBelow result b }
 {
@@ -29,7 +30,7 @@ fn low(a: Vec3, b: Vec3) -> Vec3
 }
 
 /// The greatest of each coordinate of two points.
-fn high(a: Vec3, b: Vec3) -> Vec3
+pub(crate) fn high(a: Vec3, b: Vec3) -> Vec3
     ensures first { IsBelow a result }
     ensures second { IsBelow b result }
 {
@@ -43,22 +44,20 @@ fn high(a: Vec3, b: Vec3) -> Vec3
 /// The points of the four corners of a cell at a time.
 pub(crate) type Corners = [Vec3; 4];
 
-/// A point below four others, and below another point.
-fn low_of(corners: &Corners, other: Vec3) -> Vec3
-    ensures corners { IsBelowAll result corners.now }
-    ensures other { IsBelow result other }
+/// A point below four others.
+pub(crate) fn low_of(corners: &Corners) -> Vec3
+    ensures { IsBelowAll result corners.now }
 {
     let [a, b, c, d] = *corners;
-    low(low(low(a, b), low(c, d)), other)
+    low(low(a, b), low(c, d))
 }
 
-/// A point above four others, and above another point.
-fn high_of(corners: &Corners, other: Vec3) -> Vec3
-    ensures corners { IsAboveAll result corners.now }
-    ensures other { IsBelow other result }
+/// A point above four others.
+pub(crate) fn high_of(corners: &Corners) -> Vec3
+    ensures { IsAboveAll result corners.now }
 {
     let [a, b, c, d] = *corners;
-    high(high(high(a, b), high(c, d)), other)
+    high(high(a, b), high(c, d))
 }
 
 /// The first corner of the least box that holds a cell at two times.
@@ -66,7 +65,7 @@ pub(crate) fn low_of_two(first: &Corners, last: &Corners) -> Vec3
     ensures first { IsBelowAll result first.now }
     ensures last { IsBelowAll result last.now }
 {
-    low_of(first, low_of(last, last[0]))
+    low(low_of(first), low_of(last))
 }
 
 /// The last corner of that box.
@@ -74,7 +73,15 @@ pub(crate) fn high_of_two(first: &Corners, last: &Corners) -> Vec3
     ensures first { IsAboveAll result first.now }
     ensures last { IsAboveAll result last.now }
 {
-    high_of(first, high_of(last, last[0]))
+    high(high_of(first), high_of(last))
+}
+
+/// The first and the last corner of the least box in camera space that holds a cell at two places.
+pub fn extent_of(first: &[Vec3; 4], last: &[Vec3; 4]) -> [Vec3; 2]
+    ensures first { All (Encloses result) first.now }
+    ensures last { All (Encloses result) last.now }
+{
+    [low_of_two(first, last), high_of_two(first, last)]
 }
 
 /// Whether two points have the same coordinates.

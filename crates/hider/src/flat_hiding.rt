@@ -11,8 +11,10 @@ ghost use Rattle.hider.specs.Tiles.{HavePut, sample_count};
 
 use crate::beside::is_beside;
 use crate::bounds::Bounds;
+use crate::edges::edge_at;
 use crate::extremes::{greatest_of, least_of};
-use crate::flat_quad::FlatQuad;
+use crate::facing::Facing;
+use crate::flat_quad::{FlatQuad, turn_of};
 use crate::grid_cells::first_of;
 use crate::list::FragmentList;
 use crate::near::put_rows;
@@ -21,6 +23,7 @@ use crate::raster_cell::RasterCell;
 use crate::raster_point::{RasterPoint, put_on_raster};
 use crate::sample_grid::SampleGrid;
 use crate::seen_grid::SeenGrid;
+use crate::sight::is_turned_away;
 use crate::spans::part_near;
 use dice::GridRef;
 use fixed_math::{NoMemory, Vec3};
@@ -78,8 +81,16 @@ fn hide_in(
     ensures { OnOk result (bounds.now ≡ bounds_of (flat_quad (flat_of cell.now)) →
         HavePut places.now.grid (quad_covering one_sided flip (flat_quad (flat_of cell.now))) lists.old lists.new) }
 {
-    let Some(quad) = FlatQuad::facing(cell, bounds, one_sided, flip) else {
+    let first = edge_at(cell.a.place, cell.b.place, cell.c.place);
+    let second = edge_at(cell.a.place, cell.c.place, cell.d.place);
+    if is_turned_away(one_sided, flip, turn_of(first, second)) {
         return Ok(());
+    }
+    let quad = FlatQuad {
+        cell,
+        bounds,
+        first: Facing::of(cell.a, cell.b, cell.c, first),
+        second: Facing::of(cell.a, cell.c, cell.d, second),
     };
     put_rows(lists, places, part, &quad)?;
     Ok(())

@@ -33,7 +33,7 @@ pub(crate) struct FlatQuad<'a> {
 }
 
 /// The twofold area of a micropolygon with its sign, from those of its triangles.
-fn turn_of(first: i64, second: i64) -> i64
+pub(crate) fn turn_of(first: i64, second: i64) -> i64
     requires first { unsigned_abs first ≤ 2 ^ 59 }
     requires second { unsigned_abs second ≤ 2 ^ 59 }
     ensures { result ≡ first +ℤ second }

@@ -4,6 +4,7 @@ ghost use Rattle.hider.specs.Cells.{still, first_corner, cells_of};
 ghost use Rattle.hider.specs.CellValues.{CellValues, corner_number, shade_number, values_of, micropolygons_of, stays_between};
 
 use crate::cells::Cells;
+use crate::extents::extent_of;
 use dice::GridRef;
 use fixed_math::Vec3;
 
@@ -78,6 +79,23 @@ impl<'a> Cells for GridCells<'a> {
     fn corner(&self, cell: usize, k: usize, _time: u16) -> Vec3 {
         let columns = self.grid.columns;
         self.grid.p[corner_of(columns, first_of(columns, cell), k)]
+    }
+
+    fn corners(&self, cell: usize, _time: u16) -> [Vec3; 4] {
+        let points = self.grid.p;
+        let columns = self.grid.columns;
+        let first = first_of(columns, cell);
+        [
+            points[first],
+            points[first + 1],
+            points[first + columns + 1],
+            points[first + columns],
+        ]
+    }
+
+    fn extent(&self, cell: usize) -> [Vec3; 2] {
+        let corners = self.corners(cell, 0);
+        extent_of(&corners, &corners)
     }
 
     fn colour(&self, cell: usize, k: usize) -> Vec3 {

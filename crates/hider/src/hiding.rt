@@ -4,9 +4,9 @@ ghost use Rattle.transforms.specs.declared.view.View.{View};
 ghost use Rattle.std.specs.List.{cons_option};
 ghost use Rattle.hider.specs.Cells.{still};
 ghost use Rattle.hider.specs.CellValues.{micropolygon_of, micropolygons_of, values_of};
-ghost use Rattle.hider.specs.Searching.{IsPartOf, StaysIn};
+ghost use Rattle.hider.specs.Steps.{cell_in_step};
 ghost use Rattle.hider.specs.Flat.{IsSeenBy};
-ghost use Rattle.hider.specs.Fragments.{covering, fragment_of};
+ghost use Rattle.hider.specs.Fragments.{covering};
 ghost use Rattle.hider.specs.Tiles.{HavePut, sample_count};
 
 use crate::bounded::BoundedQuad;
@@ -14,16 +14,17 @@ use crate::cell::Cell;
 use crate::cells::Cells;
 use crate::extents::have_same_points;
 use crate::flat_hiding::{fill_boxes, fill_points, hide_grid};
+use crate::grid_cells::GridCells;
 use crate::list::FragmentList;
 use crate::moving::{MovingCell, cell_when};
-use crate::near::{put_near, put_rows};
-use crate::passing::{corners_when, passed_between};
+use crate::near::put_near;
+use crate::passing::passed_always;
 use crate::places::Places;
-use crate::sample_grid::SampleGrid;
 use crate::seen_grid::SeenGrid;
 use crate::sight::quad_of;
 use crate::smooth_hiding::hide_smooth_grid;
 use crate::spans::part_near;
+use crate::timed::TimedPlaces;
 use fixed_math::NoMemory;
 use std::alloc::Global;
 use transforms::Camera;
@@ -50,31 +51,43 @@ fn hide_still(
     }
 }
 
-/// Puts in what a cell that moves shows at each sample, where that is nothing but in the pixels of `part`.
+/// Puts in what a cell that moves shows in one step of the shutter's interval.
+fn hide_step<C: Cells>(
+    lists: &mut [FragmentList],
+    timed: &TimedPlaces<'_>,
+    shown: &MovingCell<'_, C>,
+    step: usize,
+) -> Result<(), NoMemory>
+    requires step { step < 8 }
+    requires enough { sample_count timed.now.places.grid ≤ length lists.old }
+    ensures { let m = shown.now in
+        OnOk result (HavePut timed.now.places.grid (λ s. cons_option (cell_in_step step m.camera.now (C.values m.cells.now) m.one_sided m.flip m.cell s) []) lists.old lists.new) }
+{
+    let places = &timed.places;
+    let part = part_near(&places.grid, &shown.passed[step]);
+    timed.steps[step].put_rows(lists, places, &part, shown)
+}
+
+/// Puts in what a cell that moves shows at each sample: step by step, since few samples of a pixel that it passes lie in the step
+/// in which it does.
 fn hide_moving<C: Cells>(
     lists: &mut [FragmentList],
-    places: &Places<'_>,
-    part: &SampleGrid,
-    cells: &C,
-    cell: usize,
-    camera: &Camera,
-    one_sided: bool,
-    flip: bool,
+    timed: &TimedPlaces<'_>,
+    shown: &MovingCell<'_, C>,
 ) -> Result<(), NoMemory>
-    requires cell { cell < (C.values cells.now).count }
-    requires enough { sample_count places.now.grid ≤ length lists.old }
-    requires part { IsPartOf part.now places.now.grid }
-    requires beside { StaysIn part.now places.now.grid (λ s. fragment_of camera.now s (micropolygon_of (C.values cells.now) one_sided flip cell)) }
-    ensures { OnOk result (HavePut places.now.grid (covering camera.now (micropolygon_of (C.values cells.now) one_sided flip cell ∷ [])) lists.old lists.new) }
+    requires enough { sample_count timed.now.places.grid ≤ length lists.old }
+    ensures { let m = shown.now in OnOk result (HavePut timed.now.places.grid (covering m.camera.now (micropolygon_of (C.values m.cells.now) m.one_sided m.flip m.cell ∷ [])) lists.old lists.new) }
 {
-    let shown = MovingCell::new(cells, cell, camera, one_sided, flip);
-    put_rows(lists, places, part, &shown)
+    for step in 0..8 {
+        hide_step(lists, timed, shown, step)?;
+    }
+    Ok(())
 }
 
 /// Puts in what a cell shows at each sample.
 fn hide_cell<C: Cells>(
     lists: &mut [FragmentList],
-    places: &Places<'_>,
+    timed: &TimedPlaces<'_>,
     cells: &C,
     cell: usize,
     camera: &Camera,
@@ -82,41 +95,42 @@ fn hide_cell<C: Cells>(
     flip: bool,
 ) -> Result<(), NoMemory>
     requires cell { cell < (C.values cells.now).count }
-    requires enough { sample_count places.now.grid ≤ length lists.old }
-    ensures { OnOk result (HavePut places.now.grid (covering camera.now (micropolygon_of (C.values cells.now) one_sided flip cell ∷ [])) lists.old lists.new) }
+    requires enough { sample_count timed.now.places.grid ≤ length lists.old }
+    ensures { OnOk result (HavePut timed.now.places.grid (covering camera.now (micropolygon_of (C.values cells.now) one_sided flip cell ∷ [])) lists.old lists.new) }
 {
-    let first = corners_when(cells, cell, 0);
-    let last = corners_when(cells, cell, 65535);
-    if have_same_points(&first, &last) {
-        let cell = cell_when(cells, cell, 0);
-        hide_still(lists, places, &cell, camera, one_sided, flip)?;
-        return Ok(());
-    }
-    let part = part_near(&places.grid, &passed_between(camera, &first, &last));
+    let part = part_near(&timed.places.grid, &passed_always(cells, cell, camera));
     if part.left >= part.right {
         return Ok(());
     }
     if part.top >= part.bottom {
         return Ok(());
     }
-    hide_moving(lists, places, &part, cells, cell, camera, one_sided, flip)?;
+    let first = cells.corners(cell, 0);
+    let last = cells.corners(cell, 65535);
+    if have_same_points(&first, &last) {
+        let cell = cell_when(cells, cell, 0);
+        hide_still(lists, &timed.places, &cell, camera, one_sided, flip)?;
+        return Ok(());
+    }
+    let shown = MovingCell::new(cells, cell, first, camera, one_sided, flip);
+    hide_moving(lists, timed, &shown)?;
     Ok(())
 }
 
 /// Puts in what the cells show at each sample, one cell after another.
-fn hide_all<C: Cells>(
+pub(crate) fn hide_all<C: Cells>(
     lists: &mut [FragmentList],
-    places: &Places<'_>,
+    timed: &TimedPlaces<'_>,
     cells: &C,
     camera: &Camera,
     one_sided: bool,
     flip: bool,
 ) -> Result<(), NoMemory>
-    requires enough { sample_count places.now.grid ≤ length lists.old }
-    ensures { OnOk result (HavePut places.now.grid (covering camera.now (micropolygons_of (C.values cells.now) one_sided flip)) lists.old lists.new) }
+    requires enough { sample_count timed.now.places.grid ≤ length lists.old }
+    ensures { OnOk result (HavePut timed.now.places.grid (covering camera.now (micropolygons_of (C.values cells.now) one_sided flip)) lists.old lists.new) }
 {
     for cell in 0..cells.count() {
-        hide_cell(lists, places, cells, cell, camera, one_sided, flip)?;
+        hide_cell(lists, timed, cells, cell, camera, one_sided, flip)?;
     }
     Ok(())
 }
@@ -140,22 +154,19 @@ pub(crate) fn hide_seen_grid(
     }
 }
 
-/// Puts in what the cells show at each sample. The points of a grid that stays where it is are put on the raster once.
-pub(crate) fn hide_cells<C: Cells>(
+/// Puts in what the cells of a grid show at each sample, which stays where it is: its points are put on the raster once.
+pub(crate) fn hide_grid_cells(
     lists: &mut [FragmentList],
     places: &Places<'_>,
     alloc: Global,
-    cells: &C,
+    still: &GridCells<'_>,
     camera: &Camera,
     one_sided: bool,
     flip: bool,
 ) -> Result<(), NoMemory>
     requires enough { sample_count places.now.grid ≤ length lists.old }
-    ensures { OnOk result (HavePut places.now.grid (covering camera.now (micropolygons_of (C.values cells.now) one_sided flip)) lists.old lists.new) }
+    ensures { OnOk result (HavePut places.now.grid (covering camera.now (micropolygons_of (values_of still.now.smooth still.now.grid) one_sided flip)) lists.old lists.new) }
 {
-    let Some(still) = cells.still_grid() else {
-        return hide_all(lists, places, cells, camera, one_sided, flip);
-    };
     let mut points = Vec::new(alloc);
     fill_points(&mut points, camera, still.grid.p)?;
     let mut boxes = Vec::new(alloc);

@@ -1,33 +1,36 @@
 // A micropolygon at the time of a sample.
-ghost use Rattle.std.specs.Prelude.{◌≡◌, ◌<◌, ◌≤◌, ◌≤ℤ◌, ◌/◌, [], ◌∷◌, Bool, IsTrue, OnOk, Some};
+ghost use Rattle.std.specs.Prelude.{◌≡◌, ◌<◌, ◌≤ℤ◌, [], ◌∷◌, Bool, IsTrue, OnOk, Some, true};
 ghost use Rattle.std.specs.List.{cons_option};
 ghost use Rattle.hider.specs.declared.fragment.Fragment.{Fragment};
 ghost use Rattle.hider.specs.declared.sample.Sample.{Sample};
-ghost use Rattle.hider.specs.CellValues.{corner_when, cell_when, micropolygon_of};
+ghost use Rattle.hider.specs.CellValues.{corner_when, corners_when, cell_when, micropolygon_of};
 ghost use Rattle.hider.specs.Extents.{HasOneColour, IsNoNearer};
-ghost use Rattle.hider.specs.Flat.{corners_on_raster, flat_of, flat_quad};
+ghost use Rattle.hider.specs.Flat.{flat_of, flat_quad};
 ghost use Rattle.hider.specs.Fragments.{fragment_of, quad_covering};
 ghost use Rattle.hider.specs.Bounding.{bounds_of};
 ghost use Rattle.hider.specs.Kept.{keep_all};
 ghost use Rattle.hider.specs.Searching.{StaysInSteps};
+ghost use Rattle.hider.specs.SeenCorners.{are_seen, points_of};
 ghost use Rattle.hider.specs.Tiles.{sample_count, sample_of};
 
 use crate::bounds::Bounds;
 use crate::cell::{Cell, CellCorner};
 use crate::cells::Cells;
 use crate::coverage::covers;
-use crate::extents::is_same_point;
-use crate::flat_hiding::{are_all_seen, bounds_of};
+use crate::extents::{Corners, is_same_point};
+use crate::flat_hiding::bounds_of;
 use crate::flat_quad::FlatQuad;
 use crate::fragment::Fragment;
 use crate::list::FragmentList;
-use crate::passing::{corners_when, nearest_of, passed_by};
+use crate::passing::{nearest_of, passed_by};
 use crate::places::Places;
 use crate::raster_cell::RasterCell;
-use crate::raster_point::{RasterPoint, put_on_raster};
+use crate::raster_point::RasterPoint;
 use crate::sample::Sample;
+use crate::seen_corners::{are_on_one_side, are_seen, columns_of, points_in};
 use crate::showing::Showing;
 use crate::sight::quad_of;
+use crate::steps::step_of;
 use fixed_math::{NoMemory, Num, Vec3};
 use transforms::Camera;
 
@@ -91,15 +94,6 @@ fn has_one_colour<C: Cells>(cells: &C, cell: usize) -> bool
         && has_first_opacity(cells, cell, 3)
 }
 
-/// The step of the shutter's interval in which a time lies.
-fn step_of(time: u16) -> usize
-    requires { time ≤ 65535 }
-    ensures value { result ≡ time / 8192 }
-    ensures step { result < 8 }
-{
-    (time / 8192) as usize
-}
-
 /// Puts in what a micropolygon of one colour shows at sample `n`, unless its one side is turned away.
 fn put_flat(
     flat: &RasterCell<'_>,
@@ -136,7 +130,7 @@ pub(crate) struct MovingCell<'a, C: Cells> {
     /// The least depth of its corners at all times.
     nearest: Num,
     /// For each step of the shutter's interval the box on the raster of all that the cell passes in it.
-    passed: [Bounds; 8],
+    pub(crate) passed: [Bounds; 8],
     ghost inside: { cell < (C.values cells.now).count },
     ghost colour_is: { colour ≡ (C.values cells.now).colour cell 0 },
     ghost opacity_is: { opacity ≡ (C.values cells.now).opacity cell 0 },
@@ -146,15 +140,17 @@ pub(crate) struct MovingCell<'a, C: Cells> {
 }
 
 impl<'a, C: Cells> MovingCell<'a, C> {
-    /// A cell before a camera.
+    /// A cell before a camera, which has these corners when the shutter opens.
     pub(crate) fn new(
         cells: &'a C,
         cell: usize,
+        opening: Corners,
         camera: &'a Camera,
         one_sided: bool,
         flip: bool,
     ) -> MovingCell<'a, C>
-        requires { cell < (C.values cells.now).count }
+        requires cell { cell < (C.values cells.now).count }
+        requires opening { opening ≡ corners_when (C.values cells.now) cell 0 }
         ensures cells { result.cells.now ≡ cells.now }
         ensures cell { result.cell ≡ cell }
         ensures camera { result.camera.now ≡ camera.now }
@@ -171,21 +167,8 @@ impl<'a, C: Cells> MovingCell<'a, C> {
             opacity: cells.opacity(cell, 0),
             is_flat: has_one_colour(cells, cell),
             nearest: nearest_of(cells, cell),
-            passed: passed_by(cells, cell, camera),
+            passed: passed_by(cells, cell, opening, camera),
         }
-    }
-
-    /// Its corners on the raster at a time.
-    fn on_raster(&self, time: u16) -> [RasterPoint; 4]
-        ensures { result ≡ corners_on_raster self.now.camera.now (C.values self.now.cells.now) self.now.cell time }
-    {
-        let [a, b, c, d] = corners_when(self.cells, self.cell, time);
-        [
-            put_on_raster(self.camera, &a),
-            put_on_raster(self.camera, &b),
-            put_on_raster(self.camera, &c),
-            put_on_raster(self.camera, &d),
-        ]
     }
 
     /// What shows at a sample.
@@ -200,30 +183,29 @@ impl<'a, C: Cells> MovingCell<'a, C> {
         }
     }
 
-    /// Puts in what shows at a sample that is number `n`: few samples lie in the box round the corners at their time.
-    fn put_sample(
+    /// Puts in what shows at a sample that is number `n`, where these are the corners at its time, all seen in depth.
+    fn put_points(
         &self,
         places: &Places<'_>,
         n: usize,
         sample: &Sample,
+        points: &[RasterPoint; 4],
         list: &mut FragmentList,
     ) -> Result<(), NoMemory>
         requires inside { n < sample_count places.now.grid }
         requires sample { sample.now ≡ sample_of places.now.grid n }
+        requires points { points.now ≡ points_of self.now.camera.now (corners_when (C.values self.now.cells.now) self.now.cell sample.now.time) }
+        requires seen { are_seen self.now.camera.now (corners_when (C.values self.now.cells.now) self.now.cell sample.now.time) ≡ true }
         ensures { OnOk result (list.new ≡ keep_all list.old (cons_option (fragment_of self.now.camera.now sample.now (micropolygon_of (C.values self.now.cells.now) self.now.one_sided self.now.flip self.now.cell)) [])) }
     {
-        let [a, b, c, d] = self.on_raster(sample.time);
         let flat = RasterCell {
-            a: &a,
-            b: &b,
-            c: &c,
-            d: &d,
+            a: &points[0],
+            b: &points[1],
+            c: &points[2],
+            d: &points[3],
             colour: &self.colour,
             opacity: &self.opacity,
         };
-        if !are_all_seen(&flat) {
-            return Ok(());
-        }
         let bounds = bounds_of(&flat);
         if !bounds.holds(sample.place) {
             return Ok(());
@@ -235,6 +217,32 @@ impl<'a, C: Cells> MovingCell<'a, C> {
             None => Ok(()),
             Some(f) => list.put(f),
         }
+    }
+
+    /// Puts in what shows at a sample that is number `n`: few samples lie in the box round the corners at their time, and most of
+    /// the others lie to one side of them.
+    fn put_sample(
+        &self,
+        places: &Places<'_>,
+        n: usize,
+        sample: &Sample,
+        list: &mut FragmentList,
+    ) -> Result<(), NoMemory>
+        requires inside { n < sample_count places.now.grid }
+        requires sample { sample.now ≡ sample_of places.now.grid n }
+        ensures { OnOk result (list.new ≡ keep_all list.old (cons_option (fragment_of self.now.camera.now sample.now (micropolygon_of (C.values self.now.cells.now) self.now.one_sided self.now.flip self.now.cell)) [])) }
+    {
+        let corners = self.cells.corners(self.cell, sample.time);
+        if !are_seen(self.camera, &corners) {
+            return Ok(());
+        }
+        let columns = columns_of(self.camera, &corners);
+        let [a, b, c, d] = columns;
+        if are_on_one_side(a, b, c, d, sample.place) {
+            return Ok(());
+        }
+        let points = points_in(self.camera, &corners, &columns);
+        self.put_points(places, n, sample, &points, list)
     }
 }
 

@@ -16,7 +16,7 @@ pub(crate) struct RasterPoint {
 }
 
 /// Whether a depth lies from near to far.
-fn is_seen(camera: &Camera, depth: Num) -> bool
+pub(crate) fn is_seen(camera: &Camera, depth: Num) -> bool
     ensures { result ≡ is_seen camera.now depth }
 {
     let view = camera.view();

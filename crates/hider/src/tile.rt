@@ -2,22 +2,25 @@
 ghost use Rattle.std.specs.Prelude.{ℕ, ◌≡◌, ◌<◌, ◌≤◌, ◌↔◌, true, [], ◌∷◌, map, IsTrue, IfOk, OnOk, List, length, slice_index_or, vec_capacity};
 ghost use Rattle.hider.specs.declared.fragment.Fragment.{Fragment};
 ghost use Rattle.hider.specs.declared.sample.Sample.{Sample};
-ghost use Rattle.hider.specs.CellValues.{micropolygons_of};
+ghost use Rattle.hider.specs.CellValues.{micropolygons_of, values_of};
 ghost use Rattle.hider.specs.Cells.{still, cells_of};
 ghost use Rattle.hider.specs.Composite.{composite};
 ghost use Rattle.hider.specs.Flat.{ShowsSeen};
 ghost use Rattle.hider.specs.Kept.{blocks};
-ghost use Rattle.hider.specs.Tiles.{TileValue, IsTile, IsSampleGrid, Shows, BlocksAll, HidesGrid, grid_of, sample_count, sample_of, with_covering};
+ghost use Rattle.hider.specs.StepRows.{IsTile};
+ghost use Rattle.hider.specs.Tiles.{TileValue, IsSampleGrid, Shows, BlocksAll, HidesGrid, grid_of, sample_count, sample_of, with_covering};
 
 use crate::cells::Cells;
 use crate::grid_cells::GridCells;
-use crate::hiding::{hide_cells, hide_seen_grid};
+use crate::hiding::{hide_all, hide_grid_cells, hide_seen_grid};
 use crate::list::FragmentList;
 use crate::places::Places;
 use crate::rooms::{all_block, fill_lists, fill_places, fill_times, next_open};
 use crate::sample_grid::SampleGrid;
 use crate::seen_grid::SeenGrid;
 use crate::spot::Spot;
+use crate::steps::StepSamples;
+use crate::timed::{TimedPlaces, find_steps};
 use fixed_math::{NoMemory, Num, Vec3};
 use std::alloc::Global;
 use std::marker::Model;
@@ -32,6 +35,8 @@ pub struct Tile {
     spots: Vec<Spot>,
     // none until something moves in the tile
     times: Vec<u16>,
+    // likewise, by the steps of the shutter's interval
+    steps: Vec<StepSamples>,
     lists: Vec<FragmentList>,
     // the first sample without an opaque fragment, mostly
     open: usize,
@@ -42,7 +47,7 @@ impl Model for Tile {
 
     ghost view = { λ t. record { grid = t.grid; lists = t.lists.items } };
 
-    ghost invariant = { λ t. IsTile t.grid t.spots.items t.times.items t.lists.items };
+    ghost invariant = { λ t. IsTile t.grid t.spots.items t.times.items t.steps.items t.lists.items };
 }
 
 /// Which samples those of a rectangle are, given by its left, top, right and bottom.
@@ -77,6 +82,7 @@ impl Tile {
             grid,
             spots,
             times: Vec::new(alloc),
+            steps: Vec::new(alloc),
             lists,
             open: 0,
         })
@@ -96,19 +102,75 @@ impl Tile {
         fill_places(&mut self.spots, &grid);
         fill_lists(&mut self.lists, count);
         self.times.clear();
+        self.steps.clear();
         self.grid = grid;
         self.open = 0;
         Ok(())
     }
 
-    /// Works out the times of the samples, where something moves and they aren't known.
-    fn time_samples(&mut self, moves: bool) -> Result<(), NoMemory>
+    /// Works out the times of the samples, where they aren't known.
+    fn time_samples(&mut self) -> Result<(), NoMemory>
         ensures { self.new ≡ self.old }
     {
-        if moves && self.times.len() == 0 {
+        if self.times.len() == 0 {
             self.times.reserve(self.grid.count())?;
             fill_times(&mut self.times, &self.grid);
         }
+        Ok(())
+    }
+
+    /// Does what `hide` does for cells that may move.
+    fn hide_moving<C: Cells>(
+        &mut self,
+        cells: &C,
+        camera: &Camera,
+        one_sided: bool,
+        flip: bool,
+    ) -> Result<(), NoMemory>
+        ensures grid { self.new.grid ≡ self.old.grid }
+        ensures shows { OnOk result ((f : Sample → List Fragment) → Shows self.old f → Shows self.new (with_covering camera.now (micropolygons_of (C.values cells.now) one_sided flip) f)) }
+    {
+        self.time_samples()?;
+        let places = Places {
+            grid: self.grid,
+            spots: self.spots.as_slice(),
+            times: self.times.as_slice(),
+        };
+        find_steps(&mut self.steps, &places)?;
+        let timed = TimedPlaces {
+            places,
+            steps: self.steps.as_slice(),
+        };
+        hide_all(&mut self.lists, &timed, cells, camera, one_sided, flip)?;
+        Ok(())
+    }
+
+    /// Does what `hide` does for the cells of a grid that stays where it is.
+    fn hide_grid_cells(
+        &mut self,
+        still: &GridCells<'_>,
+        camera: &Camera,
+        one_sided: bool,
+        flip: bool,
+    ) -> Result<(), NoMemory>
+        ensures grid { self.new.grid ≡ self.old.grid }
+        ensures shows { OnOk result ((f : Sample → List Fragment) → Shows self.old f → Shows self.new (with_covering camera.now (micropolygons_of (values_of still.now.smooth still.now.grid) one_sided flip) f)) }
+    {
+        let alloc = *self.lists.allocator();
+        let places = Places {
+            grid: self.grid,
+            spots: self.spots.as_slice(),
+            times: self.times.as_slice(),
+        };
+        hide_grid_cells(
+            &mut self.lists,
+            &places,
+            alloc,
+            still,
+            camera,
+            one_sided,
+            flip,
+        )?;
         Ok(())
     }
 
@@ -125,22 +187,10 @@ impl Tile {
         ensures grid { self.new.grid ≡ self.old.grid }
         ensures shows { OnOk result ((f : Sample → List Fragment) → Shows self.old f → Shows self.new (with_covering camera.now (micropolygons_of (C.values cells.now) one_sided flip) f)) }
     {
-        let alloc = *self.lists.allocator();
-        self.time_samples(cells.still_grid().is_none())?;
-        let places = Places {
-            grid: self.grid,
-            spots: self.spots.as_slice(),
-            times: self.times.as_slice(),
-        };
-        hide_cells(
-            &mut self.lists,
-            &places,
-            alloc,
-            cells,
-            camera,
-            one_sided,
-            flip,
-        )?;
+        match cells.still_grid() {
+            Some(still) => self.hide_grid_cells(&still, camera, one_sided, flip)?,
+            None => self.hide_moving(cells, camera, one_sided, flip)?,
+        }
         self.open = next_open(self.lists.as_slice(), self.open, self.grid.count());
         Ok(())
     }

@@ -9,13 +9,14 @@ ghost use Rattle.moving.specs.Ways.{on_way as on_way_of, place_on_way as place_o
 use fixed_math::{Num, Vec3};
 
 /// `steps` of 65536 equal parts of a difference, rounded down.
+#[tactic(auto, using(fixed_math::proofs::Floor::shr_is))]
 fn share(difference: i64, steps: u32) -> i64
     requires small { unsigned_abs difference ≤ 2 ^ 32 }
     requires steps { steps ≤ 65536 }
     ensures value { result ≡ floor_by (pos steps *ℤ difference) 65536 }
     ensures bound { unsigned_abs result ≤ 2 ^ 32 }
 {
-    (steps as i64 * difference).div_euclid(65536)
+    (steps as i64 * difference) >> 16
 }
 
 /// The same of the difference of two numbers.

@@ -5,7 +5,7 @@ ghost use Rattle.moving_cells.specs.MovingGrids.{values_when, moving-between};
 
 use dice::GridRef;
 use fixed_math::Vec3;
-use hider::{Cells, GridCells};
+use hider::{Cells, GridCells, extent_of};
 use moving::place_on_way;
 
 /// The micropolygons of a grid whose points go straight from their places to closing places while the shutter is open, or stay where
@@ -27,6 +27,26 @@ impl<'a> MovingCells<'a> {
             smooth: self.smooth,
         }
     }
+
+    /// The same at other places.
+    fn closing_cells(&self, places: &'a [Vec3]) -> GridCells<'a>
+        requires { length places.now ≡ self.now.grid.columns * self.now.grid.rows }
+        ensures columns { result.grid.columns ≡ self.now.grid.columns }
+        ensures rows { result.grid.rows ≡ self.now.grid.rows }
+        ensures places { result.grid.p.now ≡ places.now }
+    {
+        GridCells {
+            grid: GridRef {
+                columns: self.grid.columns,
+                rows: self.grid.rows,
+                p: places,
+                ci: self.grid.ci,
+                oi: self.grid.oi,
+                closing: None,
+            },
+            smooth: self.smooth,
+        }
+    }
 }
 
 impl<'a> Cells for MovingCells<'a> {
@@ -42,6 +62,35 @@ impl<'a> Cells for MovingCells<'a> {
         match self.grid.closing {
             None => opening,
             Some(closing) => place_on_way(opening, closing[n], time as u32),
+        }
+    }
+
+    fn corners(&self, cell: usize, time: u16) -> [Vec3; 4] {
+        let opening = self.opening_cells().corners(cell, time);
+        match self.grid.closing {
+            None => opening,
+            Some(places) => {
+                let [a, b, c, d] = opening;
+                let [e, f, g, h] = self.closing_cells(places).corners(cell, time);
+                let steps = time as u32;
+                [
+                    place_on_way(a, e, steps),
+                    place_on_way(b, f, steps),
+                    place_on_way(c, g, steps),
+                    place_on_way(d, h, steps),
+                ]
+            }
+        }
+    }
+
+    fn extent(&self, cell: usize) -> [Vec3; 2] {
+        let opening = self.opening_cells().corners(cell, 0);
+        match self.grid.closing {
+            None => extent_of(&opening, &opening),
+            Some(places) => {
+                let closing = self.closing_cells(places).corners(cell, 0);
+                extent_of(&opening, &closing)
+            }
         }
     }
 

@@ -3,16 +3,15 @@ use Rattle.hider.specs.Extents.{IsBelow}
 use Rattle.hider.proofs.Boxes.{all_four, below_through}
 use Rattle.hider.proofs.extents.low_of.Goals as goal
 
-pub returns-clause-corners : goal.returns-clause-corners
-returns-clause-corners c =
-    let p = c.low-4.result in
+pub returns : goal.returns
+returns c =
     let q = c.low-3.result in
     let i = slice_index_or c.args.corners.now 0 c.index-corners-0.result in
     let j = slice_index_or c.args.corners.now 1 c.index-corners-1.result in
     let k = slice_index_or c.args.corners.now 2 c.index-corners-2.result in
     let l = slice_index_or c.args.corners.now 3 c.index-corners-3.result in
-    all_four (IsBelow p) c.args.corners.now c.index-corners-0.result c.index-corners-1.result c.index-corners-2.result c.index-corners-3.result c.type_inv.corners
-    (below_through p q i c.low-4.ensures.first (below_through q c.low.result i c.low-3.ensures.first c.low.ensures.first))
-    (below_through p q j c.low-4.ensures.first (below_through q c.low.result j c.low-3.ensures.first c.low.ensures.second))
-    (below_through p q k c.low-4.ensures.first (below_through q c.low-2.result k c.low-3.ensures.second c.low-2.ensures.first))
-    (below_through p q l c.low-4.ensures.first (below_through q c.low-2.result l c.low-3.ensures.second c.low-2.ensures.second))
+    all_four (IsBelow q) c.args.corners.now c.index-corners-0.result c.index-corners-1.result c.index-corners-2.result c.index-corners-3.result c.type_inv.corners
+    (below_through q c.low.result i c.low-3.ensures.first c.low.ensures.first)
+    (below_through q c.low.result j c.low-3.ensures.first c.low.ensures.second)
+    (below_through q c.low-2.result k c.low-3.ensures.second c.low-2.ensures.first)
+    (below_through q c.low-2.result l c.low-3.ensures.second c.low-2.ensures.second)

@@ -2,7 +2,7 @@ use Rattle.hider.proofs.moving.MovingCell.new.Goals as goal
 
 pub invariant_of-result : goal.invariant_of-result
 invariant_of-result g c = record {
-  inside = c.requires;
+  inside = c.requires.cell;
   colour_is = c.colour.ensures;
   opacity_is = c.opacity.ensures;
   one_colour = c.has_one_colour.ensures;

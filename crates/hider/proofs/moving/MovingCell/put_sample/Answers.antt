@@ -1,88 +1,43 @@
-use Rattle.std.proofs.Common.{◌≡◌, ap, sym, subst, refl, List, slice_index_or}
-use Rattle.std.specs.Prelude.{OnOk}
-use Rattle.hider.specs.declared.fragment.Fragment.{Fragment}
-use Rattle.hider.specs.Flat.{FlatCell}
-use Rattle.hider.specs.Kept.{keep_all}
-use Rattle.hider.proofs.Whens.{IsFlatWhen, unseen_when, beside_when, flat_shown}
+use Rattle.std.proofs.Common.{◌≡◌, ◌∙◌, ap, sym, refl, slice_index_or, true, false}
+use Rattle.hider.specs.CellValues.{corners_when}
+use Rattle.hider.specs.SeenCorners.{are_seen, columns_of, points_of}
+use Rattle.hider.proofs.Whens.{four_across, one_side_when, unseen_corners}
 use Rattle.hider.proofs.moving.MovingCell.put_sample.Goals as goal
 
-pub returns-then-not-are_all_seen : goal.returns-then-not-are_all_seen
-returns-then-not-are_all_seen g c =
+pub returns-then-not-are_seen : goal.returns-then-not-are_seen
+returns-then-not-are_seen g c =
     let m = c.args.self.now in
     let w = m.camera.now in
     let v = g.C.Cells.values m.cells.now in
     let s = c.args.sample.now in
-    let l = c.on_raster.result in
-    let o = c.on_raster.ensures in
-    let f : FlatCell = record {
-      a = slice_index_or l 0 c.index-on_raster-0.result;
-      b = slice_index_or l 1 c.index-on_raster-1.result;
-      c = slice_index_or l 2 c.index-on_raster-2.result;
-      d = slice_index_or l 3 c.index-on_raster-3.result;
-      colour = m.colour;
-      opacity = m.opacity;
-    } in
-    let h : IsFlatWhen w v m.cell s.time f = record {
-      a = ap (λ x. slice_index_or x 0 c.index-on_raster-0.result) o;
-      b = ap (λ x. slice_index_or x 1 c.index-on_raster-1.result) o;
-      c = ap (λ x. slice_index_or x 2 c.index-on_raster-2.result) o;
-      d = ap (λ x. slice_index_or x 3 c.index-on_raster-3.result) o;
-      colour = m.colour_is;
-      opacity = m.opacity_is;
-    } in
-    let n = unseen_when w v m.cell f m.one_sided m.flip s h (sym c.if-not-are_all_seen.ensures) in
+    let e : are_seen w (corners_when v m.cell s.time) ≡ false = sym (ap (are_seen w) c.corners-corners.ensures) ∙ sym c.if-not-are_seen.ensures in
+    let n = unseen_corners w v m.cell m.one_sided m.flip s e in
     rw n refl
 
-pub returns-then-not-holds : goal.returns-then-not-holds
-returns-then-not-holds g c =
+pub returns-then-are_on_one_side : goal.returns-then-are_on_one_side
+returns-then-are_on_one_side g c =
     let m = c.args.self.now in
     let w = m.camera.now in
     let v = g.C.Cells.values m.cells.now in
     let s = c.args.sample.now in
-    let l = c.on_raster.result in
-    let o = c.on_raster.ensures in
-    let f : FlatCell = record {
-      a = slice_index_or l 0 c.index-on_raster-0.result;
-      b = slice_index_or l 1 c.index-on_raster-1.result;
-      c = slice_index_or l 2 c.index-on_raster-2.result;
-      d = slice_index_or l 3 c.index-on_raster-3.result;
-      colour = m.colour;
-      opacity = m.opacity;
-    } in
-    let h : IsFlatWhen w v m.cell s.time f = record {
-      a = ap (λ x. slice_index_or x 0 c.index-on_raster-0.result) o;
-      b = ap (λ x. slice_index_or x 1 c.index-on_raster-1.result) o;
-      c = ap (λ x. slice_index_or x 2 c.index-on_raster-2.result) o;
-      d = ap (λ x. slice_index_or x 3 c.index-on_raster-3.result) o;
-      colour = m.colour_is;
-      opacity = m.opacity_is;
-    } in
-    let n = beside_when w v m.cell f m.one_sided m.flip s c.bounds_of-bounds.result h (sym c.if-not-are_all_seen.ensures) c.bounds_of-bounds.ensures (sym c.if-not-holds.ensures) in
+    let k = c.corners-corners.ensures in
+    let e : are_seen w (corners_when v m.cell s.time) ≡ true = sym (ap (are_seen w) k) ∙ sym c.if-not-are_seen.ensures in
+    let l = c.columns_of-columns.result in
+    let all = four_across l _ _ _ _ c.index-columns-0.result c.index-columns-1.result c.index-columns-2.result c.index-columns-3.result (c.columns_of-columns.ensures ∙ ap (columns_of w) k) in
+    let x = slice_index_or l 0 c.index-columns-0.result in
+    let y = slice_index_or l 1 c.index-columns-1.result in
+    let z = slice_index_or l 2 c.index-columns-2.result in
+    let u = slice_index_or l 3 c.index-columns-3.result in
+    let n = one_side_when w v m.cell m.one_sided m.flip s x y z u e all (c.are_on_one_side.ensures c.if-are_on_one_side.true) in
     rw n refl
 
-pub returns-then-self : goal.returns-then-self
-returns-then-self g c =
+pub put_points-requires-clause-seen : goal.put_points-requires-clause-seen
+put_points-requires-clause-seen g c =
     let m = c.args.self.now in
     let w = m.camera.now in
-    let v = g.C.Cells.values m.cells.now in
-    let s = c.args.sample.now in
-    let l = c.on_raster.result in
-    let o = c.on_raster.ensures in
-    let f : FlatCell = record {
-      a = slice_index_or l 0 c.index-on_raster-0.result;
-      b = slice_index_or l 1 c.index-on_raster-1.result;
-      c = slice_index_or l 2 c.index-on_raster-2.result;
-      d = slice_index_or l 3 c.index-on_raster-3.result;
-      colour = m.colour;
-      opacity = m.opacity;
-    } in
-    let h : IsFlatWhen w v m.cell s.time f = record {
-      a = ap (λ x. slice_index_or x 0 c.index-on_raster-0.result) o;
-      b = ap (λ x. slice_index_or x 1 c.index-on_raster-1.result) o;
-      c = ap (λ x. slice_index_or x 2 c.index-on_raster-2.result) o;
-      d = ap (λ x. slice_index_or x 3 c.index-on_raster-3.result) o;
-      colour = m.colour_is;
-      opacity = m.opacity_is;
-    } in
-    let e = flat_shown w v m.cell f m.one_sided m.flip s h (m.one_colour c.if-self.true) (sym c.if-not-are_all_seen.ensures) in
-    subst (λ (x : List Fragment). OnOk c.put_flat.result (c.put_flat.new.list ≡ keep_all c.args.list.now x)) (sym e) (rw (c.requires.sample) c.put_flat.ensures)
+    sym (ap (are_seen w) c.corners-corners.ensures) ∙ sym c.if-not-are_seen.ensures
+
+pub put_points-requires-clause-points : goal.put_points-requires-clause-points
+put_points-requires-clause-points g c =
+    let w = c.args.self.now.camera.now in
+    c.points_in-points.ensures ∙ ap (points_of w) c.corners-corners.ensures
