@@ -60,8 +60,8 @@ impl Num {
         }
     }
 
-    /// The number of a raw value in range.
-    pub(crate) fn from_raw(raw: i64) -> Num
+    /// The number of a raw value in range, -2147483647 to 2147483647, where a caller knows that it is: nothing is saturated.
+    pub fn from_raw(raw: i64) -> Num
         requires { IsRaw raw }
         ensures { result ≡ raw }
     {

@@ -16,7 +16,8 @@ pub mod Rows
 pub mod Boxes
 pub mod Stills
 pub mod Moves
-pub mod Quarters
+pub mod Perspective
+pub mod CellsHeld
 pub mod Passages
 pub mod Showings
 pub mod Frames

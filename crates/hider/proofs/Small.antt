@@ -1,8 +1,8 @@
 -- Products of places fit 64 bits.
-use Rattle.std.proofs.Common.{◌≡◌, ◌^◌, ◌≤◌, ◌<◌, arith, refl, ◌∙◌, unsigned_abs, to_z, of_z, FitsSigned}
-use Rattle.std.specs.Prelude.{ℤ, ◌-ℤ◌, ◌*ℤ◌}
-use Rattle.std.specs.Int.{w64, int_min, int_max}
-use lib.Signed.{mag}
+use Rattle.std.proofs.Common.{◌≡◌, ◌^◌, ◌≤◌, ◌<◌, arith, refl, subst, true, false, ◌∙◌, unsigned_abs, to_z, of_z, FitsSigned}
+use Rattle.std.specs.Prelude.{ℤ, ◌<ℤ◌, ◌≤ℤ◌, ◌-ℤ◌, ◌*ℤ◌}
+use Rattle.std.specs.Int.{w64}
+use lib.Signed.{mag, le_z, lt_z}
 use Rattle.std.proofs.lemmas.Int.{ints, to_z-of_z, fits_signed_from_abs, unsigned_abs-mul}
 use Rattle.std.proofs.lemmas.Nat.{mul-le}
 
@@ -43,9 +43,33 @@ less_read p q r x y h k e f g = difference_read p q r h k e ∙ rw (f, g) refl
 pub less_bound : (p q : ℤ) → unsigned_abs p ≤ 2 ^ 58 → unsigned_abs q ≤ 2 ^ 58 → unsigned_abs (to_z w64 (of_z w64 (to_z w64 (of_z w64 p) -ℤ to_z w64 (of_z w64 q)))) ≤ 2 ^ 59
 less_bound p q h k = rw (less_value p q p q h k refl refl) (omega (arith, ints))
 
--- what the code reads of the less and the greater of two places
-pub min_read : (r p q x y : ℤ) → mag r < 2 ^ 63 → r ≡ int_min (to_z w64 (of_z w64 p)) (to_z w64 (of_z w64 q)) → p ≡ x → q ≡ y → unsigned_abs x ≤ 2 ^ 28 → unsigned_abs y ≤ 2 ^ 28 → to_z w64 (of_z w64 r) ≡ int_min x y
-min_read r p q x y m e f g h k = read_whole r m ∙ e ∙ rw (f, g, read64 x (omega arith), read64 y (omega arith)) refl
+-- what the code reads of a place that a call answered
+pub place_read : (r x : ℤ) → r ≡ x → unsigned_abs x ≤ 2 ^ 28 → to_z w64 (of_z w64 r) ≡ x
+place_read r x e h = rw e (read64 x (omega arith))
 
-pub max_read : (r p q x y : ℤ) → mag r < 2 ^ 63 → r ≡ int_max (to_z w64 (of_z w64 p)) (to_z w64 (of_z w64 q)) → p ≡ x → q ≡ y → unsigned_abs x ≤ 2 ^ 28 → unsigned_abs y ≤ 2 ^ 28 → to_z w64 (of_z w64 r) ≡ int_max x y
-max_read r p q x y m e f g h k = read_whole r m ∙ e ∙ rw (f, g, read64 x (omega arith), read64 y (omega arith)) refl
+lt_from : (a b : ℤ) → lt_z a b ≡ true → a <ℤ b
+lt_from a b e = omega (arith, ints, e)
+
+-- what the code compares of two places
+pub place_below : (p q x : ℤ) → lt_z (to_z w64 (of_z w64 p)) (to_z w64 (of_z w64 q)) ≡ true → p ≡ x → unsigned_abs p ≤ 268435456 → unsigned_abs q ≤ 268435456 → x <ℤ q
+place_below p q x h e a b = let f : lt_z p q ≡ true = rw (read64 p (omega arith), read64 q (omega arith)) at h in subst (λ z. z <ℤ q) e (lt_from p q f)
+
+pub place_above : (p q x : ℤ) → lt_z (to_z w64 (of_z w64 q)) (to_z w64 (of_z w64 p)) ≡ true → p ≡ x → unsigned_abs p ≤ 268435456 → unsigned_abs q ≤ 268435456 → q <ℤ x
+place_above p q x h e a b = let f : lt_z q p ≡ true = rw (read64 p (omega arith), read64 q (omega arith)) at h in subst (λ z. q <ℤ z) e (lt_from q p f)
+
+-- and of two depths
+pub no_less : (p q x y : ℤ) → lt_z (to_z w64 (of_z w64 p)) (to_z w64 (of_z w64 q)) ≡ false → p ≡ x → q ≡ y → unsigned_abs p ≤ 2147483647 → unsigned_abs q ≤ 2147483647 → y ≤ℤ x
+no_less p q x y h e f a b =
+    let g : lt_z p q ≡ false = rw (read64 p (omega arith), read64 q (omega arith)) at h in
+    subst (λ z. y ≤ℤ z) e (subst (λ z. z ≤ℤ p) f (not_lt p q g))
+  where
+    not_lt : (a b : ℤ) → lt_z a b ≡ false → b ≤ℤ a
+    not_lt a b e = omega (arith, ints, e)
+
+pub no_more : (p q x y : ℤ) → le_z (to_z w64 (of_z w64 p)) (to_z w64 (of_z w64 q)) ≡ true → p ≡ x → q ≡ y → unsigned_abs p ≤ 2147483647 → unsigned_abs q ≤ 2147483647 → x ≤ℤ y
+no_more p q x y h e f a b =
+    let g : le_z p q ≡ true = rw (read64 p (omega arith), read64 q (omega arith)) at h in
+    subst (λ z. x ≤ℤ z) f (subst (λ z. z ≤ℤ q) e (le_from p q g))
+  where
+    le_from : (a b : ℤ) → le_z a b ≡ true → a ≤ℤ b
+    le_from a b e = omega (arith, ints, e)

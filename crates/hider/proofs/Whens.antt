@@ -1,10 +1,6 @@
 -- A micropolygon that moves, at one time: as one that stays where that is then.
-use Rattle.std.proofs.Common.{◌≡◌, ℕ, ap, arith, refl, ◌∙◌, Bool, true, false, [], ◌∷◌, ◌&&◌, List, map, inl, inr, slice_index_or}
-use Rattle.std.specs.Prelude.{None, ℤ, ◌<ℤ◌, int_le, int_lt}
-use Rattle.std.proofs.lemmas.Int.{ints}
-use Rattle.fixed_math.specs.Spots.{Spot}
-use Rattle.fixed_math.specs.declared.vec3.Vec3.{Vec3}
-use Rattle.hider.specs.declared.raster_point.RasterPoint.{RasterPoint}
+use Rattle.std.proofs.Common.{◌≡◌, ℕ, ap, arith, refl, ◌∙◌, Bool, true, false, []}
+use Rattle.std.specs.Prelude.{None}
 use Rattle.std.specs.List.{cons_option}
 use Rattle.transforms.specs.declared.view.View.{View}
 use Rattle.hider.specs.declared.bounds.Bounds.{Bounds}
@@ -14,11 +10,9 @@ use Rattle.hider.specs.CellValues.{CellValues, cell_when, corners_when, micropol
 use Rattle.hider.specs.Cells.{is_turned_away, projected, still, turn}
 use Rattle.hider.specs.Coverage.{covers}
 use Rattle.hider.specs.Extents.{HasOneColour}
-use Rattle.hider.specs.Flat.{FlatCell, IsFlat, IsPlaced, are_all_seen, flat_quad, held_covers, is_seen, raster_point}
+use Rattle.hider.specs.Flat.{FlatCell, IsFlat, IsPlaced, are_all_seen, flat_quad, held_covers, raster_point}
 use Rattle.hider.specs.Fragments.{fragment_of, quad_covering}
-use Rattle.hider.specs.SeenCorners.{are_seen, columns_of, nth, AreOnOneSide}
-use Rattle.hider.proofs.Cuts.{by_bool}
-use Rattle.hider.proofs.Placing.{le_false}
+use Rattle.hider.specs.SeenCorners.{are_seen}
 use Rattle.hider.proofs.Flats.{held_is, not_held, placed_box, seen_flat, unseen_placed}
 use Rattle.hider.proofs.Moves.{seen_none}
 
@@ -114,56 +108,3 @@ unseen_corners w v i one_sided flip s e =
     let f = flat_at w v i s.time in
     let h = is_flat_at w v i s.time in
     unseen_when w v i f one_sided flip s h (seen_when w v i s.time f h ∙ e)
-
--- a box of four places that all lie on one side of another one doesn't hold that
-pub lt_from : (a b : ℤ) → int_lt a b ≡ true → a <ℤ b
-lt_from a b e = omega (arith, ints, e)
-
-right_of : (b : Bounds) (s : Spot) → b.right <ℤ s.x → holds b s ≡ false
-right_of b s h = by_bool (int_le b.left s.x) (λ l. rw (l, le_false s.x b.right h) refl) (λ l. rw l refl)
-
-left_of : (b : Bounds) (s : Spot) → s.x <ℤ b.left → holds b s ≡ false
-left_of b s h = rw (le_false b.left s.x h) refl
-
-one_side_none : (f : FlatCell) (s : Spot) → AreOnOneSide f.a.place f.b.place f.c.place f.d.place s → holds (bounds_of (flat_quad f)) s ≡ false
-unfolding bounds_of flat_quad
-one_side_none f s (inl h) = right_of (bounds_of (flat_quad f)) s h
-one_side_none f s (inr h) = left_of (bounds_of (flat_quad f)) s h
-
-pub four_across : (l : List Spot) (a b c d : ℤ) (p q r t : Spot) → map (λ s. s.x) l ≡ a ∷ b ∷ c ∷ d ∷ [] →
-    (slice_index_or l 0 p).x ∷ (slice_index_or l 1 q).x ∷ (slice_index_or l 2 r).x ∷ (slice_index_or l 3 t).x ∷ [] ≡ a ∷ b ∷ c ∷ d ∷ []
-four_across [] a b c d p q r t e = absurd (cc)
-four_across (w ∷ []) a b c d p q r t e = absurd (cc)
-four_across (w ∷ x ∷ []) a b c d p q r t e = absurd (cc)
-four_across (w ∷ x ∷ y ∷ []) a b c d p q r t e = absurd (cc)
-four_across (w ∷ x ∷ y ∷ z ∷ []) a b c d p q r t e = e
-four_across (w ∷ x ∷ y ∷ z ∷ u ∷ l) a b c d p q r t e = absurd (cc)
-
-pub one_side_when : (w : View) (v : CellValues) (i : ℕ) (one_sided flip : Bool) (s : Sample) (p q r t : Spot) → are_seen w (corners_when v i s.time) ≡ true →
-    p.x ∷ q.x ∷ r.x ∷ t.x ∷ [] ≡ columns_of w (corners_when v i s.time) → AreOnOneSide p q r t s.place → fragment_of w s (micropolygon_of v one_sided flip i) ≡ None
-unfolding flat_at
-one_side_when w v i one_sided flip s p q r t e columns side =
-    let f = flat_at w v i s.time in
-    let h = is_flat_at w v i s.time in
-    let a : p.x ≡ f.a.place.x = ap (λ l. slice_index_or l 0 p.x) columns in
-    let b : q.x ≡ f.b.place.x = ap (λ l. slice_index_or l 1 q.x) columns in
-    let c : r.x ≡ f.c.place.x = ap (λ l. slice_index_or l 2 r.x) columns in
-    let d : t.x ≡ f.d.place.x = ap (λ l. slice_index_or l 3 t.x) columns in
-    let there : AreOnOneSide f.a.place f.b.place f.c.place f.d.place s.place = rw (a, b, c, d) at side in
-    beside_when w v i f one_sided flip s (bounds_of (flat_quad f)) h (seen_when w v i s.time f h ∙ e) refl (one_side_none f s.place there)
-
--- ---- points at seen depths
-and_four : (a b c d : Bool) → (a && (b && (c && d))) ≡ true → (a ≡ true) × (b ≡ true) × (c ≡ true) × (d ≡ true)
-and_four true true true true e = (refl, refl, refl, refl)
-and_four true true true false e = absurd (cc)
-and_four true true false d e = absurd (cc)
-and_four true false c d e = absurd (cc)
-and_four false b c d e = absurd (cc)
-
-pub all_seen : (w : View) (corners : List Vec3) → are_seen w corners ≡ true →
-    (is_seen w (nth corners 0).z ≡ true) × (is_seen w (nth corners 1).z ≡ true) × (is_seen w (nth corners 2).z ≡ true) × (is_seen w (nth corners 3).z ≡ true)
-all_seen w corners e = and_four (is_seen w (nth corners 0).z) (is_seen w (nth corners 1).z) (is_seen w (nth corners 2).z) (is_seen w (nth corners 3).z) e
-
-pub point_is : (w : View) (p k : Vec3) (q : Spot) (r : RasterPoint) → is_seen w k.z ≡ true → p ≡ k → q ≡ (raster_point w k).place → r ≡ record { place = q; depth = p.z; is_seen = true } → r ≡ raster_point w k
-unfolding raster_point
-point_is w p k q r s a b e = rw (e, a, b, s) refl

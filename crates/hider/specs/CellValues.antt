@@ -6,7 +6,7 @@ use Rattle.std.proofs.Common.{arith}
 use Rattle.std.proofs.lemmas.Int.{ints, int_min_is, int_max_is}
 use Rattle.fixed_math.specs.declared.vec3.Vec3.{Vec3}
 use Rattle.fixed_math.specs.declared.vec3.Axis.{Axis}
-use Rattle.fixed_math.specs.Axes.{part_of, origin, IsInBox}
+use Rattle.fixed_math.specs.Axes.{part_of, origin}
 use Rattle.dice.specs.declared.diced.GridRef.{GridRef}
 use Rattle.hider.specs.declared.cell.CellCorner.{CellCorner}
 use Rattle.hider.specs.declared.cell.Cell.{Cell}
@@ -44,14 +44,6 @@ MovesBetween v = (i k s t u : ℕ) (a : Axis) → i < v.count → k < 4 → s �
 -- the four corners of cell i at a time
 abbrev pub corners_when : CellValues → ℕ → ℕ → List Vec3
 corners_when v i t = v.corner i 0 t ∷ v.corner i 1 t ∷ v.corner i 2 t ∷ v.corner i 3 t ∷ []
-
--- a box in camera space, by its first and its last corner, holds a point
-abbrev pub Encloses : List Vec3 → Vec3 → Type 0
-Encloses box p = (d e : Vec3) → IsInBox (slice_index_or box 0 d) (slice_index_or box 1 e) p
-
--- and it holds the corners of cell i at all times
-abbrev pub EnclosesCell : CellValues → ℕ → List Vec3 → Type 0
-EnclosesCell v i box = (k t : ℕ) → k < 4 → t ≤ 65535 → Encloses box (v.corner i k t)
 
 -- the number of corner k of a cell of a grid, whose first corner is point n
 abbrev pub corner_number : ℕ → ℕ → ℕ → ℕ

@@ -1,6 +1,5 @@
 -- Boxes in camera space round micropolygons that move.
-use Rattle.std.specs.Prelude.{ℕ, ◌<◌, ◌≤◌, ◌≤ℤ◌, ◌≡◌, ◌⊎◌, ℤ, pos, int_le, cond, Option, Some, List, All, slice_index_or}
-use Rattle.std.specs.Int.{int_min, int_max}
+use Rattle.std.specs.Prelude.{ℕ, ◌<◌, ◌≤◌, ◌≤ℤ◌, ◌≡◌, ℤ, Option, Some, List, All, slice_index_or}
 use Rattle.fixed_math.specs.declared.vec3.Vec3.{Vec3}
 use Rattle.fixed_math.specs.declared.vec3.Axis.{Axis}
 use Rattle.fixed_math.specs.Axes.{part_of, IsInBox, origin}
@@ -52,30 +51,3 @@ IsNoNearer z shown = (s : Sample) (f : Fragment) → s.time ≤ 65535 → shown 
 -- a depth between two is never one that a camera sees
 abbrev pub IsOutOfSight : View → ℤ → ℤ → Type 0
 IsOutOfSight v p q = (z : ℤ) → LiesBetween p q z → v.near ≤ℤ z → z ≤ℤ v.far → ⊥
-
--- two numbers aren't on either side of 0
-abbrev pub AreOnOneSide : ℤ → ℤ → Type 0
-AreOnOneSide x y = (pos 0 ≤ℤ x) ⊎ (y ≤ℤ pos 0)
-
--- of the two ends of an interval that isn't on either side of 0, the one away from 0 and the one towards it
-abbrev pub outer_end : ℤ → ℤ → ℤ
-outer_end x y = cond (int_le (pos 0) x) y x
-
-abbrev pub inner_end : ℤ → ℤ → ℤ
-inner_end x y = cond (int_le (pos 0) x) x y
-
--- the nearest corner of a box in camera space that is away from the middle of the picture, and the farthest towards it
-abbrev pub outer_corner : Vec3 → Vec3 → Vec3
-outer_corner lo hi = record { x = outer_end lo.x hi.x; y = outer_end lo.y hi.y; z = lo.z }
-
-abbrev pub inner_corner : Vec3 → Vec3 → Vec3
-inner_corner lo hi = record { x = inner_end lo.x hi.x; y = inner_end lo.y hi.y; z = hi.z }
-
--- the box on the raster between the places of two points
-abbrev pub between_places : View → Vec3 → Vec3 → Bounds
-between_places v p q = record {
-  left = int_min (raster_x v p) (raster_x v q);
-  right = int_max (raster_x v p) (raster_x v q);
-  top = int_min (raster_y v p) (raster_y v q);
-  bottom = int_max (raster_y v p) (raster_y v q);
-}

@@ -5,6 +5,7 @@ pub mod Fragments
 pub mod Composite
 pub mod Kept
 pub mod CellValues
+pub mod CellBoxes
 pub mod Tiles
 pub mod Searching
 pub mod Extents
@@ -14,3 +15,4 @@ pub mod Flat
 pub mod Steps
 pub mod StepRows
 pub mod SeenCorners
+pub mod Outermost

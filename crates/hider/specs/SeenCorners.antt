@@ -1,11 +1,9 @@
 -- The corners of a cell on the raster, for private contracts alone.
-use Rattle.std.specs.Prelude.{ℕ, ℤ, ◌<ℤ◌, ◌⊎◌, ◌&&◌, Bool, List, [], ◌∷◌, slice_index_or}
+use Rattle.std.specs.Prelude.{ℕ, ◌&&◌, Bool, List, [], ◌∷◌, slice_index_or}
 use Rattle.fixed_math.specs.declared.vec3.Vec3.{Vec3}
 use Rattle.fixed_math.specs.Axes.{origin}
-use Rattle.fixed_math.specs.Spots.{Spot}
 use Rattle.transforms.specs.declared.view.View.{View}
 use Rattle.hider.specs.declared.raster_point.RasterPoint.{RasterPoint}
-use Rattle.hider.specs.Bounding.{least_of, greatest_of}
 use Rattle.hider.specs.Flat.{is_seen, raster_point}
 
 -- corner k
@@ -19,11 +17,3 @@ are_seen v corners = is_seen v (nth corners 0).z && (is_seen v (nth corners 1).z
 -- all four as a camera sees them
 abbrev pub points_of : View → List Vec3 → List RasterPoint
 points_of v corners = raster_point v (nth corners 0) ∷ raster_point v (nth corners 1) ∷ raster_point v (nth corners 2) ∷ raster_point v (nth corners 3) ∷ []
-
--- and how far across they lie
-abbrev pub columns_of : View → List Vec3 → List ℤ
-columns_of v corners = (raster_point v (nth corners 0)).place.x ∷ (raster_point v (nth corners 1)).place.x ∷ (raster_point v (nth corners 2)).place.x ∷ (raster_point v (nth corners 3)).place.x ∷ []
-
--- four places all lie to the left of another one, or all to its right
-abbrev pub AreOnOneSide : Spot → Spot → Spot → Spot → Spot → Type 0
-AreOnOneSide a b c d s = (greatest_of a.x b.x c.x d.x <ℤ s.x) ⊎ (s.x <ℤ least_of a.x b.x c.x d.x)

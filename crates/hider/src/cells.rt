@@ -1,8 +1,11 @@
 // Micropolygons that may move.
 ghost use Rattle.std.specs.Prelude.{◌≡◌, ◌<◌, IfSome};
-ghost use Rattle.hider.specs.CellValues.{CellValues, EnclosesCell, MovesBetween, corners_when, values_of};
+ghost use Rattle.hider.specs.CellBoxes.{EnclosesCell};
+ghost use Rattle.hider.specs.CellValues.{CellValues, MovesBetween, corners_when, values_of};
 
+use crate::extents::{high_of_two, low_of_two};
 use crate::grid_cells::GridCells;
+use crate::moving_box::MovingBox;
 use fixed_math::Vec3;
 
 /// Micropolygons that may move: each is asked for its corners at a time, in 1/65536 of the shutter's interval, and for their
@@ -20,15 +23,40 @@ pub trait Cells {
         requires corner { k < 4 }
         ensures { result ≡ (values self.now).corner cell k time };
 
-    /// The four corners of a cell at a time, in that order.
+    /// The four corners of a cell at a time, in that order: each is asked for by [`Cells::corner`], unless the implementer has a
+    /// shorter way to all four.
     fn corners(&self, cell: usize, time: u16) -> [Vec3; 4]
         requires { cell < (values self.now).count }
-        ensures { result ≡ corners_when (values self.now) cell time };
+        ensures { result ≡ corners_when (values self.now) cell time }
+    {
+        [
+            self.corner(cell, 0, time),
+            self.corner(cell, 1, time),
+            self.corner(cell, 2, time),
+            self.corner(cell, 3, time),
+        ]
+    }
 
-    /// The first and the last corner of a box in camera space that holds the corners of a cell at all times.
-    fn extent(&self, cell: usize) -> [Vec3; 2]
+    /// A box in camera space that holds the corners of a cell at all times: the least that holds them when the shutter opens and
+    /// when it closes, and it stays where it is. An implementer that knows how they go may give a tighter box, which goes with them:
+    /// the tighter it is, the fewer samples are tried.
+    fn moving_box(&self, cell: usize) -> MovingBox
         requires { cell < (values self.now).count }
-        ensures { EnclosesCell (values self.now) cell result };
+        ensures { EnclosesCell (values self.now) cell result }
+    {
+        let first = self.corners(cell, 0);
+        let last = self.corners(cell, 65535);
+        let low = low_of_two(&first, &last);
+        let high = high_of_two(&first, &last);
+        let closing_low = low;
+        let closing_high = high;
+        MovingBox {
+            low,
+            high,
+            closing_low,
+            closing_high,
+        }
+    }
 
     /// The colour of corner `k` of a cell.
     fn colour(&self, cell: usize, k: usize) -> Vec3

@@ -1,17 +1,19 @@
 // The points below and above all corners of a cell at two times.
-ghost use Rattle.std.specs.Prelude.{◌≡◌, ◌≤ℤ◌, All, IsTrue};
-ghost use Rattle.hider.specs.CellValues.{Encloses};
+ghost use Rattle.std.specs.Prelude.{◌≡◌, ◌≤ℤ◌, ℤ, IsTrue};
 ghost use Rattle.hider.specs.Extents.{IsBelow, IsBelowAll, IsAboveAll};
 
 use fixed_math::{Num, Vec3};
 
-fn lesser(a: Num, b: Num) -> Num
-    ensures { (result ≤ℤ a) × (result ≤ℤ b) }
+/// The lesser of two numbers.
+pub(crate) fn lesser(a: Num, b: Num) -> Num
+    ensures both { (result ≤ℤ a) × (result ≤ℤ b) }
+    ensures least { (l : ℤ) → l ≤ℤ a → l ≤ℤ b → l ≤ℤ result }
 {
     if a.raw() < b.raw() { a } else { b }
 }
 
-fn greater(a: Num, b: Num) -> Num
+/// The greater of two numbers.
+pub(crate) fn greater(a: Num, b: Num) -> Num
     ensures { (a ≤ℤ result) × (b ≤ℤ result) }
 {
     if a.raw() < b.raw() { b } else { a }
@@ -21,6 +23,7 @@ fn greater(a: Num, b: Num) -> Num
 pub(crate) fn low(a: Vec3, b: Vec3) -> Vec3
     ensures first { IsBelow result a }
     ensures second { IsBelow result b }
+    ensures depth { (l : ℤ) → l ≤ℤ a.z → l ≤ℤ b.z → l ≤ℤ result.z }
 {
     Vec3 {
         x: lesser(a.x, b.x),
@@ -74,14 +77,6 @@ pub(crate) fn high_of_two(first: &Corners, last: &Corners) -> Vec3
     ensures last { IsAboveAll result last.now }
 {
     high(high_of(first), high_of(last))
-}
-
-/// The first and the last corner of the least box in camera space that holds a cell at two places.
-pub fn extent_of(first: &[Vec3; 4], last: &[Vec3; 4]) -> [Vec3; 2]
-    ensures first { All (Encloses result) first.now }
-    ensures last { All (Encloses result) last.now }
-{
-    [low_of_two(first, last), high_of_two(first, last)]
 }
 
 /// Whether two points have the same coordinates.

@@ -4,7 +4,7 @@ ghost use Rattle.hider.specs.Cells.{still, first_corner, cells_of};
 ghost use Rattle.hider.specs.CellValues.{CellValues, corner_number, shade_number, values_of, micropolygons_of, stays_between};
 
 use crate::cells::Cells;
-use crate::extents::extent_of;
+use crate::moving_box::MovingBox;
 use dice::GridRef;
 use fixed_math::Vec3;
 
@@ -93,9 +93,9 @@ impl<'a> Cells for GridCells<'a> {
         ]
     }
 
-    fn extent(&self, cell: usize) -> [Vec3; 2] {
+    fn moving_box(&self, cell: usize) -> MovingBox {
         let corners = self.corners(cell, 0);
-        extent_of(&corners, &corners)
+        MovingBox::around(&corners, &corners)
     }
 
     fn colour(&self, cell: usize, k: usize) -> Vec3 {

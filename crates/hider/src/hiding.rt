@@ -16,7 +16,7 @@ use crate::extents::have_same_points;
 use crate::flat_hiding::{fill_boxes, fill_points, hide_grid};
 use crate::grid_cells::GridCells;
 use crate::list::FragmentList;
-use crate::moving::{MovingCell, cell_when};
+use crate::moving_cell::{MovingCell, cell_when};
 use crate::near::put_near;
 use crate::passing::passed_always;
 use crate::places::Places;
@@ -98,7 +98,9 @@ fn hide_cell<C: Cells>(
     requires enough { sample_count timed.now.places.grid ≤ length lists.old }
     ensures { OnOk result (HavePut timed.now.places.grid (covering camera.now (micropolygon_of (C.values cells.now) one_sided flip cell ∷ [])) lists.old lists.new) }
 {
-    let part = part_near(&timed.places.grid, &passed_always(cells, cell, camera));
+    let round = cells.moving_box(cell);
+    let passed = passed_always(cells, cell, &round, camera);
+    let part = part_near(&timed.places.grid, &passed);
     if part.left >= part.right {
         return Ok(());
     }
@@ -112,7 +114,7 @@ fn hide_cell<C: Cells>(
         hide_still(lists, &timed.places, &cell, camera, one_sided, flip)?;
         return Ok(());
     }
-    let shown = MovingCell::new(cells, cell, first, camera, one_sided, flip);
+    let shown = MovingCell::new(cells, cell, round, passed, camera, one_sided, flip);
     hide_moving(lists, timed, &shown)?;
     Ok(())
 }

@@ -7,9 +7,9 @@ use Rattle.fixed_math.specs.declared.vec3.Vec3.{Vec3}
 use Rattle.fixed_math.specs.declared.vec3.Axis.{Axis}
 use Rattle.fixed_math.specs.declared.vec3.Axis.TheVariants.{X, Y, Z}
 use Rattle.fixed_math.specs.Axes.{part_of, IsInBox}
-use Rattle.fixed_math.specs.Fixed.{sat}
-use Rattle.fixed_math.proofs.Fits.{sat_same}
-use Rattle.fixed_math.proofs.Weights.{floor_ge, floor_lt, floor_mono, scale_mono, scale_mono_down}
+use Rattle.fixed_math.specs.Fixed.{IsRaw}
+use Rattle.fixed_math.specs.Whole.{floor_by}
+use Rattle.fixed_math.proofs.Weights.{floor_down, floor_ge, floor_lt, floor_mono, mul_mono, mul-sub, scale_mono, scale_mono_down}
 use Rattle.moving.specs.Ways.{on_way, place_on_way, IsBetween}
 
 -- ---- the two ends
@@ -64,15 +64,37 @@ way-within n p q h =
     let ends = way-between 0 n 65536 p q (omega arith) h in
     subst (λ y. IsBetween p y (on_way n p q)) (way-end p q) (subst (λ x. IsBetween x (on_way 65536 p q) (on_way n p q)) (way-start p q) ends)
 
--- so it needs no saturation
-pub way-raw : (n : ℕ) (p q : ℤ) → n ≤ 65536 → unsigned_abs p ≤ 2147483647 → unsigned_abs q ≤ 2147483647 → sat (on_way n p q) ≡ on_way n p q
+-- so it is in range where these are
+pub way-raw : (n : ℕ) (p q : ℤ) → n ≤ 65536 → unsigned_abs p ≤ 2147483647 → unsigned_abs q ≤ 2147483647 → IsRaw (on_way n p q)
 way-raw n p q h a b =
     let low = (way-within n p q h).0 in
     let high = (way-within n p q h).1 in
-    sat_same (on_way n p q) (within (on_way n p q) p q a b low high)
+    within (on_way n p q) p q a b low high
   where
-    within : (z p q : ℤ) → unsigned_abs p ≤ 2147483647 → unsigned_abs q ≤ 2147483647 → int_min p q ≤ℤ z → z ≤ℤ int_max p q → unsigned_abs z ≤ 2147483647
-    within z p q a b low high = omega (arith, ints, clamps)
+    within : (z p q : ℤ) → unsigned_abs p ≤ 2147483647 → unsigned_abs q ≤ 2147483647 → int_min p q ≤ℤ z → z ≤ℤ int_max p q → IsRaw z
+    within z p q a b low high = (omega (arith, ints, clamps, a, b, low), omega (arith, ints, clamps, a, b, high))
+
+-- what doesn't move stays
+pub way-stays : (n : ℕ) (p : ℤ) → on_way n p p ≡ p
+way-stays n p =
+    let e = mul-sub n p p in
+    let low = floor_ge (pos n *ℤ (p -ℤ p)) (pos 0) 65536 (lit< tt) (omega (arith, ints, e)) in
+    let high = floor_lt (pos n *ℤ (p -ℤ p)) (pos 0) 65536 (lit< tt) (omega (arith, ints, e)) in
+    omega (arith, ints, low, high)
+
+-- what goes from no less to no less is less at no time
+pub way-mono : (n : ℕ) (p q r s : ℤ) → n ≤ 65536 → p ≤ℤ r → q ≤ℤ s → on_way n p q ≤ℤ on_way n r s
+way-mono n p q r s h first last =
+    let x = pos n *ℤ (q -ℤ p) in
+    let y = pos n *ℤ (s -ℤ r) in
+    let e = mul-sub n q p in
+    let f = mul-sub n s r in
+    let g = mul-sub n r p in
+    let i = mul_mono n q s last in
+    let j = scale_mono n 65536 (r -ℤ p) h (omega (arith, ints)) in
+    let k = floor_down x 65536 (lit< tt) in
+    let l = floor_ge y (floor_by x 65536 -ℤ (r -ℤ p)) 65536 (lit< tt) (omega (arith, ints, e, f, g, i, j, k)) in
+    omega (arith, ints, l)
 
 -- what holds two numbers holds all between them
 pub between-held : (l h x y z : ℤ) → IsBetween x y z → (l ≤ℤ x) × (x ≤ℤ h) → (l ≤ℤ y) × (y ≤ℤ h) → (l ≤ℤ z) × (z ≤ℤ h)
@@ -101,3 +123,15 @@ pub place-within : (n : ℕ) (p q : Vec3) (a : Axis) → n ≤ 65536 → IsBetwe
 place-within n p q X h = way-within n p.x q.x h
 place-within n p q Y h = way-within n p.y q.y h
 place-within n p q Z h = way-within n p.z q.z h
+
+-- a box whose corners are on their ways holds what goes from a place in the first box to one in the last
+pub way-in-box : (lo hi low high p q : Vec3) (n : ℕ) → n ≤ 65536 → IsInBox lo hi p → IsInBox low high q → IsInBox (place_on_way n lo low) (place_on_way n hi high) (place_on_way n p q)
+way-in-box lo hi low high p q n h i j X = (way-mono n lo.x low.x p.x q.x h (i X).0 (j X).0, way-mono n p.x q.x hi.x high.x h (i X).1 (j X).1)
+way-in-box lo hi low high p q n h i j Y = (way-mono n lo.y low.y p.y q.y h (i Y).0 (j Y).0, way-mono n p.y q.y hi.y high.y h (i Y).1 (j Y).1)
+way-in-box lo hi low high p q n h i j Z = (way-mono n lo.z low.z p.z q.z h (i Z).0 (j Z).0, way-mono n p.z q.z hi.z high.z h (i Z).1 (j Z).1)
+
+-- and what stays where it is
+pub place-stays : (n : ℕ) (p : Vec3) (a : Axis) → part_of a (place_on_way n p p) ≡ part_of a p
+place-stays n p X = way-stays n p.x
+place-stays n p Y = way-stays n p.y
+place-stays n p Z = way-stays n p.z

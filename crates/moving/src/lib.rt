@@ -11,4 +11,4 @@ mod ways;
 pub use closing::closing_place;
 pub use moments::steps_at;
 pub use moving::Moving;
-pub use ways::place_on_way;
+pub use ways::{on_way, place_on_way};

@@ -2,7 +2,7 @@
 ghost use Rattle.std.specs.Prelude.{◌≡◌, ◌≤◌, ◌*◌, ◌^◌, ℕ, pos, ◌-ℤ◌, ◌*ℤ◌, unsigned_abs};
 ghost use Rattle.fixed_math.specs.declared.vec3.Axis.{Axis};
 ghost use Rattle.fixed_math.specs.Axes.{part_of};
-ghost use Rattle.fixed_math.specs.Fixed.{sat};
+ghost use Rattle.fixed_math.specs.Fixed.{IsRaw};
 ghost use Rattle.fixed_math.specs.Whole.{floor_by};
 ghost use Rattle.moving.specs.Ways.{on_way as on_way_of, place_on_way as place_of, IsBetween};
 
@@ -34,20 +34,17 @@ fn step(p: Num, q: Num, steps: u32) -> i64
 fn reached(p: Num, q: Num, steps: u32) -> i64
     requires { steps ≤ 65536 }
     ensures value { result ≡ on_way_of steps p q }
-    ensures start { unsigned_abs p ≤ 2147483647 }
-    ensures end { unsigned_abs q ≤ 2147483647 }
+    ensures raw { IsRaw (on_way_of steps p q) }
 {
     p.raw() + step(p, q, steps)
 }
 
-/// The same as a number. It lies between both, so it is in range.
-fn on_way(p: Num, q: Num, steps: u32) -> Num
+/// The number `steps` of 65536 equal steps from `p` towards `q`, rounded down. It lies between both, so it is in range.
+pub fn on_way(p: Num, q: Num, steps: u32) -> Num
     requires { steps ≤ 65536 }
-    ensures value { result ≡ sat (on_way_of steps p q) }
-    ensures start { unsigned_abs p ≤ 2147483647 }
-    ensures end { unsigned_abs q ≤ 2147483647 }
+    ensures { result ≡ on_way_of steps p q }
 {
-    Num::sat(reached(p, q, steps) as i128)
+    Num::from_raw(reached(p, q, steps))
 }
 
 /// The place `steps` of 65536 equal steps on the straight way from `p` to `q`, each coordinate rounded down once. `steps` is at most

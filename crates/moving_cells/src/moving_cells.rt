@@ -5,7 +5,7 @@ ghost use Rattle.moving_cells.specs.MovingGrids.{values_when, moving-between};
 
 use dice::GridRef;
 use fixed_math::Vec3;
-use hider::{Cells, GridCells, extent_of};
+use hider::{Cells, GridCells, MovingBox};
 use moving::place_on_way;
 
 /// The micropolygons of a grid whose points go straight from their places to closing places while the shutter is open, or stay where
@@ -83,13 +83,13 @@ impl<'a> Cells for MovingCells<'a> {
         }
     }
 
-    fn extent(&self, cell: usize) -> [Vec3; 2] {
+    fn moving_box(&self, cell: usize) -> MovingBox {
         let opening = self.opening_cells().corners(cell, 0);
         match self.grid.closing {
-            None => extent_of(&opening, &opening),
+            None => MovingBox::around(&opening, &opening),
             Some(places) => {
                 let closing = self.closing_cells(places).corners(cell, 0);
-                extent_of(&opening, &closing)
+                MovingBox::around(&opening, &closing)
             }
         }
     }

@@ -10,6 +10,7 @@ use Rattle.scene.specs.declared.params.Param.{Param}
 use Rattle.rib_reader.specs.declared.req.Req.{Req}
 use Rattle.rib_reader.specs.declared.req.Req.TheVariants as reqs
 use Rattle.rib_reader.specs.declared.args.Arg.TheVariants.{Str}
+use Rattle.rib_reader.specs.declared.args.Arg.TheVariants as arrays
 use Rattle.scene.specs.declared.params.Class.TheVariants.{Uniform}
 use Rattle.scene.specs.declared.params.Kind.TheVariants.{Float}
 use Rattle.scene.specs.declared.params.Values.TheVariants.{Numbers}
@@ -200,3 +201,22 @@ declared : requests_of (word (kinds.Name (codes "Declare")) ∷ word (kinds.Str 
     ∷ [])
 unfolding raw_magnitude
 declared = refl
+
+-- a motion has two times, whatever else stands between them
+abbrev pub number : ℕ → Token
+number d = word (kinds.Number (digit d))
+
+three_times : requests_of (word (kinds.Name (codes "MotionBegin")) ∷ word kinds.Open ∷ number 0 ∷ number 1 ∷ number 2 ∷ word kinds.Close ∷ []) ≡ Err (S2, 1)
+three_times = refl
+
+one_time : requests_of (word (kinds.Name (codes "MotionBegin")) ∷ word kinds.Open ∷ number 0 ∷ word kinds.Close ∷ []) ≡ Err (S2, 1)
+one_time = refl
+
+times_back : requests_of (word (kinds.Name (codes "MotionBegin")) ∷ word kinds.Open ∷ number 1 ∷ number 0 ∷ word kinds.Close ∷ []) ≡ Err (S3, 1)
+unfolding raw_magnitude
+times_back = refl
+
+motion : requests_of (word (kinds.Name (codes "MotionBegin")) ∷ word kinds.Open ∷ number 0 ∷ number 1 ∷ word kinds.Close ∷ [])
+    ≡ Ok (record { name = reqs.MotionBegin; args = arrays.Numbers (digit 0 ∷ digit 1 ∷ []) ∷ []; params = []; line = 1 } ∷ [])
+unfolding raw_magnitude
+motion = refl

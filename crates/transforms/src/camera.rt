@@ -68,6 +68,28 @@ impl Camera {
         let _view = &self.view;
     }
 
+    /// How far across a point of camera space lies on the raster, in 1/256 pixel, put into -2^28 to 2^28.
+    pub fn column(&self, p: Vec3) -> i64
+        requires { self.now.near ≤ℤ p.z }
+        ensures value { result ≡ raster_x self.now p }
+        ensures bound { unsigned_abs (raster_x self.now p) ≤ 2 ^ 28 }
+    {
+        // the nearest depth is above 0, and so is this one
+        self.recall();
+        self.across(p.x.raw(), p.z.raw() as u32)
+    }
+
+    /// How far down it lies.
+    pub fn row(&self, p: Vec3) -> i64
+        requires { self.now.near ≤ℤ p.z }
+        ensures value { result ≡ raster_y self.now p }
+        ensures bound { unsigned_abs (raster_y self.now p) ≤ 2 ^ 28 }
+    {
+        // the nearest depth is above 0, and so is this one
+        self.recall();
+        self.down(p.y.raw(), p.z.raw() as u32)
+    }
+
     /// Where a point of camera space lies on the raster, across and down, in 1/256 pixel, put into -2^28 to 2^28.
     pub fn raster(&self, p: Vec3) -> [i64; 2]
         requires { self.now.near ≤ℤ p.z }

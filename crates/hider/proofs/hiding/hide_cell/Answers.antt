@@ -26,7 +26,7 @@ returns-then-part g c =
     let grid = c.args.timed.now.places.grid in
     let part = c.part_near-part.result in
     let w = c.args.camera.now in
-    let stays = moving_stays w v i c.args.one_sided c.args.flip c.passed_always.result part grid c.args.timed.now.places.valid c.part_near-part.ensures.near (c.passed_always.ensures c.args.one_sided c.args.flip) in
+    let stays = moving_stays w v i c.args.one_sided c.args.flip c.passed_always-passed.result part grid c.args.timed.now.places.valid c.part_near-part.ensures.near (c.passed_always-passed.ensures c.args.one_sided c.args.flip) in
     none_put w (micropolygon_of v c.args.one_sided c.args.flip i) part grid c.args.lists.now stays (λ n. no_column part grid n c.if-part.true)
 
 pub returns-then-part-2 : goal.returns-then-part-2
@@ -36,5 +36,5 @@ returns-then-part-2 g c =
     let grid = c.args.timed.now.places.grid in
     let part = c.part_near-part.result in
     let w = c.args.camera.now in
-    let stays = moving_stays w v i c.args.one_sided c.args.flip c.passed_always.result part grid c.args.timed.now.places.valid c.part_near-part.ensures.near (c.passed_always.ensures c.args.one_sided c.args.flip) in
+    let stays = moving_stays w v i c.args.one_sided c.args.flip c.passed_always-passed.result part grid c.args.timed.now.places.valid c.part_near-part.ensures.near (c.passed_always-passed.ensures c.args.one_sided c.args.flip) in
     none_put w (micropolygon_of v c.args.one_sided c.args.flip i) part grid c.args.lists.now stays (λ n. no_row part grid n c.if-part-2.true)

@@ -1,19 +1,30 @@
 use Rattle.std.proofs.Common.{arith, subst}
+use Rattle.fixed_math.specs.declared.vec3.Axis.TheVariants.{Z}
 use Rattle.hider.specs.CellValues.{corners_when}
 use Rattle.hider.specs.Extents.{Passed}
-use Rattle.hider.proofs.Boxes.{in_order}
+use Rattle.hider.specs.Outermost.{IsSeenAlways}
 use Rattle.hider.proofs.Moves.{stays_from, stays_held}
+use Rattle.hider.proofs.Passages.{held_always, seen_first, through}
 use Rattle.hider.proofs.passing.passed_always.Goals as goal
 
-pub raster_bounds-requires-clause-ordered : goal.raster_bounds-requires-clause-ordered
-raster_bounds-requires-clause-ordered g c =
-    let v = g.C.Cells.values c.args.cells.now in
-    in_order _ _ (v.corner c.args.cell 0 0) (c.extent.ensures 0 0 (omega arith) (omega arith) _ _)
+pub raster_bounds-requires-clause-near : goal.raster_bounds-requires-clause-near
+raster_bounds-requires-clause-near g c =
+    let seen : IsSeenAlways c.args.camera.now c.args.round.now = c.is_seen.ensures c.if-is_seen.true in
+    c.low-lo.ensures.depth c.args.camera.now.near seen.near seen.closing_near
 
-pub returns-then-raw-2 : goal.returns-then-raw-2
-returns-then-raw-2 g c = λ one_sided flip.
+pub raster_bounds-requires-clause-far : goal.raster_bounds-requires-clause-far
+raster_bounds-requires-clause-far g c =
+    let w = c.args.camera.now in
+    let b = c.args.round.now in
+    let seen : IsSeenAlways w b = c.is_seen.ensures c.if-is_seen.true in
+    through w.near b.high.z c.high-hi.result.z (seen_first w b (g.C.Cells.values c.args.cells.now) c.args.cell seen c.requires.round) (c.high-hi.ensures.first Z)
+
+pub returns-then-is_seen : goal.returns-then-is_seen
+returns-then-is_seen g c = λ one_sided flip.
     let v = g.C.Cells.values c.args.cells.now in
-    stays_held c.args.camera.now v c.args.cell one_sided flip _ _ c.raster_bounds.result (λ k t l m. c.extent.ensures k t l m _ _) c.raster_bounds.ensures
+    stays_held c.args.camera.now v c.args.cell one_sided flip c.low-lo.result c.high-hi.result c.raster_bounds.result
+    (held_always v c.args.cell c.args.round.now c.low-lo.result c.high-hi.result c.low-lo.ensures.first c.low-lo.ensures.second c.high-hi.ensures.first c.high-hi.ensures.second c.requires.round)
+    c.raster_bounds.ensures
 
 pub returns : goal.returns
 returns g c = λ one_sided flip s t outside.
