@@ -38,6 +38,31 @@ passed_in w first last lo hi b n m lf ll hf hl h corner between seen k l =
     let j : k < length last = omega (arith, m, l) in
     h (corner k) (corner_in lo hi (slice_index_or first k origin) (slice_index_or last k origin) (corner k) (lf k origin i) (ll k origin j) (hf k origin i) (hl k origin j) (between k l))
 
+-- what is seen of it reaches no nearer than near, so that the box may begin there
+pub passed_behind : (w : View) (first last : List Vec3) (lo hi cut : Vec3) (b : Bounds) → length first ≡ 4 → length last ≡ 4 → IsBelowAll lo first → IsBelowAll lo last → IsAboveAll hi first → IsAboveAll hi last →
+    cut.x ≡ lo.x → cut.y ≡ lo.y → cut.z ≡ w.near → HoldsRaster w cut hi b → Passed w first last b
+passed_behind w first last lo hi cut b n m lf ll hf hl ex ey ez h corner between seen k l =
+    let i : k < length first = omega (arith, n, l) in
+    let j : k < length last = omega (arith, m, l) in
+    let g : IsInBox lo hi (corner k) = corner_in lo hi (slice_index_or first k origin) (slice_index_or last k origin) (corner k) (lf k origin i) (ll k origin j) (hf k origin i) (hl k origin j) (between k l) in
+    h (corner k) (cut_in cut hi (corner k) (subst (λ z. z ≤ℤ (corner k).x) (sym ex) (g X).0) (subst (λ z. z ≤ℤ (corner k).y) (sym ey) (g Y).0) (subst (λ z. z ≤ℤ (corner k).z) (sym ez) (seen k l).0) (g X).1 (g Y).1 (g Z).1)
+  where
+    cut_in : (a b p : Vec3) → a.x ≤ℤ p.x → a.y ≤ℤ p.y → a.z ≤ℤ p.z → p.x ≤ℤ b.x → p.y ≤ℤ b.y → p.z ≤ℤ b.z → IsInBox a b p
+    cut_in a b p u v x y z t X = (u, y)
+    cut_in a b p u v x y z t Y = (v, z)
+    cut_in a b p u v x y z t Z = (x, t)
+
+-- and where all of it lies before near nothing is seen
+pub passed_before : (w : View) (first last : List Vec3) (hi : Vec3) (b : Bounds) → length first ≡ 4 → length last ≡ 4 → IsAboveAll hi first → IsAboveAll hi last → hi.z <ℤ w.near → Passed w first last b
+passed_before w first last hi b n m hf hl before corner between seen k l =
+    let i : k < length first = omega (arith, n, l) in
+    let j : k < length last = omega (arith, m, l) in
+    let p = (slice_index_or first k origin).z in
+    let q = (slice_index_or last k origin).z in
+    let high : (corner k).z ≤ℤ hi.z = below_both hi.z p q (corner k).z (hf k origin i Z) (hl k origin j Z) (between k l Z) in
+    let near = (seen k l).0 in
+    absurd (omega (arith, ints, high, near, before))
+
 -- ---- the raster's
 clamped_low : (z : ℤ) → negsuc 268435455 ≤ℤ clamped z
 clamped_low z = grind (arith, ints)
@@ -53,17 +78,6 @@ x_anywhere w p = let x = x_place (scale_of w) w.width (left w) (right w) p.x (un
 
 pub y_anywhere : (w : View) (p : Vec3) → (negsuc 268435455 ≤ℤ raster_y w p) × (raster_y w p ≤ℤ pos 268435456)
 y_anywhere w p = let y = y_place (scale_of w) w.height (bottom w) (top w) p.y (unsigned_abs p.z) in (clamped_low y, clamped_high y)
-
-pub passed_anywhere : (w : View) (first last : List Vec3) (b : Bounds) → b.left ≤ℤ negsuc 268435455 → pos 268435456 ≤ℤ b.right → b.top ≤ℤ negsuc 268435455 → pos 268435456 ≤ℤ b.bottom → Passed w first last b
-passed_anywhere w first last b l r t u corner between seen k h =
-    let p = corner k in
-    let x = x_anywhere w p in
-    let y = y_anywhere w p in (
-      through b.left (negsuc 268435455) (raster_x w p) l x.0,
-      through (raster_x w p) (pos 268435456) b.right x.1 r,
-      through b.top (negsuc 268435455) (raster_y w p) t y.0,
-      through (raster_y w p) (pos 268435456) b.bottom y.1 u,
-    )
 
 -- ---- depths
 pub out_before : (w : View) (p q : ℤ) → p <ℤ w.near → q <ℤ w.near → IsOutOfSight w p q

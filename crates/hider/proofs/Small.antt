@@ -66,6 +66,11 @@ no_less p q x y h e f a b =
     not_lt : (a b : ℤ) → lt_z a b ≡ false → b ≤ℤ a
     not_lt a b e = omega (arith, ints, e)
 
+pub less_than : (p q x y : ℤ) → lt_z (to_z w64 (of_z w64 p)) (to_z w64 (of_z w64 q)) ≡ true → p ≡ x → q ≡ y → unsigned_abs p ≤ 2147483647 → unsigned_abs q ≤ 2147483647 → x <ℤ y
+less_than p q x y h e f a b =
+    let g : lt_z p q ≡ true = rw (read64 p (omega arith), read64 q (omega arith)) at h in
+    subst (λ z. x <ℤ z) f (subst (λ z. z <ℤ q) e (lt_from p q g))
+
 pub no_more : (p q x y : ℤ) → le_z (to_z w64 (of_z w64 p)) (to_z w64 (of_z w64 q)) ≡ true → p ≡ x → q ≡ y → unsigned_abs p ≤ 2147483647 → unsigned_abs q ≤ 2147483647 → x ≤ℤ y
 no_more p q x y h e f a b =
     let g : le_z p q ≡ true = rw (read64 p (omega arith), read64 q (omega arith)) at h in

@@ -73,7 +73,7 @@ fn is_never_seen(camera: &Camera, first: &Corners, last: &Corners) -> bool
 }
 
 /// A box on the raster of all that shows of a cell between two times at which it lies in a box in camera space: none where a corner
-/// is out of sight in depth, and all places where it passes the near plane.
+/// is out of sight in depth. Nothing shows while a corner is before near, so the box reaches no nearer than that.
 fn passed_in(camera: &Camera, first: &Corners, last: &Corners, lo: Vec3, hi: Vec3) -> Bounds
     requires first_low { IsBelowAll lo first.now }
     requires last_low { IsBelowAll lo last.now }
@@ -81,18 +81,22 @@ fn passed_in(camera: &Camera, first: &Corners, last: &Corners, lo: Vec3, hi: Vec
     requires last_high { IsAboveAll hi last.now }
     ensures { Passed camera.now first.now last.now result }
 {
-    let view = camera.view();
-    let is_before = lo.z.raw() < view.near.raw();
-    let is_beyond = view.far.raw() < hi.z.raw();
-    if is_before || is_beyond {
-        if is_never_seen(camera, first, last) {
-            return NOWHERE;
-        }
+    let near = camera.view().near;
+    if hi.z.raw() < near.raw() {
+        return NOWHERE;
     }
-    if is_before {
-        return EVERYWHERE;
+    if is_never_seen(camera, first, last) {
+        return NOWHERE;
     }
-    raster_bounds(camera, lo, hi)
+    if near.raw() <= lo.z.raw() {
+        return raster_bounds(camera, lo, hi);
+    }
+    let seen = Vec3 {
+        x: lo.x,
+        y: lo.y,
+        z: near,
+    };
+    raster_bounds(camera, seen, hi)
 }
 
 /// The same between any two times.
