@@ -1,18 +1,17 @@
 -- The weights of a gaussian for pairs of offsets.
-use Rattle.std.proofs.Common.{◌≡◌, ◌≢◌, ◌∙◌, ap, sym, arith, refl, ℕ, ◌+◌, ◌-◌, ◌*◌, ◌/◌, ◌%◌, ◌<◌, ◌≤◌, ℤ, pos, ◌+ℤ◌, ◌-ℤ◌, List, [], ◌∷◌, ◌++◌, length, get_or}
+use Rattle.std.proofs.Common.{◌≡◌, ◌≢◌, ◌∙◌, ap, sym, arith, refl, ℕ, ◌+◌, ◌-◌, ◌*◌, ◌/◌, ◌%◌, ◌<◌, ◌≤◌, ℤ, pos, ◌+ℤ◌, ◌-ℤ◌, List, length, get_or}
 use Rattle.std.proofs.lemmas.Int.{ints}
 use Rattle.std.proofs.lemmas.Nat.{div-mul-add, mod-mul-add}
 use Rattle.fixed_math.specs.Fixed.{add}
 use Rattle.scene.specs.declared.filter.Filter.{Filter}
 use Rattle.scene.specs.declared.filter.Filter.TheVariants.{Gaussian}
 use Rattle.filter_ppm.specs.declared.bells.Side.{Side}
-use Rattle.filter_ppm.specs.declared.bells.Bells.{Bells}
 use Rattle.filter_ppm.specs.Tables.{part, joined, power, IsTable}
-use Rattle.filter_ppm.specs.Bells.{number, IsSide, AreBells, IsBellRow}
+use Rattle.filter_ppm.specs.Bells.{number, IsSide, IsBell, AreFirstBells, AreBells, IsBellRow}
+use Rattle.fixed_math.proofs.Sat.{add_comm}
 use Rattle.filter_ppm.proofs.Grids.{before_pixel}
-use Rattle.filter_ppm.proofs.Spans.{by_lt, by_place}
-use Rattle.std.proofs.Math.ListN.{get_or-append}
-use Rattle.std.proofs.Math.Seq.{get_or-append_seam}
+use Rattle.filter_ppm.proofs.Rows.{earlier_row}
+use Rattle.filter_ppm.proofs.Spans.{by_lt}
 
 -- the place that serves for a place
 pub served : (f : Filter) (w : ℕ) (s : Side) (k r : ℕ) → IsSide f w s → k < w → (k < s.count → r ≡ k) → (s.count ≤ k → r ≡ s.width - k) → (r < s.count) × (number f w r ≡ number f w k)
@@ -45,44 +44,60 @@ whole_side f w table s t width count =
     record { width = width ∙ long; opposite = λ k ge lt. absurd (omega (arith, ge, lt, count, long)) }
 
 -- the weights of all pairs of squares, by rows
-pub bells_from : (wx wy : ℕ) (across down : List ℤ) (b : Bells) → IsTable Gaussian wx across → IsTable Gaussian wy down → IsSide Gaussian wx b.across → IsSide Gaussian wy b.down →
-    1 ≤ b.across.count → b.across.count ≤ length across → length b.weights.items ≤ length down * b.across.count →
-    ((k : ℕ) → k < length b.weights.items → get_or b.weights.items k 0 ≢ 0 → pos (get_or b.weights.items k 0) ≡ power (add (get_or across (k % b.across.count) (pos 0)) (get_or down (k / b.across.count) (pos 0)))) →
-    AreBells Gaussian wx wy b
+pub bells_from : (wx wy : ℕ) (across down : List ℤ) (columns rows : Side) (weights : List ℕ) → IsTable Gaussian wx across → IsTable Gaussian wy down → IsSide Gaussian wx columns → IsSide Gaussian wy rows →
+    1 ≤ columns.count → columns.count ≤ length across → length weights ≤ length down * columns.count → AreFirstBells across down columns.count weights → AreBells Gaussian wx wy columns rows weights
 unfolding joined
-bells_from wx wy across down b tx ty sx sy some columns rows each = record {
+bells_from wx wy across down columns rows weights tx ty sx sy some wide_enough high_enough first = record {
   across = λ _. sx;
   down = λ _. sy;
-  weights = λ i j inside within kept.
-      let c = b.across.count in
+  each = λ i j inside within kept.
+      let c = columns.count in
       let m : (j * c + i) % c ≡ i = mod-mul-add j c i inside in
       let d : (j * c + i) / c ≡ j = div-mul-add j c i inside in
-      let row : (j * c + i) / c < length down = before_pixel (j * c + i) c (length down) (omega (arith, some)) (omega (arith, within, rows)) in
-      let e = rw (m, d) at (each (j * c + i) within kept) in
+      let row : (j * c + i) / c < length down = before_pixel (j * c + i) c (length down) (omega (arith, some)) (omega (arith, within, high_enough)) in
+      let e = rw (m, d) at (first (j * c + i) within kept) in
       let wide = tx.long in
       let high = ty.long in
-      let p = tx.parts i (omega (arith, inside, columns, wide)) in
+      let p = tx.parts i (omega (arith, inside, wide_enough, wide)) in
       let q = ty.parts j (omega (arith, row, d, high)) in
       e ∙ rw (p, q) refl;
 }
 
-pub no_bells : (f : Filter) (wx wy : ℕ) (b : Bells) → length b.weights.items ≡ 0 → AreBells f wx wy b
-no_bells f wx wy b none = record {
+pub no_bells : (f : Filter) (wx wy : ℕ) (columns rows : Side) (weights : List ℕ) → length weights ≡ 0 → AreBells f wx wy columns rows weights
+no_bells f wx wy columns rows weights none = record {
   across = λ some. absurd (omega (arith, some, none));
   down = λ some. absurd (omega (arith, some, none));
-  weights = λ i j inside within kept. absurd (omega (arith, within, none));
+  each = λ i j inside within kept. absurd (omega (arith, within, none));
 }
 
-pub row_from : (f : Filter) (wx wy : ℕ) (b : Bells) (place row start : ℕ) → AreBells f wx wy b → place < wy → start ≡ row * b.across.count →
-    (place < b.down.count → row ≡ place) → (b.down.count ≤ place → row ≡ b.down.width - place) → IsBellRow f wx (number f wy place) b.across start b.weights.items
-row_from f wx wy b place row start h inside es near far = record {
+pub row_from : (f : Filter) (wx wy : ℕ) (columns rows : Side) (weights : List ℕ) (place row start : ℕ) → AreBells f wx wy columns rows weights → place < wy → start ≡ row * columns.count →
+    (place < rows.count → row ≡ place) → (rows.count ≤ place → row ≡ rows.width - place) → IsBellRow f wx (number f wy place) columns start weights
+row_from f wx wy columns rows weights place row start h inside es near far = record {
   side = h.across;
   each = λ i in_row within kept.
-      let there : row * b.across.count + i < length b.weights.items = rw es at within in
-      let some : 0 < length b.weights.items = omega (arith, there) in
-      let is = served f wy b.down place row (h.down some) inside near far in
-      rw es (h.weights i row in_row there (rw es at kept) ∙ ap (joined f (number f wx i)) is.1);
+      let there : row * columns.count + i < length weights = rw es at within in
+      let some : 0 < length weights = omega (arith, there) in
+      let is = served f wy rows place row (h.down some) inside near far in
+      rw es (h.each i row in_row there (rw es at kept) ∙ ap (joined f (number f wx i)) is.1);
 }
+
+-- a weight is that of the pair turned round, where both tables are the same
+pub turned_bell : (across down : List ℤ) (columns k : ℕ) (weights : List ℕ) → ((i : ℕ) → i < length across → get_or across i (pos 0) ≡ get_or down i (pos 0)) → AreFirstBells across down columns weights →
+    k ≡ length weights → columns ≤ length across → k % columns < k / columns → k / columns < columns → IsBell across down columns k (get_or weights (k % columns * columns + k / columns) 0)
+turned_bell across down columns k weights same first is wide less low =
+    let i = k % columns in
+    let j = k / columns in
+    let some : 0 < columns = omega (arith, low) in
+    let before : i * columns + j < j * columns = earlier_row i j columns j less low in
+    let parts : j * columns + i ≡ k = omega arith in
+    let inside : i * columns + j < length weights = omega (arith, before, parts, is) in
+    let m : (i * columns + j) % columns ≡ j = mod-mul-add i columns j low in
+    let d : (i * columns + j) / columns ≡ i = div-mul-add i columns j low in
+    let p : get_or across j (pos 0) ≡ get_or down j (pos 0) = same j (omega (arith, low, wide)) in
+    let q : get_or across i (pos 0) ≡ get_or down i (pos 0) = same i (omega (arith, less, low, wide)) in
+    let turned : add (get_or across j (pos 0)) (get_or down i (pos 0)) ≡ add (get_or across i (pos 0)) (get_or down j (pos 0)) =
+    ap (λ z. add z (get_or down i (pos 0))) p ∙ add_comm (get_or down j (pos 0)) (get_or down i (pos 0)) ∙ ap (λ z. add z (get_or down j (pos 0))) (sym q) in
+    λ kept. (let e = rw (m, d) at (first (i * columns + j) inside kept) in e) ∙ ap power turned
 
 pub weight_by : (f : Filter) (wx : ℕ) (q : ℤ) (s : Side) (start : ℕ) (weights : List ℕ) (place at : ℕ) → IsBellRow f wx q s start weights → place < wx → (place < s.count → at ≡ place) → (s.count ≤ place → at ≡ s.width - place) →
     start + at < length weights → get_or weights (start + at) 0 ≢ 0 → pos (get_or weights (start + at) 0) ≡ joined f (number f wx place) q
@@ -96,10 +111,3 @@ pub number_is : (f : Filter) (w k : ℕ) (d : ℤ) → pos k ≡ d +ℤ pos (w /
 number_is f w k d e =
     let at_d : pos k -ℤ pos (w / 2) ≡ d = omega (arith, ints, e) in
     ap (part f w) at_d
-
--- one item more
-pub each_more : (P : ℕ → ℕ → Type 0) (old new : List ℕ) (n x : ℕ) → length old ≡ n → ((i : ℕ) → i < n → P i (get_or old i 0)) → P n x → new ≡ old ++ x ∷ [] → (i : ℕ) → i < n + 1 → P i (get_or new i 0)
-each_more P old new n x long each last is i h = rw is (by_place i n
-    (λ lt. let front = get_or-append old (x ∷ []) 0 i (omega (arith, long, lt)) in rw front (each i lt))
-    (λ same. let e : get_or (old ++ x ∷ []) i 0 ≡ x = ap (λ k. get_or (old ++ x ∷ []) k 0) (same ∙ sym long) ∙ get_or-append_seam old x [] 0 in rw (e, same) last)
-    (λ gt. absurd (omega (arith, h, gt))))

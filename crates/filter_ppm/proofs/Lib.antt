@@ -11,5 +11,6 @@ pub mod Totals
 pub mod SumsBelow
 pub mod Rows
 pub mod Windows
+pub mod AllBlack
 pub mod Bands
 pub mod Puts

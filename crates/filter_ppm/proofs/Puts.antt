@@ -15,8 +15,7 @@ use Rattle.filter_ppm.specs.Film.{FilmValues, pixel, pixels}
 use Rattle.filter_ppm.specs.Levels.{levels}
 use Rattle.filter_ppm.specs.Sampled.{FilmFormat, IsFormat, format_of, film_with}
 use Rattle.filter_ppm.specs.Bands.{IsPartOfPicture, HoldsWindow, PutsPixels, seen_from, grid_over, entry}
-use Rattle.filter_ppm.specs.Sums.{IsRect, AreTotals, as_rect, mean_of, total_at, first_samples}
-use Rattle.filter_ppm.proofs.Rows.{mean_is}
+use Rattle.filter_ppm.specs.Sums.{IsRect, AreMeans, as_rect, mean_of, total_at}
 use Rattle.filter_ppm.proofs.Windows.{pixel_from}
 use Rattle.filter_ppm.proofs.Grids.{before_pixel}
 
@@ -78,31 +77,31 @@ IsBeside left right r old new = (x y : ℕ) → (x < r.left) ⊎ (r.right ≤ x)
 
 -- what the sums of the seen samples tell of a pixel
 pixel_told : (f : FilmValues) (q : PixelRect) (totals : List Total) (x y : ℕ) → IsCrop f.width f.height q →
-    (let g = grid_over (seen_from (format_of f) q) f.options in AreTotals f.options f.colour g (sample_count g) (as_rect q) totals) →
+    (let g = grid_over (seen_from (format_of f) q) f.options in AreMeans f.options f.colour g (sample_count g) (as_rect q) totals) →
     q.left ≤ x → x < q.right → q.top ≤ y → y < q.bottom → levels f.options (mean_of (total_at (as_rect q) totals x y)) ≡ pixel f x y
-pixel_told f q totals x y p sums a b c d =
+pixel_told f q totals x y p means a b c d =
     let g = grid_over (seen_from (format_of f) q) f.options in
     let w = p.in_width in
     let h = p.in_height in
-    ap (levels f.options) (mean_is f.options f.colour x y (first_samples g (sample_count g)) (total_at (as_rect q) totals x y) (sums x y a b c d))
+    ap (levels f.options) (means x y a b c d)
     ∙ sym (pixel_from f (seen_from (format_of f) q) x y (holds (format_of f) q x y a b c d) (omega (arith, b, w)) (omega (arith, d, h)))
 
 pub puts : (f : FilmValues) (q : PixelRect) (totals : List Total) (old new : List (List ℕ)) → IsCrop f.width f.height q →
-    (let g = grid_over (seen_from (format_of f) q) f.options in AreTotals f.options f.colour g (sample_count g) (as_rect q) totals) →
+    (let g = grid_over (seen_from (format_of f) q) f.options in AreMeans f.options f.colour g (sample_count g) (as_rect q) totals) →
     IsInside (crop_of f.options).left (crop_of f.options).right f.options (as_rect q) totals new → IsBeside (crop_of f.options).left (crop_of f.options).right (as_rect q) old new → PutsPixels f q old new
-puts f q totals old new p sums inside beside = record {
-  inside = λ x y a b c d. inside x y a b c d ∙ pixel_told f q totals x y p sums a b c d;
+puts f q totals old new p means inside beside = record {
+  inside = λ x y a b c d. inside x y a b c d ∙ pixel_told f q totals x y p means a b c d;
   beside = beside;
 }
 
 pub puts_as : (f : FilmFormat) (colour : Sample → Vec3) (q : PixelRect) (r : Rect) (left right : ℕ) (o k : OptionValues) (g : SampleGrid) (totals : List Total) (old new : List (List ℕ)) →
-    r ≡ as_rect q → left ≡ (crop_of o).left → right ≡ (crop_of o).right → o ≡ f.options → k ≡ f.options → g ≡ grid_over (seen_from f q) f.options → IsCrop f.width f.height q → AreTotals k colour g (sample_count g) r totals →
+    r ≡ as_rect q → left ≡ (crop_of o).left → right ≡ (crop_of o).right → o ≡ f.options → k ≡ f.options → g ≡ grid_over (seen_from f q) f.options → IsCrop f.width f.height q → AreMeans k colour g (sample_count g) r totals →
     IsInside left right o r totals new → IsBeside left right r old new → PutsPixels (film_with f colour) q old new
-puts_as f colour q r left right o k g totals old new er el ei eo ek eg p sums inside beside =
+puts_as f colour q r left right o k g totals old new er el ei eo ek eg p means inside beside =
     let s = grid_over (seen_from f q) f.options in
-    let sums1 = subst (λ (z : Rect). AreTotals k colour g (sample_count g) z totals) er sums in
-    let sums2 = subst (λ (z : SampleGrid). AreTotals k colour z (sample_count z) (as_rect q) totals) eg sums1 in
-    let sums3 = subst (λ (z : OptionValues). AreTotals z colour s (sample_count s) (as_rect q) totals) ek sums2 in
+    let means1 = subst (λ (z : Rect). AreMeans k colour g (sample_count g) z totals) er means in
+    let means2 = subst (λ (z : SampleGrid). AreMeans k colour z (sample_count z) (as_rect q) totals) eg means1 in
+    let means3 = subst (λ (z : OptionValues). AreMeans z colour s (sample_count s) (as_rect q) totals) ek means2 in
     let inside1 = subst (λ (z : Rect). IsInside left right o z totals new) er inside in
     let inside2 = subst (λ (z : ℕ). IsInside z right o (as_rect q) totals new) el inside1 in
     let inside3 = subst (λ (z : ℕ). IsInside (crop_of o).left z o (as_rect q) totals new) ei inside2 in
@@ -111,13 +110,13 @@ puts_as f colour q r left right o k g totals old new er el ei eo ek eg p sums in
     let beside2 = subst (λ (z : ℕ). IsBeside z right (as_rect q) old new) el beside1 in
     let beside3 = subst (λ (z : ℕ). IsBeside (crop_of o).left z (as_rect q) old new) ei beside2 in
     let beside4 = subst (λ (z : OptionValues). IsBeside (crop_of z).left (crop_of z).right (as_rect q) old new) eo beside3 in
-    puts (film_with f colour) q totals old new p sums3 inside4 beside4
+    puts (film_with f colour) q totals old new p means3 inside4 beside4
 
 -- the pixels of a rectangle by themselves
 alone_entry : (f : FilmValues) (q : PixelRect) (totals : List Total) (new : List (List ℕ)) (p : ℕ) → IsCrop f.width f.height q →
-    (let g = grid_over (seen_from (format_of f) q) f.options in AreTotals f.options f.colour g (sample_count g) (as_rect q) totals) →
+    (let g = grid_over (seen_from (format_of f) q) f.options in AreMeans f.options f.colour g (sample_count g) (as_rect q) totals) →
     IsInside q.left q.right f.options (as_rect q) totals new → p < pixel_count q → get_or new p [] ≡ pixel f (pixel_x q p) (pixel_y q p)
-alone_entry f q totals new p crop sums inside h =
+alone_entry f q totals new p crop means inside h =
     let w = q.right - q.left in
     let high = q.bottom - q.top in
     let wide = crop.across in
@@ -133,26 +132,26 @@ alone_entry f q totals new p crop sums inside h =
     let b : q.left + p % w < q.right = omega (arith, column) in
     let c : q.top ≤ q.top + p / w = omega arith in
     let d : q.top + p / w < q.bottom = omega (arith, row) in
-    ap (λ n. get_or new n []) (sym place) ∙ inside (q.left + p % w) (q.top + p / w) a b c d ∙ pixel_told f q totals (q.left + p % w) (q.top + p / w) crop sums a b c d
+    ap (λ n. get_or new n []) (sym place) ∙ inside (q.left + p % w) (q.top + p / w) a b c d ∙ pixel_told f q totals (q.left + p % w) (q.top + p / w) crop means a b c d
 
 alone : (f : FilmValues) (q : PixelRect) (totals : List Total) (new : List (List ℕ)) → IsCrop f.width f.height q →
-    (let g = grid_over (seen_from (format_of f) q) f.options in AreTotals f.options f.colour g (sample_count g) (as_rect q) totals) →
+    (let g = grid_over (seen_from (format_of f) q) f.options in AreMeans f.options f.colour g (sample_count g) (as_rect q) totals) →
     IsInside q.left q.right f.options (as_rect q) totals new → length new ≡ (q.bottom - q.top) * (q.right - q.left) → new ≡ pixels f q
-alone f q totals new crop sums inside long =
-    fill_by_all _ new (pixel_count q) [] (long ∙ mul_comm (q.bottom - q.top) (q.right - q.left)) (λ k h. alone_entry f q totals new k crop sums inside h)
+alone f q totals new crop means inside long =
+    fill_by_all _ new (pixel_count q) [] (long ∙ mul_comm (q.bottom - q.top) (q.right - q.left)) (λ k h. alone_entry f q totals new k crop means inside h)
 
 pub alone_as : (f : FilmFormat) (colour : Sample → Vec3) (q : PixelRect) (r : Rect) (o k : OptionValues) (g : SampleGrid) (totals : List Total) (new : List (List ℕ)) →
-    r ≡ as_rect q → o ≡ f.options → k ≡ f.options → g ≡ grid_over (seen_from f q) f.options → IsCrop f.width f.height q → AreTotals k colour g (sample_count g) r totals →
+    r ≡ as_rect q → o ≡ f.options → k ≡ f.options → g ≡ grid_over (seen_from f q) f.options → IsCrop f.width f.height q → AreMeans k colour g (sample_count g) r totals →
     IsInside r.left r.right o r totals new → length new ≡ (r.bottom - r.top) * (r.right - r.left) → new ≡ pixels (film_with f colour) q
-alone_as f colour q r o k g totals new er eo ek eg p sums inside long =
+alone_as f colour q r o k g totals new er eo ek eg p means inside long =
     let s = grid_over (seen_from f q) f.options in
-    let sums1 = subst (λ (z : Rect). AreTotals k colour g (sample_count g) z totals) er sums in
-    let sums2 = subst (λ (z : SampleGrid). AreTotals k colour z (sample_count z) (as_rect q) totals) eg sums1 in
-    let sums3 = subst (λ (z : OptionValues). AreTotals z colour s (sample_count s) (as_rect q) totals) ek sums2 in
+    let means1 = subst (λ (z : Rect). AreMeans k colour g (sample_count g) z totals) er means in
+    let means2 = subst (λ (z : SampleGrid). AreMeans k colour z (sample_count z) (as_rect q) totals) eg means1 in
+    let means3 = subst (λ (z : OptionValues). AreMeans z colour s (sample_count s) (as_rect q) totals) ek means2 in
     let inside1 = subst (λ (z : Rect). IsInside z.left z.right o z totals new) er inside in
     let inside2 = subst (λ (z : OptionValues). IsInside q.left q.right z (as_rect q) totals new) eo inside1 in
     let long1 = subst (λ (z : Rect). length new ≡ (z.bottom - z.top) * (z.right - z.left)) er long in
-    alone (film_with f colour) q totals new p sums3 inside2 long1
+    alone (film_with f colour) q totals new p means3 inside2 long1
 
 -- what a slice is put back as
 pub take_front : {A : Type 0} (n : ℕ) (xs ys : List A) → length xs ≡ n → take n (xs ++ ys) ≡ xs

@@ -11,7 +11,7 @@ use Rattle.hider.specs.Tiles.{sample_of}
 use Rattle.filter_ppm.specs.declared.total.Total.{Total}
 use Rattle.filter_ppm.specs.declared.shown.ShownSample.{ShownSample}
 use Rattle.filter_ppm.specs.Weight.{weight_at}
-use Rattle.filter_ppm.specs.Mean.{sum_of, mean_part}
+use Rattle.filter_ppm.specs.Mean.{sum_of, mean_part, weighted_mean}
 
 -- sums over nothing
 abbrev pub none : Total
@@ -79,3 +79,8 @@ first_samples g n = map (sample_of g) (range_with_len 0 n)
 
 abbrev pub AreTotals : OptionValues → (Sample → Vec3) → SampleGrid → ℕ → Rect → List Total → Type 0
 AreTotals o colour g n r totals = (x y : ℕ) → r.left ≤ x → x < r.right → r.top ≤ y → y < r.bottom → AreSums o colour x y (first_samples g n) (total_at r totals x y)
+
+-- the mean by each is that over these samples
+abbrev pub AreMeans : OptionValues → (Sample → Vec3) → SampleGrid → ℕ → Rect → List Total → Type 0
+AreMeans o colour g n r totals = (x y : ℕ) → r.left ≤ x → x < r.right → r.top ≤ y → y < r.bottom →
+    mean_of (total_at r totals x y) ≡ weighted_mean (λ s. weight_at o x y s.place) colour (first_samples g n)

@@ -15,7 +15,7 @@ use crate::rect::Rect;
 use crate::sampling::sample_at;
 use crate::shown::ShownSample;
 use crate::span::{Span, span_of};
-use crate::tables::{RowWeights, Weights};
+use crate::tables::{RowWeights, WeightTables};
 use crate::total::{Total, with_weighed};
 use fixed_math::Num;
 use hider::Tile;
@@ -35,7 +35,7 @@ fn place_of(r: &Rect, x: usize, y: usize) -> usize
 
 /// The weight of a sample for a pixel of a row for which it counts.
 fn weight_of(
-    weights: &Weights,
+    weights: &WeightTables<'_>,
     row: &RowWeights<'_>,
     sample: &ShownSample,
     x: usize,
@@ -53,7 +53,7 @@ fn weight_of(
 }
 
 /// The columns of a rectangle's pixels for which a sample counts.
-fn columns_of(weights: &Weights, r: &Rect, sample: &ShownSample) -> Span
+fn columns_of(weights: &WeightTables<'_>, r: &Rect, sample: &ShownSample) -> Span
     requires options { AreOptions weights.now }
     requires rect { IsRect r.now }
     ensures low { r.now.left ≤ result.first }
@@ -66,7 +66,7 @@ fn columns_of(weights: &Weights, r: &Rect, sample: &ShownSample) -> Span
 }
 
 /// Their rows.
-fn rows_of(weights: &Weights, r: &Rect, sample: &ShownSample) -> Span
+fn rows_of(weights: &WeightTables<'_>, r: &Rect, sample: &ShownSample) -> Span
     requires options { AreOptions weights.now }
     requires rect { IsRect r.now }
     ensures low { r.now.top ≤ result.first }
@@ -81,7 +81,7 @@ fn rows_of(weights: &Weights, r: &Rect, sample: &ShownSample) -> Span
 /// Adds a sample to the pixels of a rectangle's row `y` for which it counts.
 fn add_to_row(
     totals: &mut [Total],
-    weights: &Weights,
+    weights: &WeightTables<'_>,
     r: &Rect,
     columns: Span,
     y: usize,
@@ -115,7 +115,13 @@ fn add_to_row(
 }
 
 /// Adds a sample to the pixels of a rectangle for which it counts.
-fn add_sample(totals: &mut [Total], weights: &Weights, r: &Rect, sample: &ShownSample, n: usize)
+fn add_sample(
+    totals: &mut [Total],
+    weights: &WeightTables<'_>,
+    r: &Rect,
+    sample: &ShownSample,
+    n: usize,
+)
     requires options { AreOptions weights.now }
     requires rect { IsRect r.now }
     requires totals { HasTotals r.now totals.old }
@@ -133,7 +139,7 @@ fn add_sample(totals: &mut [Total], weights: &Weights, r: &Rect, sample: &ShownS
 }
 
 /// Adds all samples of a tile to the pixels of a rectangle, whose sums are over nothing.
-pub(crate) fn add_tile(totals: &mut [Total], weights: &Weights, r: &Rect, tile: &Tile)
+pub(crate) fn add_tile(totals: &mut [Total], weights: &WeightTables<'_>, r: &Rect, tile: &Tile)
     requires options { AreOptions weights.now }
     requires rect { IsRect r.now }
     requires totals { HasTotals r.now totals.old }
@@ -142,7 +148,9 @@ pub(crate) fn add_tile(totals: &mut [Total], weights: &Weights, r: &Rect, tile: 
     ensures over { AreOver (sample_count tile.now.grid) r.now totals.new }
     ensures totals { (f : Sample → List Fragment) → Shows tile.now f → AreTotals weights.now (λ s. composite (f s)) tile.now.grid (sample_count tile.now.grid) r.now totals.new }
 {
+    // of its own, so that it isn't read anew after each sum that is written
+    let rect = *r;
     for n in 0..tile.samples() {
-        add_sample(totals, weights, r, &sample_at(tile, n), n);
+        add_sample(totals, weights, &rect, &sample_at(tile, n), n);
     }
 }

@@ -1,10 +1,9 @@
 // The weights of a gaussian for pairs of offsets.
-ghost use Rattle.std.specs.Prelude.{ℕ, ◌≡◌, ◌≢◌, ◌≤◌, ◌<◌, ◌+◌, ◌-◌, ◌*◌, ◌/◌, ◌%◌, ℤ, pos, IsTrue, IfOk, length, get_or};
-ghost use Rattle.fixed_math.specs.Fixed.{add};
+ghost use Rattle.std.specs.Prelude.{ℕ, ◌≡◌, ◌≢◌, ◌≤◌, ◌<◌, ◌+◌, ◌-◌, ◌*◌, ◌/◌, ℤ, pos, IsTrue, IfOk, List, length, get_or};
 ghost use Rattle.scene.specs.declared.filter.Filter.{Filter};
 ghost use Rattle.scene.specs.declared.filter.Filter.TheVariants.{Gaussian};
 ghost use Rattle.filter_ppm.specs.Tables.{power, joined, IsTable};
-ghost use Rattle.filter_ppm.specs.Bells.{number, IsSide, AreBells, IsBellRow};
+ghost use Rattle.filter_ppm.specs.Bells.{number, IsSide, IsBell, AreFirstBells, AreBells, IsBellRow};
 
 use crate::weights::bell_of;
 use fixed_math::{NoMemory, Num};
@@ -37,7 +36,7 @@ impl Side {
 #[derive(Drop)]
 pub(crate) struct Bells {
     pub(crate) across: Side,
-    down: Side,
+    pub(crate) down: Side,
     pub(crate) weights: Vec<u16>,
 }
 
@@ -95,9 +94,50 @@ fn weight_of(across: &[Num], down: &[Num], columns: usize, k: usize) -> u16
     requires some { 1 ≤ columns }
     requires across { columns ≤ length across.now }
     requires down { k < length down.now * columns }
-    ensures { result ≢ 0 → pos result ≡ power (add (get_or across.now (k % columns) (pos 0)) (get_or down.now (k / columns) (pos 0))) }
+    ensures { IsBell across.now down.now columns k result }
 {
     short_of(bell_of(across[k % columns].add(down[k / columns])))
+}
+
+/// Whether two tables have the same numbers.
+fn are_same(a: &[Num], b: &[Num]) -> bool
+    ensures { IsTrue result → (k : ℕ) → k < length a.now → get_or a.now k (pos 0) ≡ get_or b.now k (pos 0) }
+{
+    if b.len() < a.len() {
+        return false;
+    }
+    for k in 0..a.len() {
+        if a[k].raw() != b[k].raw() {
+            return false;
+        }
+    }
+    true
+}
+
+/// The weight of the place `k`, behind the first ones: where both tables are the same, that of a pair is that of the pair turned round, which may be
+/// there.
+fn next_weight(
+    across: &[Num],
+    down: &[Num],
+    columns: usize,
+    same: bool,
+    k: usize,
+    weights: &[u16],
+) -> u16
+    requires some { 1 ≤ columns }
+    requires across { columns ≤ length across.now }
+    requires down { k < length down.now * columns }
+    requires next { length weights.now ≡ k }
+    requires same { IsTrue same → (k : ℕ) → k < length across.now → get_or across.now k (pos 0) ≡ get_or down.now k (pos 0) }
+    requires each { AreFirstBells across.now down.now columns weights.now }
+    ensures { IsBell across.now down.now columns k result }
+{
+    let column = k % columns;
+    let row = k / columns;
+    if same && column < row && row < columns {
+        return weights[column * columns + row];
+    }
+    weight_of(across, down, columns, k)
 }
 
 /// The first weights, by rows of so many columns.
@@ -111,12 +151,14 @@ fn weights(
     requires some { 1 ≤ columns }
     requires across { columns ≤ length across.now }
     requires down { count ≤ length down.now * columns }
-    ensures each { IfOk result (λ w. (k : ℕ) → k < length w.items → get_or w.items k 0 ≢ 0 → pos (get_or w.items k 0) ≡ power (add (get_or across.now (k % columns) (pos 0)) (get_or down.now (k / columns) (pos 0)))) }
+    ensures each { IfOk result (λ w. AreFirstBells across.now down.now columns w.items) }
     ensures long { IfOk result (λ w. length w.items ≡ count) }
 {
+    let same = are_same(across, down);
     let mut weights = Vec::with_capacity(alloc, count)?;
     for k in 0..count {
-        weights.push(weight_of(across, down, columns, k))?;
+        let next = next_weight(across, down, columns, same, k, weights.as_slice());
+        weights.push(next)?;
     }
     Ok(weights)
 }
@@ -132,7 +174,7 @@ fn start_of(row: usize, columns: u16) -> u32
 impl Bells {
     /// No weight is kept.
     pub(crate) fn none(alloc: Global) -> Bells
-        ensures { (f : Filter) (wx wy : ℕ) → AreBells f wx wy result }
+        ensures { (f : Filter) (wx wy : ℕ) → AreBells f wx wy result.across result.down result.weights.items }
     {
         let nowhere = Side { width: 0, count: 0 };
         Bells {
@@ -153,7 +195,7 @@ impl Bells {
         requires across_most { length across.now ≤ 4096 }
         requires down_some { 1 ≤ length down.now }
         requires down_most { length down.now ≤ 4096 }
-        ensures { IfOk result (λ b. (wx wy : ℕ) → IsTable Gaussian wx across.now → IsTable Gaussian wy down.now → AreBells Gaussian wx wy b) }
+        ensures { IfOk result (λ b. (wx wy : ℕ) → IsTable Gaussian wx across.now → IsTable Gaussian wy down.now → AreBells Gaussian wx wy b.across b.down b.weights.items) }
     {
         let columns = side_of(across);
         let rows = side_of(down);
@@ -167,13 +209,13 @@ impl Bells {
             weights: weights(alloc, across, down, columns.count as usize, count)?,
         })
     }
+}
 
-    /// Where the row of an offset down begins, by its place in its table.
-    pub(crate) fn start(&self, place: usize) -> u32
-        ensures { (f : Filter) (wx wy : ℕ) → AreBells f wx wy self.now → place < wy → IsBellRow f wx (number f wy place) self.now.across result self.now.weights.items }
-    {
-        start_of(self.down.fold(place), self.across.count)
-    }
+/// Where the row of an offset down begins, by its place in its table.
+pub(crate) fn row_start(across: Side, down: Side, place: usize) -> u32
+    ensures { (f : Filter) (wx wy : ℕ) (ws : List ℕ) → AreBells f wx wy across down ws → place < wy → IsBellRow f wx (number f wy place) across result ws }
+{
+    start_of(down.fold(place), across.count)
 }
 
 /// The weight of an offset across, by its place in its table, in a row of them that begins at `start`; 0 where it isn't kept.

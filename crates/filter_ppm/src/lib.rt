@@ -3,6 +3,7 @@
 
 mod adding;
 mod bells;
+mod black;
 mod film;
 mod levels;
 mod pixel_filter;

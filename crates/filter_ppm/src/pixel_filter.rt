@@ -9,9 +9,10 @@ ghost use Rattle.filter_ppm.specs.Sampled.{FilmFormat, IsFormat, film_with};
 ghost use Rattle.filter_ppm.specs.Bands.{rect_with, grid_over, seen_from, place_in, entry, crop_in, IsOutside, AreSameBeside, IsPartOfPicture, PutsPixels};
 ghost use Rattle.filter_ppm.specs.Film.{pixels};
 ghost use Rattle.filter_ppm.specs.Levels.{levels};
-ghost use Rattle.filter_ppm.specs.Sums.{none, mean_of, total_at, IsRect, HasTotals, AreOver, AreTotals};
+ghost use Rattle.filter_ppm.specs.Sums.{none, mean_of, total_at, IsRect, HasTotals, AreOver, AreMeans};
 
 use crate::adding::add_tile;
+use crate::black::all_black;
 use crate::film::Film;
 use crate::levels::pixel_levels;
 use crate::rect::{Rect, rect_of};
@@ -53,17 +54,21 @@ fn clear(totals: &mut Vec<Total>, count: usize) -> Result<(), NoMemory>
     Ok(())
 }
 
-/// The sums over a tile's samples for the pixels of a rectangle.
+/// Sums for the pixels of a rectangle whose means are those over a tile's samples: over all of them, or over none where all are
+/// black, as many tiles of a picture are.
 fn fill(totals: &mut Vec<Total>, weights: &Weights, r: &Rect, tile: &Tile) -> Result<(), NoMemory>
     requires options { AreOptions weights.now }
     requires rect { IsRect r.now }
     requires grid { IsSampleGrid tile.now.grid }
     ensures long { OnOk result (HasTotals r.now totals.new.items) }
     ensures over { OnOk result (AreOver (sample_count tile.now.grid) r.now totals.new.items) }
-    ensures totals { OnOk result ((f : Sample → List Fragment) → Shows tile.now f → AreTotals weights.now (λ s. composite (f s)) tile.now.grid (sample_count tile.now.grid) r.now totals.new.items) }
+    ensures means { OnOk result ((f : Sample → List Fragment) → Shows tile.now f → AreMeans weights.now (λ s. composite (f s)) tile.now.grid (sample_count tile.now.grid) r.now totals.new.items) }
 {
     clear(totals, r.count())?;
-    add_tile(totals, weights, r, tile);
+    if !all_black(tile) {
+        let tables = weights.at_hand();
+        add_tile(totals, &tables, r, tile);
+    }
     Ok(())
 }
 

@@ -1,5 +1,5 @@
 // The filter's weights as tables over offsets.
-ghost use Rattle.std.specs.Prelude.{ℕ, ◌≡◌, ◌≤◌, ◌<◌, ◌+◌, ◌/◌, ◌*◌, ◌+ℤ◌, ◌-ℤ◌, pos, true, IfOk, unsigned_abs, length};
+ghost use Rattle.std.specs.Prelude.{ℕ, ◌≡◌, ◌≤◌, ◌<◌, ◌+◌, ◌/◌, ◌*◌, ◌+ℤ◌, ◌-ℤ◌, pos, true, IfOk, unsigned_abs, List, length};
 ghost use Rattle.scene.specs.Settings.{OptionValues};
 ghost use Rattle.filter_ppm.specs.Weight.{counts};
 ghost use Rattle.scene.specs.declared.filter.Filter.{Filter};
@@ -7,7 +7,7 @@ ghost use Rattle.filter_ppm.specs.Tables.{part, joined, power, IsTable, ArePower
 ghost use Rattle.filter_ppm.specs.Bells.{AreBells, IsBellRow, IsRowOf};
 ghost use Rattle.fixed_math.specs.Fixed.{IsRaw};
 
-use crate::bells::{Bells, Side, weight_in};
+use crate::bells::{Bells, Side, row_start, weight_in};
 use crate::weights::{across_at, bell_of, slope_at};
 use fixed_math::{NoMemory, Num};
 use scene::{Filter, Options};
@@ -29,7 +29,7 @@ impl Model for Weights {
 
     ghost view = { λ w. w.options };
 
-    ghost invariant = { λ w. IsTable w.options.filter w.options.wx w.across.items × IsTable w.options.filter w.options.wy w.down.items × ArePowers w.powers.items × AreBells w.options.filter w.options.wx w.options.wy w.bells };
+    ghost invariant = { λ w. IsTable w.options.filter w.options.wx w.across.items × IsTable w.options.filter w.options.wy w.down.items × ArePowers w.powers.items × AreBells w.options.filter w.options.wx w.options.wy w.bells.across w.bells.down w.bells.weights.items };
 }
 
 /// The number of the offset `d` in one direction.
@@ -156,7 +156,7 @@ fn bells_for(
     requires across_most { length across.now ≤ 4096 }
     requires down_some { 1 ≤ length down.now }
     requires down_most { length down.now ≤ 4096 }
-    ensures { IfOk result (λ b. (wx wy : ℕ) → IsTable filter wx across.now → IsTable filter wy down.now → AreBells filter wx wy b) }
+    ensures { IfOk result (λ b. (wx wy : ℕ) → IsTable filter wx across.now → IsTable filter wy down.now → AreBells filter wx wy b.across b.down b.weights.items) }
 {
     match filter {
         Filter::Gaussian if pixels >= 8192 => Bells::new(alloc, across, down),
@@ -222,6 +222,54 @@ impl Weights {
         })
     }
 
+    /// Each table at hand.
+    pub(crate) fn at_hand(&self) -> WeightTables<'_>
+        ensures { result ≡ self.now }
+    {
+        WeightTables {
+            options: self.options,
+            across: self.across.as_slice(),
+            down: self.down.as_slice(),
+            powers: self.powers.as_slice(),
+            columns: self.bells.across,
+            rows: self.bells.down,
+            bells: self.bells.weights.as_slice(),
+        }
+    }
+}
+
+/// Where the row of an offset down that counts begins among a gaussian's weights.
+fn start_in(across: Side, down: Side, width: u32, d: i64) -> u32
+    requires most { width ≤ 4096 }
+    requires within { counts width d ≡ true }
+    ensures { (f : Filter) (wx : ℕ) (ws : List ℕ) → AreBells f wx width across down ws → IsBellRow f wx (part f width d) across result ws }
+{
+    row_start(across, down, index_of(width, d))
+}
+
+/// What the weights of a filter are read from, each table at hand for a loop over samples: through a reference each would be read anew
+/// for each row of pixels, since the sums that are written might be the same memory. Contracts see it as the weights.
+#[derive(Drop)]
+pub(crate) struct WeightTables<'a> {
+    options: Options,
+    across: &'a [Num],
+    down: &'a [Num],
+    powers: &'a [i32],
+    // how the gaussian's weights for pairs of offsets are folded, and these weights
+    columns: Side,
+    rows: Side,
+    bells: &'a [u16],
+}
+
+impl<'a> Model for WeightTables<'a> {
+    ghost Value = { OptionValues };
+
+    ghost view = { λ w. w.options };
+
+    ghost invariant = { λ w. IsTable w.options.filter w.options.wx w.across.now × IsTable w.options.filter w.options.wy w.down.now × ArePowers w.powers.now × AreBells w.options.filter w.options.wx w.options.wy w.columns w.rows w.bells.now };
+}
+
+impl<'a> WeightTables<'a> {
     /// The width of the filter across.
     pub(crate) fn across_width(&self) -> u32
         ensures { result ≡ self.now.wx }
@@ -246,13 +294,13 @@ impl Weights {
         part_in(
             self.options.filter,
             self.options.wy,
-            self.down.as_slice(),
+            self.down,
             from_middle(place, y),
         )
     }
 
     /// The weights of the row `y` of pixels for a place that counts for it.
-    pub(crate) fn row(&self, place: i64, y: usize) -> RowWeights<'_>
+    pub(crate) fn row(&self, place: i64, y: usize) -> RowWeights<'a>
         requires place { unsigned_abs place ≤ 268435456 }
         requires pixel { y < 4096 }
         requires counts { counts self.now.wy (place -ℤ pos (256 * y + 128)) ≡ true }
@@ -260,23 +308,19 @@ impl Weights {
     {
         RowWeights {
             options: self.options,
-            across: self.across.as_slice(),
-            powers: self.powers.as_slice(),
+            across: self.across,
+            powers: self.powers,
             down: self.down(place, y),
-            side: self.bells.across,
-            start: start_in(&self.bells, self.options.wy, from_middle(place, y)),
-            weights: self.bells.weights.as_slice(),
+            side: self.columns,
+            start: start_in(
+                self.columns,
+                self.rows,
+                self.options.wy,
+                from_middle(place, y),
+            ),
+            weights: self.bells,
         }
     }
-}
-
-/// Where the row of an offset down that counts begins among a gaussian's weights.
-fn start_in(bells: &Bells, width: u32, d: i64) -> u32
-    requires most { width ≤ 4096 }
-    requires within { counts width d ≡ true }
-    ensures { (f : Filter) (wx : ℕ) → AreBells f wx width bells.now → IsBellRow f wx (part f width d) bells.now.across result bells.now.weights.items }
-{
-    bells.start(index_of(width, d))
 }
 
 /// A weight of 16 bits.

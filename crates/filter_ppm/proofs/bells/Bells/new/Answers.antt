@@ -10,5 +10,5 @@ returns c = λ wx wy tx ty.
     let most = c.side_of-rows.ensures.most in
     let wide = c.side_of-columns.result.count in
     let fits : c.side_of-rows.result.count * wide ≤ length c.args.down.now * wide = mul-le _ _ (length c.args.down.now) wide most (omega arith) in
-    bells_from wx wy c.args.across.now c.args.down.now _ tx ty (c.side_of-columns.ensures.side Gaussian wx tx) (c.side_of-rows.ensures.side Gaussian wy ty) c.side_of-columns.ensures.some c.side_of-columns.ensures.most
+    bells_from wx wy c.args.across.now c.args.down.now _ _ _ tx ty (c.side_of-columns.ensures.side Gaussian wx tx) (c.side_of-rows.ensures.side Gaussian wy ty) c.side_of-columns.ensures.some c.side_of-columns.ensures.most
     (omega (arith, long, fits)) c.in_ok-weights.ensures.each

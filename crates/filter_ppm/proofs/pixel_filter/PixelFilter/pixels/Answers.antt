@@ -4,9 +4,8 @@ use Rattle.hider.specs.Composite.{composite}
 use Rattle.hider.specs.Tiles.{sample_count}
 use Rattle.filter_ppm.specs.declared.total.Total.{Total}
 use Rattle.filter_ppm.specs.Bands.{rect_with}
-use Rattle.filter_ppm.specs.Film.{pixels}
-use Rattle.filter_ppm.specs.Sampled.{FilmFormat, IsFormat, film_with}
-use Rattle.filter_ppm.specs.Sums.{AreOver, AreTotals}
+use Rattle.filter_ppm.specs.Sampled.{FilmFormat, IsFormat}
+use Rattle.filter_ppm.specs.Sums.{AreOver, AreMeans}
 use Rattle.filter_ppm.proofs.Puts.{in_frame, alone_as, take_front}
 use Rattle.filter_ppm.proofs.pixel_filter.PixelFilter.pixels.Goals as goal
 
@@ -31,6 +30,6 @@ returns-clause-pixels c = λ f s.
     let area = c.count.ensures in
     let long : length new ≡ (r.bottom - r.top) * (r.right - r.left) = omega (arith, same, value, count, area) in
     let back = take_front band.len new (drop (length new) band.items) (let n = c.as_mut_slice.ensures.len in omega (arith, same, n)) in
-    let sums = subst (λ (ts : List Total). AreTotals c.self.inside.weights colour tile.grid (sample_count tile.grid) r ts) (sym c.as_slice.ensures.value) (c.in_ok-fill.ensures.totals f s) in
+    let means = subst (λ (ts : List Total). AreMeans c.self.inside.weights colour tile.grid (sample_count tile.grid) r ts) (sym c.as_slice.ensures.value) (c.in_ok-fill.ensures.means f s) in
     back ∙ alone_as format colour (rect_with c.args.rect) r c.self.inside.options _ tile.grid c.as_slice.result.now new
-    c.rect_of-r.ensures options weights c.requires.grid (in_frame format (rect_with c.args.rect) (subst (λ (v : FilmFormat). IsFormat v) c.self.view_is c.self.invariant.0) c.requires.part) sums c.put_rows.ensures.inside long
+    c.rect_of-r.ensures options weights c.requires.grid (in_frame format (rect_with c.args.rect) (subst (λ (v : FilmFormat). IsFormat v) c.self.view_is c.self.invariant.0) c.requires.part) means c.put_rows.ensures.inside long

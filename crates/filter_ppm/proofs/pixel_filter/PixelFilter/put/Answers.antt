@@ -5,7 +5,7 @@ use Rattle.hider.specs.Tiles.{sample_count}
 use Rattle.filter_ppm.specs.declared.total.Total.{Total}
 use Rattle.filter_ppm.specs.Bands.{rect_with}
 use Rattle.filter_ppm.specs.Sampled.{FilmFormat, IsFormat}
-use Rattle.filter_ppm.specs.Sums.{AreOver, AreTotals}
+use Rattle.filter_ppm.specs.Sums.{AreOver, AreMeans}
 use Rattle.filter_ppm.proofs.Puts.{in_frame, puts_as}
 use Rattle.filter_ppm.proofs.pixel_filter.PixelFilter.put.Goals as goal
 
@@ -22,6 +22,6 @@ returns-clause-pixels c = λ f s.
     let options = ap (λ (v : FilmFormat). v.options) c.self.view_is in
     let weights = c.self.invariant.1 ∙ options in
     let columns = c.columns_of-columns in
-    let sums = subst (λ (ts : List Total). AreTotals c.self.inside.weights (λ (t : Sample). composite (f t)) tile.grid (sample_count tile.grid) r ts) (sym c.as_slice.ensures.value) (c.in_ok-fill.ensures.totals f s) in
+    let means = subst (λ (ts : List Total). AreMeans c.self.inside.weights (λ (t : Sample). composite (f t)) tile.grid (sample_count tile.grid) r ts) (sym c.as_slice.ensures.value) (c.in_ok-fill.ensures.means f s) in
     puts_as format (λ (t : Sample). composite (f t)) (rect_with c.args.rect) r columns.result.first columns.result.end c.self.inside.options _ tile.grid c.as_slice.result.now c.args.band.now c.put_rows.new.band
-    c.rect_of-r.ensures columns.ensures.left columns.ensures.right options weights c.requires.grid (in_frame format (rect_with c.args.rect) (subst (λ (v : FilmFormat). IsFormat v) c.self.view_is c.self.invariant.0) c.requires.part) sums c.put_rows.ensures.inside c.put_rows.ensures.beside
+    c.rect_of-r.ensures columns.ensures.left columns.ensures.right options weights c.requires.grid (in_frame format (rect_with c.args.rect) (subst (λ (v : FilmFormat). IsFormat v) c.self.view_is c.self.invariant.0) c.requires.part) means c.put_rows.ensures.inside c.put_rows.ensures.beside
