@@ -83,22 +83,17 @@ fn run_node<L: Illumination, T: Textures>(
             test,
             step,
             body,
-        } => {
-            let (live, staying) = (m.live, m.staying);
-            run_loop(
-                *uniform,
-                ask.as_slice(),
-                *test,
-                step.as_slice(),
-                body.as_slice(),
-                m,
-                lights,
-                textures,
-                most,
-            );
-            m.live = live;
-            m.staying = staying;
-        }
+        } => run_kept_loop(
+            *uniform,
+            ask.as_slice(),
+            *test,
+            step.as_slice(),
+            body.as_slice(),
+            m,
+            lights,
+            textures,
+            most,
+        ),
         Node::Lights { over, args, body } => {
             run_lights(
                 *over,
@@ -113,6 +108,38 @@ fn run_node<L: Illumination, T: Textures>(
         Node::Break => m.leave(),
         Node::Continue => m.skip(),
     }
+}
+
+/// A loop, behind which the places are live again that were before it. It isn't inlined, since the masks that it keeps would then be
+/// cleared for each node of another kind too.
+#[cycle(run)]
+#[inline(never)]
+fn run_kept_loop<L: Illumination, T: Textures>(
+    uniform: bool,
+    ask: &[Node],
+    test: Register,
+    step: &[Node],
+    body: &[Node],
+    m: &mut Machine,
+    lights: &mut L,
+    textures: &mut T,
+    most: u32,
+)
+    requires whole { Whole m.old }
+    requires ask { ReadyIn m.old (block_of ask.now) }
+    requires has { HasRegister m.old test }
+    requires step { ReadyIn m.old (block_of step.now) }
+    requires body { ReadyIn m.old (block_of body.now) }
+    requires places { (L.lighting lights.old).places ≡ m.old.registers.frame.now.places }
+    ensures kept { Kept m.old m.new }
+    ensures same { L.lighting lights.new ≡ L.lighting lights.old }
+    ensures images { T.images textures.new ≡ T.images textures.old }
+    ensures masked { Runs (beside (L.lighting lights.old).lights (T.images textures.old)) most (code.loops uniform (block_of ask.now) test (block_of step.now) (block_of body.now) end) m.old m.new }
+{
+    let (live, staying) = (m.live, m.staying);
+    run_loop(uniform, ask, test, step, body, m, lights, textures, most);
+    m.live = live;
+    m.staying = staying;
 }
 
 #[cycle(run)]

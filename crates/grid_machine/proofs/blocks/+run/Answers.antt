@@ -1,6 +1,6 @@
 use Rattle.std.proofs.Common.{arith, ◌≡◌, ◌<◌, ◌+◌, ◌-◌, ℕ, suc, get_or, true, false, refl, sym, ap, ◌∙◌, subst}
 use Rattle.std.specs.List.{list_all}
-use Rattle.grid_code.specs.Code.{end, branch, sum, texture, lights}
+use Rattle.grid_code.specs.Code.{end, branch, loops, sum, texture, lights}
 use Rattle.grid_code.specs.Valid.{are_three}
 use Rattle.std.specs.Prelude.{◌||◌, Option, Some, is_some}
 use Rattle.fixed_math.specs.declared.vec3.Vec3.{Vec3}
@@ -24,7 +24,7 @@ use Rattle.grid_code.specs.Masked.{State, read, reads, from_light, entered, kind
 use Rattle.grid_code.specs.Masked.{going as going_of}
 use Rattle.grid_code.specs.Uses.{has}
 use Rattle.grid_code.specs.View.{with_node, block_of}
-use Rattle.grid_machine.specs.State.{beside, state_of, Near, ground_of, lit_ground, lights_registers, ReadyIn, Runs, RunsTurns}
+use Rattle.grid_machine.specs.State.{beside, state_of, Near, ground_of, lit_ground, lights_registers, ReadyIn, Runs}
 use Rattle.grid_machine.proofs.Kept.{NearBy, has_kept, places_kept, beside_same, kept_on, kept_live, ready_kept, runs_kept, begin_kept, any_kept}
 use Rattle.grid_code.proofs.Blocks.{branch_is, loop_is, lights_is, block_size}
 use Rattle.grid_machine.proofs.Nodes.{running_ready, running_small, running_next, running_end, asleep_runs, put_steps, differ_steps, texture_steps}
@@ -143,8 +143,8 @@ run_node-run_branch-requires g t c =
     let ds2 = ap (λ l. block_size (block_of l)) d2 in
     λ κs lives. (omega (arith, c.decreases), (lives.0, (lives.1, (c.requires.whole, (f.0, (subst (λ l. ReadyIn m (block_of l)) (sym d) f.1.0, (subst (λ l. ReadyIn m (block_of l)) (sym d2) f.1.1.0, c.requires.places)))))))
 
-pub run_node-run_loop-requires : goal.run_node-run_loop-requires
-run_node-run_loop-requires g t c =
+pub run_node-run_kept_loop-requires : goal.run_node-run_kept_loop-requires
+run_node-run_kept_loop-requires g t c =
     let m = c.args.m.now in
     let q = loop_is c.args.node.now c.in-Loop.uniform c.in-Loop.ask c.in-Loop.test c.in-Loop.step c.in-Loop.body end c.in-Loop.is in
     let f = subst (ReadyIn m) q c.requires.ready in
@@ -189,21 +189,27 @@ pub run_node-returns-in-Loop-clause-masked : goal.run_node-returns-in-Loop-claus
 run_node-returns-in-Loop-clause-masked g t c =
     let ls = (beside (g.L.Illumination.lighting c.args.lights.now).lights (g.T.Textures.images c.args.textures.now)) in
     let m = c.args.m.now in
-    let k = c.run_loop.new.m in
-    let r = m.registers.frame.now in
     let u = c.in-Loop.uniform in
     let test = c.in-Loop.test in
-    let ask = c.in-Loop.ask in
     let step = c.in-Loop.step in
     let body = c.in-Loop.body in
-    let n = c.args.most in
-    let q = loop_is c.args.node.now u ask test step body end c.in-Loop.is in
-    let h : RunsTurns ls n u (block_of ask) test (block_of step) (block_of body) m k =
-    subst (λ l. RunsTurns ls n u (block_of l) test (block_of step) (block_of body) m k) c.as_slice-in-Loop.ensures
-    (subst (λ l. RunsTurns ls n u (block_of c.as_slice-in-Loop.result.now) test (block_of l) (block_of body) m k) c.as_slice-in-Loop-2.ensures
-    (subst (λ l. RunsTurns ls n u (block_of c.as_slice-in-Loop.result.now) test (block_of c.as_slice-in-Loop-2.result.now) (block_of l) m k) c.as_slice-in-Loop-3.ensures c.run_loop.ensures.turns)) in
-    subst (λ b. Runs ls n b m record k { live = m.live; staying = m.staying }) (sym q)
-    (looped_steps (lit_ground ls r) u (block_of ask) test (block_of step) (block_of body) r.places r.varying.now r.uniform.now n (state_of m) (state_of k) (state_of m).live (state_of m).staying h (λ i l. refl) (λ i l. refl))
+    let one = c.as_slice-in-Loop in
+    let two = c.as_slice-in-Loop-2 in
+    let three = c.as_slice-in-Loop-3 in
+    let e = loop_is c.args.node.now u c.in-Loop.ask test step body end c.in-Loop.is ∙ ap (λ l. loops u (block_of l) test (block_of step) (block_of body) end) (sym one.ensures)
+    ∙ ap (λ l. loops u (block_of one.result.now) test (block_of l) (block_of body) end) (sym two.ensures) ∙ ap (λ l. loops u (block_of one.result.now) test (block_of two.result.now) (block_of l) end) (sym three.ensures) in
+    subst (λ b. Runs ls c.args.most b m c.run_kept_loop.new.m) (sym e) c.run_kept_loop.ensures.masked
+
+pub run_kept_loop-run_loop-requires : goal.run_kept_loop-run_loop-requires
+run_kept_loop-run_loop-requires g t c = λ κs lives. (omega (arith, c.decreases), (lives.0, (lives.1, (c.requires.whole, (c.requires.ask, (c.requires.has, (c.requires.step, (c.requires.body, c.requires.places))))))))
+
+pub run_kept_loop-returns-clause-masked : goal.run_kept_loop-returns-clause-masked
+run_kept_loop-returns-clause-masked g t c =
+    let ls = (beside (g.L.Illumination.lighting c.args.lights.now).lights (g.T.Textures.images c.args.textures.now)) in
+    let m = c.args.m.now in
+    let k = c.run_loop.new.m in
+    let r = m.registers.frame.now in
+    looped_steps (lit_ground ls r) c.args.uniform (block_of c.args.ask.now) c.args.test (block_of c.args.step.now) (block_of c.args.body.now) r.places r.varying.now r.uniform.now c.args.most (state_of m) (state_of k) (state_of m).live (state_of m).staying c.run_loop.ensures.turns (λ i l. refl) (λ i l. refl)
 
 pub run_node-returns-in-Break-clause-masked : goal.run_node-returns-in-Break-clause-masked
 run_node-returns-in-Break-clause-masked g t c =

@@ -20,6 +20,9 @@ decreases-run_branch g l = 4 * (block_size (block_of l.then.now) + block_size (b
 abbrev pub decreases-run_loop : goal.decreases-run_loop
 decreases-run_loop g l = 4 * (block_size (block_of l.ask.now) + block_size (block_of l.step.now) + block_size (block_of l.body.now)) + 3
 
+abbrev pub decreases-run_kept_loop : goal.decreases-run_kept_loop
+decreases-run_kept_loop g l = 4 * (block_size (block_of l.ask.now) + block_size (block_of l.step.now) + block_size (block_of l.body.now)) + 4
+
 abbrev pub decreases-run_lights : goal.decreases-run_lights
 decreases-run_lights g l = 4 * block_size (block_of l.body.now) + 4
 

@@ -1,10 +1,9 @@
-use Rattle.std.proofs.Common.{◌≡◌, ℕ, ◌<◌, ◌≤◌, sym, ap, ◌∙◌, subst, arith}
-use Rattle.builtins.specs.Shapes.{shape}
-use Rattle.builtins.specs.Textures.{looked_up, textured}
+use Rattle.std.proofs.Common.{◌<◌, sym, ap, ◌∙◌, subst, arith}
+use Rattle.builtins.specs.Textures.{textured}
 use Rattle.builtins.specs.Values.{number_of}
 use Rattle.builtins.specs.declared.shape.Shape.TheVariants as shapes
 use Rattle.grid_code.specs.declared.code.Register.TheVariants.{Uniform}
-use Rattle.grid_code.specs.Masked.{read, reads}
+use Rattle.grid_code.specs.Masked.{reads}
 use Rattle.grid_code.specs.Uses.{has}
 use Rattle.grid_registers.proofs.Operands.{item_passes}
 use Rattle.grid_registers.specs.Operands.{operand_number}
