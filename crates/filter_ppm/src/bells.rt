@@ -114,8 +114,8 @@ fn are_same(a: &[Num], b: &[Num]) -> bool
     true
 }
 
-/// The weight of the place `k`, behind the first ones: where both tables are the same, that of a pair is that of the pair turned round, which may be
-/// there.
+/// The weight of the place `k`, behind the first ones: where both tables are the same, that of a pair is that of the pair turned
+/// round, which may be there.
 fn next_weight(
     across: &[Num],
     down: &[Num],
