@@ -28,7 +28,7 @@ abbrev pub state_of : Machine → State
 state_of m =
     record (held_by m.registers) {
       turns = m.turns;
-      own = λ i. get_or m.own i 0;
+      own = λ i. get_or m.own.items i 0;
       live = λ i. get_or m.live.places i false;
       staying = λ i. get_or m.staying.places i false;
     }
@@ -58,7 +58,7 @@ pub record Whole (m : Machine) : Type 0 where
   pub full : Full m.registers
   pub sized : Sized m.registers
   pub scratch : (s : Shape) → size m.scratch s ≡ m.registers.frame.now.places
-  pub own : length m.own ≡ 289
+  pub own : length m.own.items ≡ 289
 
 -- what a step keeps
 pub record Kept (m k : Machine) : Type 0 where

@@ -78,7 +78,8 @@ impl Machine<'_> {
 
     // What is left of the budget of a loop.
     fn budget(&self, uniform: bool, place: usize) -> u32
-        requires { place < 289 }
+        requires whole { Whole self.now }
+        requires place { place < 289 }
         ensures { result ≡ budgets uniform (state_of self.now) place }
     {
         if uniform { self.turns } else { self.own[place] }

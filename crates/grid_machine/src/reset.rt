@@ -1,11 +1,21 @@
 // Machines that begin anew.
-ghost use Rattle.std.specs.Prelude.{◌≡◌};
+ghost use Rattle.std.specs.Prelude.{◌≡◌, ℕ, ◌<◌, length, get_or};
 ghost use Rattle.grid_machine.specs.Run.{fresh};
 ghost use Rattle.grid_machine.specs.State.{state_of, NearIn, Whole, Kept};
 
 use crate::machine::Machine;
 use grid_registers::{Frame, counts_of, counts_once};
 use place_rows::Mask;
+
+// Makes all budgets whole.
+fn refill(own: &mut [u32])
+    ensures long { length own.new ≡ length own.old }
+    ensures each { (i : ℕ) → i < length own.old → get_or own.new i 0 ≡ 65536 }
+{
+    for place in 0..own.len() {
+        own[place] = 65536;
+    }
+}
 
 impl<'a> Machine<'a> {
     /// Takes up another frame with as much room.
@@ -36,7 +46,7 @@ impl Machine<'_> {
         self.registers
             .shared
             .clear(shared.numbers, shared.triples, shared.words);
-        self.own = [65536; 289];
+        refill(&mut self.own);
         self.turns = 65536;
         self.live = Mask::full();
         self.staying = Mask::full();

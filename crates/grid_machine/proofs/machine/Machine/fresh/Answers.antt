@@ -1,5 +1,4 @@
 use Rattle.std.proofs.Common.{◌+◌, ◌*◌, refl, sym, ap, ◌∙◌, arith}
-use Rattle.std.proofs.lemmas.List.{get_or-replicate}
 use Rattle.grid_code.specs.Uses.{numbers_of}
 use Rattle.place_values.specs.Cells.{value_of}
 use Rattle.grid_machine.specs.State.{rank}
@@ -16,7 +15,7 @@ returns-clause-near c =
       rows = λ s k i h l. zero_is ts s ∙ ap (value_of ts) (sym (r.ensures.rows s (rank (numbers_of f.varying.now s) k * f.places + i)));
       shared = λ s k h. zero_is ts s ∙ ap (value_of ts) (sym (r.ensures.shared s (rank (numbers_of f.uniform.now s) k)));
       turns = refl;
-      own = λ i l. sym (get_or-replicate 289 i 65536 0 (omega arith));
+      own = λ i l. sym (c.in_ok-own.ensures.each i (omega arith));
       live = λ i l. sym (c.full.ensures i (omega arith));
       staying = λ i l. sym (c.full-2.ensures i (omega arith));
     }

@@ -3,7 +3,7 @@ use Rattle.builtins.specs.declared.shape.Shape.TheVariants as shapes
 use Rattle.grid_code.specs.Uses.{numbers_of}
 use Rattle.place_values.specs.Cells.{value_of}
 use Rattle.grid_machine.specs.State.{rank}
-use Rattle.std.proofs.lemmas.List.{get_or-replicate}
+use Rattle.std.proofs.lemmas.List.{get_or-take, get_or_append_left}
 use Rattle.grid_registers.proofs.Ranks.{rank_in}
 use Rattle.grid_machine.proofs.Roomy.{within_rows}
 use Rattle.grid_machine.proofs.Zeros.{zero_is}
@@ -43,7 +43,7 @@ returns-clause-near c =
           let within = rank_in f.uniform.now s k h in
           zero_is ts s ∙ ap (value_of ts) (sym (c.clear-2.ensures.zero s (rank (numbers_of f.uniform.now s) k) (omega (arith, many, within))));
       turns = refl;
-      own = λ i l. sym (get_or-replicate 289 i 65536 0 (omega arith));
+      own = λ i l. sym (get_or-take _ _ i 0 (let d = c.deref_mut.ensures.len in let e = c.requires.whole.own in omega arith) ∙ get_or_append_left c.refill.new.own _ 0 i (let d = c.refill.ensures.long in let v = ap length c.deref_mut.ensures.value in let e = c.requires.whole.own in omega arith) ∙ c.refill.ensures.each i (let v = ap length c.deref_mut.ensures.value in let e = c.requires.whole.own in omega arith));
       live = λ i l. sym (c.full-self.ensures i (omega arith));
       staying = λ i l. sym (c.full-self-2.ensures i (omega arith));
     }
