@@ -35,15 +35,15 @@ module _ (ss : List Slot) (base next : ℕ) where
   read_code x from o n hf h =
       h ∙ ap (λ q. o then c.put q (Copy from) c.end) (read_at x from (like from next) hf refl) ∙ ap (λ f. o then c.put (at (C.read x) ss next) (Copy f) c.end) hf
 
-  pub apply_at : (op : ValueOperation) (args : C.Exprs) (qs : List Register) (q : Register) → qs ≡ all_at args ss next → q ≡ applied_at op qs next → q ≡ at (C.apply op args) ss next
+  pub apply_at : (op : ValueOperation) (args : C.Exprs) (qs : List Register) (q : Register) → qs ≡ all_at args ss base next → q ≡ applied_at op qs next → q ≡ at (C.apply op args) ss next
   apply_at op args qs q hs hq =
-      hq ∙ ap (λ l. applied_at op l next) hs ∙ ap (λ u. reg u (shape_applied op (register_shapes (all_at args ss next))) next) (classes_at args ss next) ∙
-      ap (λ l. reg (are_uniform args ss) (shape_applied op l) next) (shapes_at args ss next)
+      hq ∙ ap (λ l. applied_at op l next) hs ∙ ap (λ u. reg u (shape_applied op (register_shapes (all_at args ss base next))) next) (classes_at args ss base next) ∙
+      ap (λ l. reg (are_uniform args ss) (shape_applied op l) next) (shapes_at args ss base next)
 
-  pub apply_code : (op : ValueOperation) (args : C.Exprs) (qs : List Register) (o m n : Block) → m ≡ o then exprs_code args ss base next → qs ≡ all_at args ss next →
+  pub apply_code : (op : ValueOperation) (args : C.Exprs) (qs : List Register) (o m n : Block) → m ≡ o then exprs_code args ss base next → qs ≡ all_at args ss base next →
       n ≡ m then c.put (applied_at op qs next) (Apply op qs) c.end → n ≡ o then expr_code (C.apply op args) ss base next
   apply_code op args qs o m n hm hs h =
-      let z = c.put (at (C.apply op args) ss next) (Apply op (all_at args ss next)) c.end in
+      let z = c.put (at (C.apply op args) ss next) (Apply op (all_at args ss base next)) c.end in
       h ∙ ap (λ q. m then c.put q (Apply op qs) c.end) (apply_at op args qs (applied_at op qs next) hs refl) ∙ ap (λ l. m then c.put (at (C.apply op args) ss next) (Apply op l) c.end) hs ∙
       ap (λ y. y then z) hm ∙ then_assoc o (exprs_code args ss base next) z
 
@@ -58,20 +58,20 @@ module _ (ss : List Slot) (base next : ℕ) where
       h ∙ ap (λ q. m then c.differ q d from c.end) (differ_at d e from (differed_at d from next) hf refl) ∙ ap (λ f. m then c.differ (at (C.differ d e) ss next) d f c.end) hf ∙
       ap (λ y. y then z) hm ∙ then_assoc o (expr_code e ss base next) z
 
-  pub sum_code : (s : LightSum) (args : C.Exprs) (qs : List Register) (o m n : Block) → m ≡ o then exprs_code args ss base next → qs ≡ all_at args ss next →
+  pub sum_code : (s : LightSum) (args : C.Exprs) (qs : List Register) (o m n : Block) → m ≡ o then exprs_code args ss base next → qs ≡ all_at args ss base next →
       n ≡ m then c.sum (reg false shapes.Triple next) s qs c.end → n ≡ o then expr_code (C.sum s args) ss base next
   sum_code s args qs o m n hm hs h =
-      let z = c.sum (at (C.sum s args) ss next) s (all_at args ss next) c.end in
+      let z = c.sum (at (C.sum s args) ss next) s (all_at args ss base next) c.end in
       h ∙ ap (λ l. m then c.sum (at (C.sum s args) ss next) s l c.end) hs ∙ ap (λ y. y then z) hm ∙ then_assoc o (exprs_code args ss base next) z
 
 module _ (ss : List Slot) (base next : ℕ) where
-  pub look_at : (k : ℕ) (args : C.Exprs) (qs : List Register) (q : Register) → qs ≡ all_at args ss next → q ≡ looked_at qs next → q ≡ at (C.texture k args) ss next
-  look_at k args qs q hs hq = hq ∙ ap (λ l. looked_at l next) hs ∙ ap (λ u. reg u shapes.Triple next) (classes_at args ss next)
+  pub look_at : (k : ℕ) (args : C.Exprs) (qs : List Register) (q : Register) → qs ≡ all_at args ss base next → q ≡ looked_at qs next → q ≡ at (C.texture k args) ss next
+  look_at k args qs q hs hq = hq ∙ ap (λ l. looked_at l next) hs ∙ ap (λ u. reg u shapes.Triple next) (classes_at args ss base next)
 
-  pub look_code : (k : ℕ) (args : C.Exprs) (qs : List Register) (o m n : Block) → m ≡ o then exprs_code args ss base next → qs ≡ all_at args ss next →
+  pub look_code : (k : ℕ) (args : C.Exprs) (qs : List Register) (o m n : Block) → m ≡ o then exprs_code args ss base next → qs ≡ all_at args ss base next →
       n ≡ m then c.texture (looked_at qs next) k qs c.end → n ≡ o then expr_code (C.texture k args) ss base next
   look_code k args qs o m n hm hs h =
-      let z = c.texture (at (C.texture k args) ss next) k (all_at args ss next) c.end in
+      let z = c.texture (at (C.texture k args) ss next) k (all_at args ss base next) c.end in
       h ∙ ap (λ q. m then c.texture q k qs c.end) (look_at k args qs (looked_at qs next) hs refl) ∙ ap (λ l. m then c.texture (at (C.texture k args) ss next) k l c.end) hs ∙
       ap (λ y. y then z) hm ∙ then_assoc o (exprs_code args ss base next) z
 
@@ -138,21 +138,21 @@ module _ (ss : List Slot) (base next temps : ℕ) (hn : next ≡ base + length s
       ap (λ r. o then c.loops u (expr_code t ss base next) (at t ss next) (all_code e ss base temps) r c.end) (hy ∙ ap (λ r. r then all_code s ss1 base temps) hy0 ∙ ap (λ k. all_code s k base temps) hs) ∙
       ap (λ k. o then c.loops u (expr_code t ss base k) (at t ss k) (all_code e ss base temps) (all_code s ss base temps) c.end) hn
 
-  pub lights_code : (w : LightStmt) (args : C.Exprs) (s : C.Stmts) (qs : List Register) (o m n x0 x : Block) → m ≡ o then exprs_code args ss base next → qs ≡ all_at args ss next →
+  pub lights_code : (w : LightStmt) (args : C.Exprs) (s : C.Stmts) (qs : List Register) (o m n x0 x : Block) → m ≡ o then exprs_code args ss base next → qs ≡ all_at args ss base next →
       x0 ≡ c.end → x ≡ x0 then all_code s ss base temps → n ≡ m then c.lights w qs x c.end → n ≡ o then stmt_code (C.lights w args s) ss base temps
   lights_code w args s qs o m n x0 x hm hq hx0 hx h =
-      let z = c.lights w (all_at args ss next) (all_code s ss base temps) c.end in
-      h ∙ ap (λ r. m then c.lights w r x c.end) hq ∙ ap (λ r. m then c.lights w (all_at args ss next) r c.end) (hx ∙ ap (λ r. r then all_code s ss base temps) hx0) ∙
+      let z = c.lights w (all_at args ss base next) (all_code s ss base temps) c.end in
+      h ∙ ap (λ r. m then c.lights w r x c.end) hq ∙ ap (λ r. m then c.lights w (all_at args ss base next) r c.end) (hx ∙ ap (λ r. r then all_code s ss base temps) hx0) ∙
       ap (λ r. r then z) hm ∙ then_assoc o (exprs_code args ss base next) z ∙
-      ap (λ k. o then (exprs_code args ss base k then c.lights w (all_at args ss k) (all_code s ss base temps) c.end)) hn
+      ap (λ k. o then (exprs_code args ss base k then c.lights w (all_at args ss base k) (all_code s ss base temps) c.end)) hn
 
 -- classes
 
 pub class_of : (e : C.Expr) (ss : List Slot) (r : ℕ) (q : Register) (w : Bool) → q ≡ at e ss r → w ≡ register_class q → w ≡ is_uniform e ss
 class_of e ss r q w h hw = hw ∙ ap register_class h ∙ class_at e ss r
 
-pub classes_of : (es : C.Exprs) (ss : List Slot) (r : ℕ) (qs : List Register) (w : Bool) → qs ≡ all_at es ss r → w ≡ are_uniform_registers qs → w ≡ are_uniform es ss
-classes_of es ss r qs w h hw = hw ∙ ap are_uniform_registers h ∙ classes_at es ss r
+pub classes_of : (es : C.Exprs) (ss : List Slot) (b r : ℕ) (qs : List Register) (w : Bool) → qs ≡ all_at es ss b r → w ≡ are_uniform_registers qs → w ≡ are_uniform es ss
+classes_of es ss b r qs w h hw = hw ∙ ap are_uniform_registers h ∙ classes_at es ss b r
 
 pub both_of : (u a b a' b' : Bool) → u ≡ a && b → a ≡ a' → b ≡ b' → u ≡ a' && b'
 both_of u a b a' b' h ha hb = h ∙ ap (λ x. x && b) ha ∙ ap (λ x. a' && x) hb

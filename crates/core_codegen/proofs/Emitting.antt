@@ -5,7 +5,9 @@ use Rattle.std.proofs.Math.Seq.{take-append_seam}
 use Rattle.builtins.specs.Values.{shape_of}
 use Rattle.grid_code.specs.declared.code.Register.{Register}
 use Rattle.grid_code.specs.Names.{reg}
-use Rattle.grid_code.specs.Code.{Block, ◌then◌}
+use Rattle.grid_code.specs.Code.{Block, end, ◌then◌}
+use Rattle.sl_ast.specs.declared.typed.Variable.TheVariants as variables
+use Rattle.core_codegen.specs.Variables.{variable}
 use Rattle.grid_code.proofs.Then.{then_assoc, then_end}
 use Rattle.sl_meaning.specs.Core as C
 use Rattle.sl_meaning.specs.Core.{Slot, slot, formals, after, after_all, is_uniform, all_uniform, args_uniform, stmt_uniform, stmts_uniform}
@@ -13,7 +15,7 @@ use Rattle.sl_meaning.specs.CoreView.{expr_of, exprs_of, args_of, stmt_of, stmts
 use Rattle.sl_meaning.specs.declared.core_tree.CoreExpr.{CoreExpr}
 use Rattle.sl_meaning.specs.declared.core_tree.CoreStmt.{CoreStmt}
 use Rattle.sl_meaning.specs.declared.core_tree.Argument.{Argument}
-use Rattle.core_codegen.specs.Compile.{at, all_at, into, expr_code, exprs_code, args_code, locals, all_locals, stmt_code, all_code}
+use Rattle.core_codegen.specs.Compile.{at, shape_in, operand_at, operand_code, IsMade, all_at, into, expr_code, exprs_code, args_code, locals, all_locals, stmt_code, all_code}
 use Rattle.core_codegen.specs.Sizes.{ScopedExpr, ScopedExprs, ScopedArgs, ScopedStmt, ScopedAll, expr_size, exprs_size, args_size, stmt_size, all_size}
 use Rattle.core_codegen.specs.Room.{expr_room, exprs_room, args_room, stmt_room, all_room, temps as temps_of, all_temps}
 use Rattle.grid_code.specs.Shapes.{register_class}
@@ -24,7 +26,7 @@ use Rattle.core_codegen.proofs.ValueRegisters.{class_at, next_left, nothing_left
 
 pub record Operands (all : List CoreExpr) (i base next target : ℕ) (ss : List Slot) (code0 code : Block) (qs : List Register) : Type 0 where
   pub code_left : code then exprs_code (exprs_of (drop i all)) ss base target ≡ code0 then exprs_code (exprs_of all) ss base next
-  pub at_left : qs ++ all_at (exprs_of (drop i all)) ss target ≡ all_at (exprs_of all) ss next
+  pub at_left : qs ++ all_at (exprs_of (drop i all)) ss base target ≡ all_at (exprs_of all) ss base next
   pub scoped : ScopedExprs (exprs_of (drop i all)) ss
   pub frame : base + length ss ≤ target
   pub fits : target + exprs_room (exprs_of (drop i all)) < 2 ^ 32
@@ -32,7 +34,7 @@ pub record Operands (all : List CoreExpr) (i base next target : ℕ) (ss : List 
 
 pub operands_init : (all : List CoreExpr) (base next : ℕ) (ss : List Slot) (code : Block) (qs : List Register) → ScopedExprs (exprs_of all) ss → base + length ss ≤ next →
     next + exprs_room (exprs_of all) < 2 ^ 32 → qs ≡ [] → Operands all 0 base next next ss code code qs
-operands_init all base next ss code qs s f g h = record { code_left = refl; at_left = ap (λ l. l ++ all_at (exprs_of all) ss next) h; scoped = s; frame = f; fits = g; small = omega arith }
+operands_init all base next ss code qs s f g h = record { code_left = refl; at_left = ap (λ l. l ++ all_at (exprs_of all) ss base next) h; scoped = s; frame = f; fits = g; small = omega arith }
 
 module _ (all : List CoreExpr) (i base next target : ℕ) (ss : List Slot) (code0 code : Block) (qs : List Register) (x : CoreExpr)
     (o : Operands all i base next target ss code0 code qs) (h : i < length all) (is : x ≡ get_or all i x) where
@@ -48,28 +50,41 @@ module _ (all : List CoreExpr) (i base next target : ℕ) (ss : List Slot) (code
   pub operand_small : expr_size (expr_of x) < exprs_size (exprs_of all)
   operand_small = let q = ap exprs_size next_expr in let g = o.small in omega arith
 
-  pub operands_step : (q : Register) (code' : Block) (qs' : List Register) → q ≡ at (expr_of x) ss target → code' ≡ code then expr_code (expr_of x) ss base target → qs' ≡ qs ++ q ∷ [] →
+  pub operands_step : (q : Register) (code' : Block) (qs' : List Register) → q ≡ operand_at (expr_of x) ss base target → code' ≡ code then operand_code (expr_of x) (expr_code (expr_of x) ss base target) → qs' ≡ qs ++ q ∷ [] →
       Operands all (i + 1) base next (target + 1) ss code0 code' qs'
   operands_step q code' qs' hq hc hs =
       let rest = exprs_of (drop (i + 1) all) in
-      let a = expr_code (expr_of x) ss base target in
+      let a = operand_code (expr_of x) (expr_code (expr_of x) ss base target) in
       let z = exprs_code rest ss base (target + 1) in
       record {
         code_left = ap (λ y. y then z) hc ∙ then_assoc code a z ∙ ap (λ y. code then exprs_code y ss base target) (sym next_expr) ∙ o.code_left;
         at_left =
-            ap (λ l. l ++ all_at rest ss (target + 1)) (hs ∙ ap (λ y. qs ++ y ∷ []) hq) ∙ append_assoc qs (at (expr_of x) ss target ∷ []) (all_at rest ss (target + 1))
-            ∙ ap (λ y. qs ++ all_at y ss target) (sym next_expr) ∙ o.at_left;
+            ap (λ l. l ++ all_at rest ss base (target + 1)) (hs ∙ ap (λ y. qs ++ y ∷ []) hq) ∙ append_assoc qs (operand_at (expr_of x) ss base target ∷ []) (all_at rest ss base (target + 1))
+            ∙ ap (λ y. qs ++ all_at y ss base target) (sym next_expr) ∙ o.at_left;
         scoped = (subst (λ e. ScopedExprs e ss) next_expr o.scoped).1;
         frame = let g = o.frame in omega arith;
         fits = let k = ap exprs_room next_expr in let g = o.fits in omega arith;
         small = let k = ap exprs_size next_expr in let g = o.small in omega arith;
       }
 
+-- an operand that is a variable of the frame, and one whose value is put into a register
+pub held_operand : (e : C.Expr) (ss : List Slot) (b r k : ℕ) (q : Register) → e ≡ C.read (variables.Level k) → q ≡ variable ss b (variables.Level k) → q ≡ operand_at e ss b r
+held_operand e ss b r k q is h = h ∙ ap (λ z. operand_at z ss b r) (sym is)
+
+pub held_code : (e : C.Expr) (ss : List Slot) (b r k : ℕ) (code : Block) → e ≡ C.read (variables.Level k) → code ≡ code then operand_code e (expr_code e ss b r)
+held_code e ss b r k code is = sym (then_end code) ∙ ap (λ z. code then operand_code z (expr_code z ss b r)) (sym is)
+
+pub made_operand : (e : C.Expr) (ss : List Slot) (b r : ℕ) (q : Register) → IsMade e → q ≡ at e ss r → q ≡ operand_at e ss b r
+made_operand e ss b r q made h = h ∙ ap (λ k. reg (is_uniform e ss) (shape_in e ss) k) (sym (made b r end).0)
+
+pub made_code : (e : C.Expr) (ss : List Slot) (b r : ℕ) (code code' : Block) → IsMade e → code' ≡ code then expr_code e ss b r → code' ≡ code then operand_code e (expr_code e ss b r)
+made_code e ss b r code code' made h = h ∙ ap (λ y. code then y) (sym (made b r (expr_code e ss b r)).1)
+
 pub operands_end : (all : List CoreExpr) (i base next target : ℕ) (ss : List Slot) (code0 code : Block) (qs : List Register) → Operands all i base next target ss code0 code qs → i ≡ length all →
-    (qs ≡ all_at (exprs_of all) ss next) × (code ≡ code0 then exprs_code (exprs_of all) ss base next)
+    (qs ≡ all_at (exprs_of all) ss base next) × (code ≡ code0 then exprs_code (exprs_of all) ss base next)
 operands_end all i base next target ss code0 code qs o h =
     let n = ap exprs_of (nothing_left all i h) in
-    (sym (append-nil qs) ∙ ap (λ y. qs ++ all_at y ss target) (sym n) ∙ o.at_left, sym (then_end code) ∙ ap (λ y. code then exprs_code y ss base target) (sym n) ∙ o.code_left)
+    (sym (append-nil qs) ∙ ap (λ y. qs ++ all_at y ss base target) (sym n) ∙ o.at_left, sym (then_end code) ∙ ap (λ y. code then exprs_code y ss base target) (sym n) ∙ o.code_left)
 
 -- arguments
 

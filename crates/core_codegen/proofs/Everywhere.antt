@@ -5,6 +5,7 @@ use Rattle.sl_ast.specs.declared.operations.ValueOperation.{ValueOperation}
 use Rattle.sl_ast.specs.declared.operations.Difference.{Difference}
 use Rattle.sl_ast.specs.declared.operations.LightSum.{LightSum}
 use Rattle.sl_ast.specs.declared.typed.Variable.{Variable}
+use Rattle.sl_ast.specs.declared.typed.Variable.TheVariants as variables
 use Rattle.sl_ast.specs.declared.typed.Value.{Value}
 use Rattle.builtins.specs.declared.shape.Shape.{Shape}
 use Rattle.builtins.specs.Table.{applied}
@@ -96,11 +97,16 @@ module _ (c : ℕ) (ss : List Slot) (b : ℕ) (free : first_free ≤ b) where
         runs = λ es y. all_write r (class_in x ss) s f es (λ i. read_of x (es i)) g g fit y (λ i l. refl) (λ i l h. variable_steady ss b x i g h) (λ i l. rel_reads i ss b (es i) g x in_scope (y.rel i l));
       }
 
+  -- a variable of the frame is read where it stands
+  pub all_held : (r k : ℕ) (g : State) → InScope (variables.Level k) ss → AllExpr c ss b r (variable ss b (variables.Level k)) (λ es. (λ i. read_of (variables.Level k) (es i), es)) g g
+  all_held r k g in_scope =
+      record { low = all_low_self c r g; runs = λ es y. record { ready = y; staying = λ i l. refl; value = λ i l. rel_reads i ss b (es i) g (variables.Level k) in_scope (y.rel i l) } }
+
   pub all_none : (m : ℕ) (g : State) → AllExprs c ss b m [] (λ es. (λ i. [], es)) g g
   all_none m g = record { low = all_low_self c m g; runs = λ es y. record { ready = y; staying = λ i l. refl; values = λ i l. refl } }
 
-  pub all_more : (m : ℕ) (u : Bool) (s : Shape) (qs : List Register) (va : GivesAll Value) (vs : GivesAll (List Value)) (g g1 g2 : State) → b + length ss ≤ m → AllExpr c ss b m (reg u s m) va g g1 → AllExprs c ss b (m + 1) qs vs g1 g2 → AllExprs c ss b m (reg u s m ∷ qs) (more_all va vs) g g2
-  all_more m u s qs va vs g g1 g2 fit sa rest =
+  pub all_more : (m q : ℕ) (u : Bool) (s : Shape) (qs : List Register) (va : GivesAll Value) (vs : GivesAll (List Value)) (g g1 g2 : State) → first_free ≤ q → q ≤ m → AllExpr c ss b m (reg u s q) va g g1 → AllExprs c ss b (m + 1) qs vs g1 g2 → AllExprs c ss b m (reg u s q ∷ qs) (more_all va vs) g g2
+  all_more m q u s qs va vs g g1 g2 high low sa rest =
       record {
         low = all_low_on c m m (m + 1) g g1 g2 (omega arith) (omega arith) sa.low rest.low;
         runs = λ es ready.
@@ -110,7 +116,7 @@ module _ (c : ℕ) (ss : List Slot) (b : ℕ) (free : first_free ≤ b) where
               ready = y.ready;
               staying = λ i l. y.staying i l ∙ x.staying i l;
               values = λ i l.
-                  ap (λ v. v ∷ reads g2 qs i) (read_all_low c (m + 1) g1 g2 u s m i l (omega arith) (omega arith) rest.low ∙ x.value i l) ∙ ap (λ w. (va es).0 i ∷ w) (y.values i l);
+                  ap (λ v. v ∷ reads g2 qs i) (read_all_low c (m + 1) g1 g2 u s q i l high (omega arith) rest.low ∙ x.value i l) ∙ ap (λ w. (va es).0 i ∷ w) (y.values i l);
             };
       }
 
@@ -124,11 +130,11 @@ module _ (c : ℕ) (ss : List Slot) (b : ℕ) (free : first_free ≤ b) where
       }
 
   module _ (g0 : Ground) (a : Around) (ground : IsGround c g0 a) where
-    pub all_apply : (op : ValueOperation) (args : Exprs) (r : ℕ) (s : Shape) (va : GivesAll (List Value)) (g g1 : State) → b + length ss ≤ r → AllExprs c ss b r (all_at args ss r) va g g1 → AllExpr c ss b r (reg (are_uniform args ss) s r) (on_all (applied op a.spaces) va) g (write c (reg (are_uniform args ss) s r) (result_of (Apply op (all_at args ss r)) g0 g1) g1)
+    pub all_apply : (op : ValueOperation) (args : Exprs) (r : ℕ) (s : Shape) (va : GivesAll (List Value)) (g g1 : State) → b + length ss ≤ r → AllExprs c ss b r (all_at args ss b r) va g g1 → AllExpr c ss b r (reg (are_uniform args ss) s r) (on_all (applied op a.spaces) va) g (write c (reg (are_uniform args ss) s r) (result_of (Apply op (all_at args ss b r)) g0 g1) g1)
     all_apply op args r s va g g1 fit sa =
-        all_node r (are_uniform args ss) s (all_at args ss r) va (λ es i. applied op a.spaces ((va es).0 i)) (result_of (Apply op (all_at args ss r)) g0 g1) g g1 fit sa
-        (λ i l h. ap (applied op g0.spaces) (reads_steady args ss r i g1 h))
-        (λ es i l same rel. ap (λ sp. applied op sp (reads g1 (all_at args ss r) i)) ground.spaces ∙ ap (applied op a.spaces) same)
+        all_node r (are_uniform args ss) s (all_at args ss b r) va (λ es i. applied op a.spaces ((va es).0 i)) (result_of (Apply op (all_at args ss b r)) g0 g1) g g1 fit sa
+        (λ i l h. ap (applied op g0.spaces) (reads_steady args ss b r i g1 h))
+        (λ es i l same rel. ap (λ sp. applied op sp (reads g1 (all_at args ss b r) i)) ground.spaces ∙ ap (applied op a.spaces) same)
 
     pub all_sum : (which : LightSum) (qs : List Register) (r : ℕ) (s : Shape) (va : GivesAll (List Value)) (g g1 : State) → b + length ss ≤ r → AllExprs c ss b r qs va g g1 → AllExpr c ss b r (reg false s r) (summed_all a (sum_of which) va) g (write c (reg false s r) (λ j. sum_of which (reads g1 qs j) (all_answers g0.lights g1 (name_at names.P) j)) g1)
     all_sum which qs r s va g g1 fit sa =
@@ -149,10 +155,10 @@ module _ (c : ℕ) (ss : List Slot) (b : ℕ) (free : first_free ≤ b) where
               ∙ same_difference a.lines wide tall d a.spaces.flip (read g1 (reg u t r)) (va es).0 agree i (subst (λ n. i < n) size l));
         }
 
-    pub all_texture : (size : c ≡ a.lines.columns * a.lines.rows) → 2 ≤ a.lines.columns → 2 ≤ a.lines.rows → (k : ℕ) (args : Exprs) (r : ℕ) (s : Shape) (va : GivesAll (List Value)) (g g1 : State) → b + length ss ≤ r → AllExprs c ss b r (all_at args ss r) va g g1 → AllExpr c ss b r (reg (are_uniform args ss) s r) (λ es. let x = va es in (textured a.lines (a.images k) x.0, x.1)) g (write c (reg (are_uniform args ss) s r) (textured g0.lines (g0.images k) (reads g1 (all_at args ss r))) g1)
+    pub all_texture : (size : c ≡ a.lines.columns * a.lines.rows) → 2 ≤ a.lines.columns → 2 ≤ a.lines.rows → (k : ℕ) (args : Exprs) (r : ℕ) (s : Shape) (va : GivesAll (List Value)) (g g1 : State) → b + length ss ≤ r → AllExprs c ss b r (all_at args ss b r) va g g1 → AllExpr c ss b r (reg (are_uniform args ss) s r) (λ es. let x = va es in (textured a.lines (a.images k) x.0, x.1)) g (write c (reg (are_uniform args ss) s r) (textured g0.lines (g0.images k) (reads g1 (all_at args ss b r))) g1)
     all_texture size wide tall k args r s va g g1 fit sa =
         let u = are_uniform args ss in
-        let vs = reads g1 (all_at args ss r) in
+        let vs = reads g1 (all_at args ss b r) in
         let f = textured g0.lines (g0.images k) vs in
         record {
           low = all_low_on c r r r g g1 _ (omega arith) (omega arith) sa.low (all_wrote_low c r g1 _ (λ i. wrote c i r u s f g1));
@@ -160,7 +166,7 @@ module _ (c : ℕ) (ss : List Slot) (b : ℕ) (free : first_free ≤ b) where
               let x = sa.runs es ready in
               let agree : (i : ℕ) → i < a.lines.columns * a.lines.rows → vs i ≡ (va es).0 i = λ i l. x.values i (subst (λ n. i < n) (sym size) l) in
               all_write r u s f (va es).1 (textured a.lines (a.images k) (va es).0) g g1 fit x.ready x.staying
-              (λ i l h. textured_steady g0.lines (g0.images k) vs (λ j. reads_steady args ss r j g1 h) i)
+              (λ i l h. textured_steady g0.lines (g0.images k) vs (λ j. reads_steady args ss b r j g1 h) i)
               (λ i l. ap (λ n. textured n (g0.images k) vs i) ground.lines ∙ ap (λ p. textured a.lines p vs i) (ground.images k)
               ∙ same_textured a.lines wide tall (a.images k) vs (va es).0 agree i (subst (λ n. i < n) size l));
         }

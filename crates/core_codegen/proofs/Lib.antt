@@ -1,4 +1,5 @@
 pub mod Relation
+pub mod Operands
 pub mod Steps
 pub mod Scopes
 pub mod Stmts

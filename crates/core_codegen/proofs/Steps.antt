@@ -6,6 +6,7 @@ use Rattle.sl_ast.specs.declared.kinds.Predefined.TheVariants as names
 use Rattle.sl_ast.specs.declared.operations.ValueOperation.{ValueOperation}
 use Rattle.sl_ast.specs.declared.operations.LightSum.{LightSum}
 use Rattle.sl_ast.specs.declared.typed.Variable.{Variable}
+use Rattle.sl_ast.specs.declared.typed.Variable.TheVariants as variables
 use Rattle.sl_ast.specs.declared.typed.Value.{Value}
 use Rattle.builtins.specs.declared.shape.Shape.{Shape}
 use Rattle.builtins.specs.Values.{shape_of, triple_of}
@@ -18,7 +19,7 @@ use Rattle.grid_code.specs.Masked.{Asked, Ground, State, read, reads, result_of,
 use Rattle.sl_meaning.specs.Core.{Slot, Exprs, none, more, class_in, kind_in, is_uniform, are_uniform}
 use Rattle.sl_meaning.specs.Environment.{Env, Around, read_of}
 use Rattle.sl_meaning.specs.Alone.{then_more, on_value, summed, answers_at}
-use Rattle.core_codegen.specs.Compile.{at, all_at, shape_in}
+use Rattle.core_codegen.specs.Compile.{place, operand_at, all_at, shape_in}
 use Rattle.core_codegen.specs.Variables.{variable}
 use Rattle.core_codegen.specs.Correct.{Holds, Answers, IsGround}
 use Rattle.core_codegen.specs.Fine.{InScope}
@@ -54,11 +55,11 @@ pub read_steady : (u : Bool) (s : Shape) (k i : ℕ) (g : State) → u ≡ true 
 read_steady true s k i g h = refl
 read_steady false s k i g h = cc
 
-pub reads_steady : (args : Exprs) (ss : List Slot) (r i : ℕ) (g : State) → are_uniform args ss ≡ true → reads g (all_at args ss r) 0 ≡ reads g (all_at args ss r) i
-reads_steady none ss r i g h = refl
-reads_steady (more e rest) ss r i g h =
+pub reads_steady : (args : Exprs) (ss : List Slot) (b r i : ℕ) (g : State) → are_uniform args ss ≡ true → reads g (all_at args ss b r) 0 ≡ reads g (all_at args ss b r) i
+reads_steady none ss b r i g h = refl
+reads_steady (more e rest) ss b r i g h =
     let p = and_parts (is_uniform e ss) (are_uniform rest ss) h in
-    ap (λ v. v ∷ reads g (all_at rest ss (r + 1)) 0) (read_steady (is_uniform e ss) (shape_in e ss) r i g p.0) ∙ ap (λ vs. read g (at e ss r) i ∷ vs) (reads_steady rest ss (r + 1) i g p.1)
+    ap (λ v. v ∷ reads g (all_at rest ss b (r + 1)) 0) (read_steady (is_uniform e ss) (shape_in e ss) (place e b r) i g p.0) ∙ ap (λ vs. read g (operand_at e ss b r) i ∷ vs) (reads_steady rest ss b (r + 1) i g p.1)
 
 pub variable_steady : (ss : List Slot) (b : ℕ) (x : Variable) (i : ℕ) (g : State) → class_in x ss ≡ true → read g (variable ss b x) 0 ≡ read g (variable ss b x) i
 variable_steady ss b x i g h =
@@ -100,17 +101,22 @@ module _ (c i : ℕ) (lt : i < c) (ss : List Slot) (b : ℕ) (free : first_free 
         runs = λ e live rel exact. valued_write r (class_in x ss) s (result_of (Copy (variable ss b x)) g0 g) e (read_of x e) g g fit live refl rel exact (λ h. variable_steady ss b x i g h) (rel_reads i ss b e g x in_scope rel);
       }
 
+  -- a variable of the frame is read where it stands
+  pub held_step : (r k : ℕ) (g : State) → InScope (variables.Level k) ss → ExprStep i ss b r (variable ss b (variables.Level k)) (λ e. (read_of (variables.Level k) e, e)) g g
+  held_step r k g in_scope =
+      record { low = low_self i r r g; runs = λ e live rel exact. record { live = live; staying = refl; value = rel_reads i ss b e g (variables.Level k) in_scope rel; rel = rel; exact = exact } }
+
   pub none_step : (m : ℕ) (g : State) → ExprsStep i ss b m [] (λ e. ([], e)) g g
   none_step m g = record { low = low_self i m m g; runs = λ e live rel exact. record { live = live; staying = refl; values = refl; rel = rel; exact = exact } }
 
-  pub more_step : (m : ℕ) (u : Bool) (s : Shape) (qs : List Register) (va : Env → Value × Env) (vs : Env → List Value × Env) (g g1 g2 : State) → b + length ss ≤ m → ExprStep i ss b m (reg u s m) va g g1 → ExprsStep i ss b (m + 1) qs vs g1 g2 → ExprsStep i ss b m (reg u s m ∷ qs) (then_more va vs) g g2
-  more_step m u s qs va vs g g1 g2 fit sa rest =
+  pub more_step : (m q : ℕ) (u : Bool) (s : Shape) (qs : List Register) (va : Env → Value × Env) (vs : Env → List Value × Env) (g g1 g2 : State) → first_free ≤ q → q ≤ m → ExprStep i ss b m (reg u s q) va g g1 → ExprsStep i ss b (m + 1) qs vs g1 g2 → ExprsStep i ss b m (reg u s q ∷ qs) (then_more va vs) g g2
+  more_step m q u s qs va vs g g1 g2 high low sa rest =
       record {
         low = low_on i m m m m (m + 1) (m + 1) g g1 g2 (omega arith) (omega arith) (omega arith) (omega arith) sa.low rest.low;
         runs = λ e live rel exact.
             let x = sa.runs e live rel exact in
             let y = rest.runs (va e).1 x.live x.rel x.exact in
-            let one : read g2 (reg u s m) i ≡ (va e).0 = read_low i (m + 1) (m + 1) g1 g2 u s m (omega arith) (omega arith) (omega arith) rest.low ∙ x.value in
+            let one : read g2 (reg u s q) i ≡ (va e).0 = read_low i (m + 1) (m + 1) g1 g2 u s q high (omega arith) (omega arith) rest.low ∙ x.value in
             record {
               live = y.live;
               staying = y.staying ∙ x.staying;
@@ -131,11 +137,11 @@ module _ (c i : ℕ) (lt : i < c) (ss : List Slot) (b : ℕ) (free : first_free 
             valued_write r u s f (va e).1 (v e) g g1 fit x.live x.staying x.rel x.exact steady (is e x.values x.rel);
       }
 
-  pub apply_step : (g0 : Ground) (a : Around) → IsGround c g0 a → (op : ValueOperation) (args : Exprs) (r : ℕ) (s : Shape) (va : Env → List Value × Env) (g g1 : State) → b + length ss ≤ r → ExprsStep i ss b r (all_at args ss r) va g g1 → ExprStep i ss b r (reg (are_uniform args ss) s r) (on_value (applied op a.spaces) va) g (write c (reg (are_uniform args ss) s r) (result_of (Apply op (all_at args ss r)) g0 g1) g1)
+  pub apply_step : (g0 : Ground) (a : Around) → IsGround c g0 a → (op : ValueOperation) (args : Exprs) (r : ℕ) (s : Shape) (va : Env → List Value × Env) (g g1 : State) → b + length ss ≤ r → ExprsStep i ss b r (all_at args ss b r) va g g1 → ExprStep i ss b r (reg (are_uniform args ss) s r) (on_value (applied op a.spaces) va) g (write c (reg (are_uniform args ss) s r) (result_of (Apply op (all_at args ss b r)) g0 g1) g1)
   apply_step g0 a ground op args r s va g g1 fit sa =
-      node_step r (are_uniform args ss) s (all_at args ss r) va (λ e. applied op a.spaces (va e).0) (result_of (Apply op (all_at args ss r)) g0 g1) g g1 fit sa
-      (λ h. ap (applied op g0.spaces) (reads_steady args ss r i g1 h))
-      (λ e same rel. ap (λ sp. applied op sp (reads g1 (all_at args ss r) i)) ground.spaces ∙ ap (applied op a.spaces) same)
+      node_step r (are_uniform args ss) s (all_at args ss b r) va (λ e. applied op a.spaces (va e).0) (result_of (Apply op (all_at args ss b r)) g0 g1) g g1 fit sa
+      (λ h. ap (applied op g0.spaces) (reads_steady args ss b r i g1 h))
+      (λ e same rel. ap (λ sp. applied op sp (reads g1 (all_at args ss b r) i)) ground.spaces ∙ ap (applied op a.spaces) same)
 
   pub sum_step : (g0 : Ground) (a : Around) → IsGround c g0 a → (which : LightSum) (qs : List Register) (r : ℕ) (s : Shape) (va : Env → List Value × Env) (g g1 : State) → b + length ss ≤ r → ExprsStep i ss b r qs va g g1 → ExprStep i ss b r (reg false s r) (summed a (sum_of which) va) g (write c (reg false s r) (λ j. sum_of which (reads g1 qs j) (all_answers g0.lights g1 (name_at names.P) j)) g1)
   sum_step g0 a ground which qs r s va g g1 fit sa =

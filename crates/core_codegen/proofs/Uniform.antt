@@ -13,7 +13,7 @@ use Rattle.sl_meaning.specs.Core.{Slot, slot, Expr, literal, read, apply, differ
 use Rattle.sl_meaning.specs.Environment.{Around, Signal, Next, Break, Continue, spend}
 use Rattle.sl_meaning.specs.Alone.{Runs, inside, value, run, run_all}
 use Rattle.sl_meaning.specs.Grid.{Envs, GivesAll, RunsAll, next_all, inside_all, choice_all, round_all, loop_all, loops_all, values, all_of, args_of, grid, grid_all}
-use Rattle.core_codegen.specs.Compile.{at, all_at, shape_in, into, expr_code, exprs_code, args_code, locals, all_locals, behind, stmt_code, all_code}
+use Rattle.core_codegen.specs.Compile.{at, place, operand_at, operand_code, all_at, shape_in, into, expr_code, exprs_code, args_code, locals, all_locals, behind, stmt_code, all_code}
 use Rattle.core_codegen.specs.Variables.{variable}
 use Rattle.core_codegen.specs.Correct.{IsGround}
 use Rattle.core_codegen.specs.Fine.{Stays, StaysAll, FineAll, When, GridExpr, GridExprs, GridArgs, GridStmt, GridAll}
@@ -24,7 +24,8 @@ use Rattle.core_codegen.proofs.Relation.{rel_masks}
 use Rattle.core_codegen.proofs.Scopes.{after_long, extends_stmt, extends_all, StmtStep, BodyStep, inside_step}
 use Rattle.core_codegen.proofs.Loops.{loop_step}
 use Rattle.core_codegen.proofs.Varying.{loop_next, over_next, stays_all, call_uniform, expr_ok, all_ok}
-use Rattle.core_codegen.proofs.Everywhere.{AllExpr, AllExprs, all_low_self, all_literal, all_read, all_none, all_more, all_apply, all_sum, all_differ, all_texture}
+use Rattle.core_codegen.proofs.Operands.{of_operand, place_free, grid_place}
+use Rattle.core_codegen.proofs.Everywhere.{AllExpr, AllExprs, all_low_self, all_literal, all_read, all_held, all_none, all_more, all_apply, all_sum, all_differ, all_texture}
 use Rattle.core_codegen.proofs.Lands.{AllStmt, AllBody, AllArgs, all_seq, all_inside, all_block, all_no_args, all_arg, all_call, all_declare}
 use Rattle.core_codegen.proofs.Everyone.{all_assign, all_one, all_parts, all_lights, all_each}
 use Rattle.core_codegen.proofs.Rounds.{all_loop}
@@ -123,6 +124,10 @@ module _ (c n : ℕ) (g0 : Ground) (a : Around) (ground : IsGround c g0 a) (size
       (λ i l. loop_step c i l ss b free (at t ss m) (value t a n) (run_all e a n) (inside (run_all s a n)) (masked (expr_code t ss b m) g0 c n) (masked (all_code e ss b top) g0 c n) (masked (all_code s ss b top) g0 c n)
       (λ x. expr_ok c n i l g0 a ground t ss b m x h.0 free (omega arith)) (λ x d. dead (expr_code t ss b m) g0 c n i x d) (λ x. subst (λ z. StmtStep i z ss b (run_all e a n) x (masked (all_code e ss b top) g0 c n x)) h.1.0.1.1 (all_ok c n i l g0 a ground e ss b top x h.1.0.0 free (omega arith))) (λ e2. stays_all e a n e2 h.1.0.1.0) (λ x. body_at i l s ss b top free (omega arith) h.1.1 x) n g)
 
+  operand_all : (e : Expr) (ss : List Slot) (b r : ℕ) (g : State) → GridExpr e ss → first_free ≤ b → AllExpr c ss b r (at e ss r) (values e a n) g (masked (expr_code e ss b r) g0 c n g) → AllExpr c ss b r (operand_at e ss b r) (values e a n) g (masked (operand_code e (expr_code e ss b r)) g0 c n g)
+  operand_all e ss b r g h free made =
+      of_operand (λ z q y. GridExpr z ss → AllExpr c ss b r (reg (is_uniform z ss) (shape_in z ss) q) (values z a n) g (masked y g0 c n g)) e b r (expr_code e ss b r) (λ k in_scope. all_held c ss b free r k g in_scope) (λ fine. made) h
+
   mutual
     pub expr_all : (e : Expr) (ss : List Slot) (b r : ℕ) (g : State) → GridExpr e ss → first_free ≤ b → b + length ss ≤ r → AllExpr c ss b r (at e ss r) (values e a n) g (masked (expr_code e ss b r) g0 c n g)
     expr_all (literal v) ss b r g h free fit = all_literal c ss b free r v (shape v) g0 g fit
@@ -135,7 +140,7 @@ module _ (c n : ℕ) (g0 : Ground) (a : Around) (ground : IsGround c g0 a) (size
         (all_differ c ss b free g0 a ground size wide tall d (is_uniform e ss) (shape_in (differ d e) ss) (shape_in e ss) r (values e a n) g _ fit (expr_all e ss b r g h free fit))
     expr_all (sum w args) ss b r g h free fit =
         subst (λ s. AllExpr c ss b r (at (sum w args) ss r) (values (sum w args) a n) g s) (sym (then_runs (exprs_code args ss b r) _ g0 c n g))
-        (all_sum c ss b free g0 a ground w (all_at args ss r) r (shape_in (sum w args) ss) (all_of args a n) g _ fit (exprs_all args ss b r g h free fit))
+        (all_sum c ss b free g0 a ground w (all_at args ss b r) r (shape_in (sum w args) ss) (all_of args a n) g _ fit (exprs_all args ss b r g h free fit))
     expr_all (texture m args) ss b r g h free fit =
         subst (λ s. AllExpr c ss b r (at (texture m args) ss r) (values (texture m args) a n) g s) (sym (then_runs (exprs_code args ss b r) _ g0 c n g))
         (all_texture c ss b free g0 a ground size wide tall m args r (shape_in (texture m args) ss) (all_of args a n) g _ fit (exprs_all args ss b r g h free fit))
@@ -148,12 +153,14 @@ module _ (c n : ℕ) (g0 : Ground) (a : Around) (ground : IsGround c g0 a) (size
         (all_call c g0 ss b free r fs ss2 (is_uniform (call args body kind e) ss) (is_uniform e ss2) (shape_of kind) (shape_in e ss2) kind (args_of args a n) (grid_all body fs a n) (values e a n) g g1 g2 _ fit (call_uniform args body e ss) (λ es. all_stay body fs a n es h.1.1.0)
         (args_all args ss b r g h.0 free fit) (all_all body fs r (behind fs r body) g1 h.1.0 (omega arith) (omega arith)) (expr_all e ss2 r (r + length ss2) g2 h.1.1.1 (omega arith) (omega arith)))
 
-    pub exprs_all : (es : Exprs) (ss : List Slot) (b r : ℕ) (g : State) → GridExprs es ss → first_free ≤ b → b + length ss ≤ r → AllExprs c ss b r (all_at es ss r) (all_of es a n) g (masked (exprs_code es ss b r) g0 c n g)
+    pub exprs_all : (es : Exprs) (ss : List Slot) (b r : ℕ) (g : State) → GridExprs es ss → first_free ≤ b → b + length ss ≤ r → AllExprs c ss b r (all_at es ss b r) (all_of es a n) g (masked (exprs_code es ss b r) g0 c n g)
     exprs_all none ss b r g h free fit = all_none c ss b free r g
     exprs_all (more e rest) ss b r g h free fit =
-        let g1 = masked (expr_code e ss b r) g0 c n g in
-        subst (λ s. AllExprs c ss b r (all_at (more e rest) ss r) (all_of (more e rest) a n) g s) (sym (then_runs (expr_code e ss b r) (exprs_code rest ss b (r + 1)) g0 c n g))
-        (all_more c ss b free r (is_uniform e ss) (shape_in e ss) (all_at rest ss (r + 1)) (values e a n) (all_of rest a n) g g1 _ fit (expr_all e ss b r g h.0 free fit) (exprs_all rest ss b (r + 1) g1 h.1 free (omega arith)))
+        let code = operand_code e (expr_code e ss b r) in
+        let g1 = masked code g0 c n g in
+        let q = place e b r in
+        subst (λ s. AllExprs c ss b r (all_at (more e rest) ss b r) (all_of (more e rest) a n) g s) (sym (then_runs code (exprs_code rest ss b (r + 1)) g0 c n g))
+        (all_more c ss b free r q (is_uniform e ss) (shape_in e ss) (all_at rest ss b (r + 1)) (values e a n) (all_of rest a n) g g1 _ (place_free e b r free (omega arith)) (grid_place e ss b r fit h.0) (operand_all e ss b r g h.0 free (expr_all e ss b r g h.0 free fit)) (exprs_all rest ss b (r + 1) g1 h.1 free (omega arith)))
 
     pub args_all : (xs : Arguments) (ss : List Slot) (b r : ℕ) (g : State) → GridArgs xs ss → first_free ≤ b → b + length ss ≤ r → AllArgs c ss b r (formals xs) (args_of xs a n) g (masked (args_code xs ss b r) g0 c n g)
     args_all no_arguments ss b r g h free fit = all_no_args c ss b r g
@@ -190,9 +197,9 @@ module _ (c n : ℕ) (g0 : Ground) (a : Around) (ground : IsGround c g0 a) (size
     stmt_all (lights w args s) ss b top g h free room =
         let m = b + length ss in
         let g1 = masked (exprs_code args ss b m) g0 c n g in
-        let q = then_runs (exprs_code args ss b m) (k.lights w (all_at args ss m) (all_code s ss b top) k.end) g0 c n g in
+        let q = then_runs (exprs_code args ss b m) (k.lights w (all_at args ss b m) (all_code s ss b top) k.end) g0 c n g in
         subst (λ v. AllStmt c ss ss b (grid (lights w args s) ss a n) g v) (sym q)
-        (all_lights c pos ss b free w g0 a ground m (all_at args ss m) (all_of args a n) (inside (run_all s a n)) (masked (all_code s ss b top) g0 c n) g g1 (omega arith) (exprs_all args ss b m g h.0 free (omega arith)) (λ l. subst (λ v. Asleep c g v) q (asleep (stmt_code (lights w args s) ss b top) g0 c n g l))
+        (all_lights c pos ss b free w g0 a ground m (all_at args ss b m) (all_of args a n) (inside (run_all s a n)) (masked (all_code s ss b top) g0 c n) g g1 (omega arith) (exprs_all args ss b m g h.0 free (omega arith)) (λ l. subst (λ v. Asleep c g v) q (asleep (stmt_code (lights w args s) ss b top) g0 c n g l))
         (λ vs e. over_next w a vs (inside (run_all s a n)) e (λ e2. stays_all s a n e2 h.1.1)) (λ i l x. body_at i l s ss b top free room h.1.0 x))
     stmt_all leave ss b top g h free room = leave_all ss b top g free
     stmt_all again ss b top g h free room = again_all ss b top g free

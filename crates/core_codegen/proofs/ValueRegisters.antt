@@ -17,7 +17,7 @@ use Rattle.builtins.specs.Values.{shape_of}
 use Rattle.grid_code.specs.declared.code.Register.{Register}
 use Rattle.grid_code.specs.Names.{reg}
 use Rattle.sl_meaning.specs.Core.{Slot, no_slot, Expr, Exprs, none, more, differ, is_uniform, are_uniform, class_in, kind_in}
-use Rattle.core_codegen.specs.Compile.{at, all_at, shape_in, shapes_in}
+use Rattle.core_codegen.specs.Compile.{at, place, operand_at, all_at, shape_in, shapes_in}
 use Rattle.core_codegen.specs.Variables.{variable}
 use Rattle.grid_code.specs.Shapes.{register_class, register_shape, are_uniform_registers, register_shapes, difference_shape}
 
@@ -35,13 +35,19 @@ class_at e ss r = class_reg (is_uniform e ss) (shape_in e ss) r
 pub shape_at : (e : Expr) (ss : List Slot) (r : ℕ) → register_shape (at e ss r) ≡ shape_in e ss
 shape_at e ss r = shape_reg (is_uniform e ss) (shape_in e ss) r
 
-pub classes_at : (es : Exprs) (ss : List Slot) (r : ℕ) → are_uniform_registers (all_at es ss r) ≡ are_uniform es ss
-classes_at none ss r = refl
-classes_at (more e rest) ss r = ap (λ u. u && are_uniform_registers (all_at rest ss (r + 1))) (class_at e ss r) ∙ ap (λ u. is_uniform e ss && u) (classes_at rest ss (r + 1))
+pub class_of_operand : (e : Expr) (ss : List Slot) (b r : ℕ) → register_class (operand_at e ss b r) ≡ is_uniform e ss
+class_of_operand e ss b r = class_reg (is_uniform e ss) (shape_in e ss) (place e b r)
 
-pub shapes_at : (es : Exprs) (ss : List Slot) (r : ℕ) → register_shapes (all_at es ss r) ≡ shapes_in es ss
-shapes_at none ss r = refl
-shapes_at (more e rest) ss r = ap (λ s. s ∷ register_shapes (all_at rest ss (r + 1))) (shape_at e ss r) ∙ ap (λ l. shape_in e ss ∷ l) (shapes_at rest ss (r + 1))
+pub shape_of_operand : (e : Expr) (ss : List Slot) (b r : ℕ) → register_shape (operand_at e ss b r) ≡ shape_in e ss
+shape_of_operand e ss b r = shape_reg (is_uniform e ss) (shape_in e ss) (place e b r)
+
+pub classes_at : (es : Exprs) (ss : List Slot) (b r : ℕ) → are_uniform_registers (all_at es ss b r) ≡ are_uniform es ss
+classes_at none ss b r = refl
+classes_at (more e rest) ss b r = ap (λ u. u && are_uniform_registers (all_at rest ss b (r + 1))) (class_of_operand e ss b r) ∙ ap (λ u. is_uniform e ss && u) (classes_at rest ss b (r + 1))
+
+pub shapes_at : (es : Exprs) (ss : List Slot) (b r : ℕ) → register_shapes (all_at es ss b r) ≡ shapes_in es ss
+shapes_at none ss b r = refl
+shapes_at (more e rest) ss b r = ap (λ s. s ∷ register_shapes (all_at rest ss b (r + 1))) (shape_of_operand e ss b r) ∙ ap (λ l. shape_in e ss ∷ l) (shapes_at rest ss b (r + 1))
 
 pub variable_class : (x : Variable) (ss : List Slot) (b : ℕ) → register_class (variable ss b x) ≡ class_in x ss
 variable_class (variables.Predefined p) ss b = class_reg (is_uniform_name p) (shape_of (name_type p)) (place_of p)

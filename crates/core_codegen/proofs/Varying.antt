@@ -19,14 +19,15 @@ use Rattle.grid_code.specs.Masked.{Ground, State, masked}
 use Rattle.sl_meaning.specs.Core.{Slot, slot, Expr, literal, read, apply, differ, sum, texture, call, Exprs, none, more, Arguments, no_arguments, argument, Stmt, declare, assign, block, test, repeat, lights, leave, again, Stmts, done, first, formals, after, after_all, all_uniform, is_uniform, args_uniform, stmts_uniform}
 use Rattle.sl_meaning.specs.Environment.{Env, Around, Signal, Next, Break, Continue, budget, spend}
 use Rattle.sl_meaning.specs.Alone.{Gives, Runs, on_next, inside, round, loop, under_light, each_light, seen_from, lighting, over_lights, value, all_values, arg_values, run, run_all}
-use Rattle.core_codegen.specs.Compile.{at, all_at, shape_in, into, expr_code, exprs_code, args_code, locals, all_locals, behind, stmt_code, all_code}
+use Rattle.core_codegen.specs.Compile.{at, place, operand_at, operand_code, all_at, shape_in, into, expr_code, exprs_code, args_code, locals, all_locals, behind, stmt_code, all_code}
 use Rattle.core_codegen.specs.Variables.{variable}
 use Rattle.core_codegen.specs.Correct.{IsGround}
 use Rattle.core_codegen.specs.Fine.{Stays, StaysAll, FineExpr, FineExprs, FineArgs, FineStmt, FineAll}
 use Rattle.grid_code.proofs.Dead.{Still, dead}
 use Rattle.grid_code.proofs.Then.{then_runs}
 use Rattle.core_codegen.proofs.Relation.{rel_masks}
-use Rattle.core_codegen.proofs.Steps.{ExprStep, ExprsStep, literal_step, read_step, none_step, more_step, apply_step, sum_step}
+use Rattle.core_codegen.proofs.Operands.{of_operand, place_free, fine_place}
+use Rattle.core_codegen.proofs.Steps.{ExprStep, ExprsStep, literal_step, read_step, held_step, none_step, more_step, apply_step, sum_step}
 use Rattle.core_codegen.proofs.Scopes.{after_long, extends_stmt, extends_all, StmtStep, BodyStep, inside_step, body_step, seq_step}
 use Rattle.core_codegen.proofs.Stmts.{ArgsStep, no_args_step, arg_step, call_step, declare_step, assign_step}
 use Rattle.core_codegen.proofs.Control.{parts_step, one_step}
@@ -118,6 +119,10 @@ module _ (c n i : ℕ) (lt : i < c) (g0 : Ground) (a : Around) (ground : IsGroun
         runs = λ e live rel exact. record { live = live; staying = refl; rel = rel; exact = exact };
       }
 
+  operand_ok : (e : Expr) (ss : List Slot) (b r : ℕ) (g : State) → FineExpr e ss → first_free ≤ b → ExprStep i ss b r (at e ss r) (value e a n) g (masked (expr_code e ss b r) g0 c n g) → ExprStep i ss b r (operand_at e ss b r) (value e a n) g (masked (operand_code e (expr_code e ss b r)) g0 c n g)
+  operand_ok e ss b r g h free made =
+      of_operand (λ z q y. FineExpr z ss → ExprStep i ss b r (reg (is_uniform z ss) (shape_in z ss) q) (value z a n) g (masked y g0 c n g)) e b r (expr_code e ss b r) (λ k in_scope. held_step c i lt ss b free r k g in_scope) (λ fine. made) h
+
   mutual
     pub expr_ok : (e : Expr) (ss : List Slot) (b r : ℕ) (g : State) → FineExpr e ss → first_free ≤ b → b + length ss ≤ r → ExprStep i ss b r (at e ss r) (value e a n) g (masked (expr_code e ss b r) g0 c n g)
     expr_ok (literal v) ss b r g h free fit = literal_step c i lt ss b free r v (shape v) g0 g fit
@@ -129,7 +134,7 @@ module _ (c n i : ℕ) (lt : i < c) (g0 : Ground) (a : Around) (ground : IsGroun
     expr_ok (texture k args) ss b r g h free fit = absurd h
     expr_ok (sum w args) ss b r g h free fit =
         subst (λ s. ExprStep i ss b r (at (sum w args) ss r) (value (sum w args) a n) g s) (sym (then_runs (exprs_code args ss b r) _ g0 c n g))
-        (sum_step c i lt ss b free g0 a ground w (all_at args ss r) r (shape_in (sum w args) ss) (all_values args a n) g _ fit (exprs_ok args ss b r g h free fit))
+        (sum_step c i lt ss b free g0 a ground w (all_at args ss b r) r (shape_in (sum w args) ss) (all_values args a n) g _ fit (exprs_ok args ss b r g h free fit))
     expr_ok (call args body kind e) ss b r g h free fit =
         let fs = formals args in
         let ss2 = after_all body fs in
@@ -140,12 +145,14 @@ module _ (c n i : ℕ) (lt : i < c) (g0 : Ground) (a : Around) (ground : IsGroun
         (call_step c i lt g0 ss b r fs ss2 (is_uniform (call args body kind e) ss) (is_uniform e ss2) (shape_of kind) (shape_in e ss2) kind (arg_values args a n) (run_all body a n) (value e a n) g g1 g2 _ free fit long (call_uniform args body e ss) (λ e2. stays_all body a n e2 h.1.1.0)
         (args_ok args ss b r g h.0 free fit) (all_ok body fs r (behind fs r body) g1 h.1.0 (omega arith) (omega arith)) (expr_ok e ss2 r (r + length ss2) g2 h.1.1.1 (omega arith) (omega arith)))
 
-    pub exprs_ok : (es : Exprs) (ss : List Slot) (b r : ℕ) (g : State) → FineExprs es ss → first_free ≤ b → b + length ss ≤ r → ExprsStep i ss b r (all_at es ss r) (all_values es a n) g (masked (exprs_code es ss b r) g0 c n g)
+    pub exprs_ok : (es : Exprs) (ss : List Slot) (b r : ℕ) (g : State) → FineExprs es ss → first_free ≤ b → b + length ss ≤ r → ExprsStep i ss b r (all_at es ss b r) (all_values es a n) g (masked (exprs_code es ss b r) g0 c n g)
     exprs_ok none ss b r g h free fit = none_step c i lt ss b free r g
     exprs_ok (more e rest) ss b r g h free fit =
-        let g1 = masked (expr_code e ss b r) g0 c n g in
-        subst (λ s. ExprsStep i ss b r (all_at (more e rest) ss r) (all_values (more e rest) a n) g s) (sym (then_runs (expr_code e ss b r) _ g0 c n g))
-        (more_step c i lt ss b free r (is_uniform e ss) (shape_in e ss) (all_at rest ss (r + 1)) (value e a n) (all_values rest a n) g g1 _ fit (expr_ok e ss b r g h.0 free fit) (exprs_ok rest ss b (r + 1) g1 h.1 free (omega arith)))
+        let code = operand_code e (expr_code e ss b r) in
+        let g1 = masked code g0 c n g in
+        let q = place e b r in
+        subst (λ s. ExprsStep i ss b r (all_at (more e rest) ss b r) (all_values (more e rest) a n) g s) (sym (then_runs code _ g0 c n g))
+        (more_step c i lt ss b free r q (is_uniform e ss) (shape_in e ss) (all_at rest ss b (r + 1)) (value e a n) (all_values rest a n) g g1 _ (place_free e b r free (omega arith)) (fine_place e ss b r fit h.0) (operand_ok e ss b r g h.0 free (expr_ok e ss b r g h.0 free fit)) (exprs_ok rest ss b (r + 1) g1 h.1 free (omega arith)))
 
     pub args_ok : (xs : Arguments) (ss : List Slot) (b r : ℕ) (g : State) → FineArgs xs ss → first_free ≤ b → b + length ss ≤ r → ArgsStep c i lt g0 ss b r (formals xs) (arg_values xs a n) g (masked (args_code xs ss b r) g0 c n g)
     args_ok no_arguments ss b r g h free fit = no_args_step c i lt g0 ss b r g
@@ -186,10 +193,10 @@ module _ (c n i : ℕ) (lt : i < c) (g0 : Ground) (a : Around) (ground : IsGroun
     stmt_ok (lights w args s) ss b top g h free room =
         let m = b + length ss in
         let g1 = masked (exprs_code args ss b m) g0 c n g in
-        let q = then_runs (exprs_code args ss b m) (k.lights w (all_at args ss m) (all_code s ss b top) k.end) g0 c n g in
+        let q = then_runs (exprs_code args ss b m) (k.lights w (all_at args ss b m) (all_code s ss b top) k.end) g0 c n g in
         subst (λ v. StmtStep i ss ss b (run (lights w args s) a n) g v) (sym q)
         (lights_step c i lt ss b free (inside (run_all s a n)) (masked (all_code s ss b top) g0 c n) (λ x. inside_step i (after_all s ss) ss b (run_all s a n) x _ (extends_all s ss) (all_ok s ss b top x h.1 free room))
-        w g0 a ground m (all_at args ss m) (all_values args a n) g g1 (omega arith) (exprs_ok args ss b m g h.0 free (omega arith)) (λ l. dead (exprs_code args ss b m) g0 c n i g l))
+        w g0 a ground m (all_at args ss b m) (all_values args a n) g g1 (omega arith) (exprs_ok args ss b m g h.0 free (omega arith)) (λ l. dead (exprs_code args ss b m) g0 c n i g l))
     stmt_ok leave ss b top g h free room = leave_ok ss b top g free
     stmt_ok again ss b top g h free room = again_ok ss b top g free
 

@@ -1,7 +1,7 @@
 -- For contracts and laws of the code alone, not the picture's definition: the code of a core tree, as its emission gives it, in a frame of variables from register b on. The value of an expression goes into register r, and
 -- what it needs on the way into those from r on. What an assignment needs goes into those from register t on, behind all variables of the frame: so
 -- a frame's assignments share their registers, however many variables stand in scope.
-use Rattle.std.specs.Prelude.{ℕ, ◌+◌, List, [], ◌∷◌, length}
+use Rattle.std.specs.Prelude.{◌≡◌, ℕ, ◌+◌, List, [], ◌∷◌, length}
 use Rattle.sl_ast.specs.declared.kinds.SlType.{SlType}
 use Rattle.sl_ast.specs.declared.operations.Difference.TheVariants as differences
 use Rattle.builtins.specs.declared.shape.Shape.{Shape}
@@ -13,6 +13,7 @@ use Rattle.grid_code.specs.declared.code.Source.TheVariants.{Constant, Copy, Int
 use Rattle.grid_code.specs.Names.{reg, first_free}
 use Rattle.grid_code.specs.Code as c
 use Rattle.grid_code.specs.Code.{Block, ◌then◌}
+use Rattle.sl_ast.specs.declared.typed.Variable.TheVariants as variables
 use Rattle.core_codegen.specs.Variables.{variable}
 use Rattle.sl_meaning.specs.Core.{Slot, Expr, literal, read, apply, differ, sum, texture, call, Exprs, none, more, Arguments, no_arguments, argument, Stmt, declare, assign, block, test, repeat, lights, leave, again, Stmts, done, first, formals, after, after_all, is_uniform, kind_in}
 
@@ -32,13 +33,31 @@ abbrev mutual
   shapes_in none ss = []
   shapes_in (more e rest) ss = shape_in e ss ∷ shapes_in rest ss
 
--- the register of an expression's value, and those of several, one behind another
+-- the register of an expression's value
 abbrev pub at : Expr → List Slot → ℕ → Register
 at e ss r = reg (is_uniform e ss) (shape_in e ss) r
 
-abbrev pub all_at : Exprs → List Slot → ℕ → List Register
-all_at none ss r = []
-all_at (more e rest) ss r = at e ss r ∷ all_at rest ss (r + 1)
+-- the number of the register that holds an operand: a variable of the frame that begins at b is read where it stands, any other value has register r
+abbrev pub place : Expr → ℕ → ℕ → ℕ
+place (read (variables.Level k)) b r = b + k
+place e b r = r
+
+-- the register of an operand, and those of several, one behind another
+abbrev pub operand_at : Expr → List Slot → ℕ → ℕ → Register
+operand_at e ss b r = reg (is_uniform e ss) (shape_in e ss) (place e b r)
+
+abbrev pub all_at : Exprs → List Slot → ℕ → ℕ → List Register
+all_at none ss b r = []
+all_at (more e rest) ss b r = operand_at e ss b r ∷ all_at rest ss b (r + 1)
+
+-- the code of an operand, of the code of its value: a variable of the frame needs none
+abbrev pub operand_code : Expr → Block → Block
+operand_code (read (variables.Level k)) code = c.end
+operand_code e code = code
+
+-- an expression's value is put into a register of its own
+abbrev pub IsMade : Expr → Type 0
+IsMade e = (b r : ℕ) (code : Block) → (place e b r ≡ r) × (operand_code e code ≡ code)
 
 abbrev pub count : Exprs → ℕ
 count none = 0
@@ -72,10 +91,10 @@ abbrev mutual
   pub expr_code : Expr → List Slot → ℕ → ℕ → Block
   expr_code (literal v) ss b r = c.put (at (literal v) ss r) (Constant v) c.end
   expr_code (read x) ss b r = c.put (at (read x) ss r) (Copy (variable ss b x)) c.end
-  expr_code (apply op args) ss b r = exprs_code args ss b r then c.put (at (apply op args) ss r) (Apply op (all_at args ss r)) c.end
+  expr_code (apply op args) ss b r = exprs_code args ss b r then c.put (at (apply op args) ss r) (Apply op (all_at args ss b r)) c.end
   expr_code (differ d e) ss b r = expr_code e ss b r then c.differ (at (differ d e) ss r) d (at e ss r) c.end
-  expr_code (sum s args) ss b r = exprs_code args ss b r then c.sum (at (sum s args) ss r) s (all_at args ss r) c.end
-  expr_code (texture k args) ss b r = exprs_code args ss b r then c.texture (at (texture k args) ss r) k (all_at args ss r) c.end
+  expr_code (sum s args) ss b r = exprs_code args ss b r then c.sum (at (sum s args) ss r) s (all_at args ss b r) c.end
+  expr_code (texture k args) ss b r = exprs_code args ss b r then c.texture (at (texture k args) ss r) k (all_at args ss b r) c.end
   expr_code (call args body kind e) ss b r =
       args_code args ss b r then (all_code body (formals args) r (behind (formals args) r body) then
       (expr_code e (after_all body (formals args)) r (r + length (after_all body (formals args))) then
@@ -83,7 +102,7 @@ abbrev mutual
 
   pub exprs_code : Exprs → List Slot → ℕ → ℕ → Block
   exprs_code none ss b r = c.end
-  exprs_code (more e rest) ss b r = expr_code e ss b r then exprs_code rest ss b (r + 1)
+  exprs_code (more e rest) ss b r = operand_code e (expr_code e ss b r) then exprs_code rest ss b (r + 1)
 
   -- the arguments are put where the variables of the function's frame are
   pub args_code : Arguments → List Slot → ℕ → ℕ → Block
@@ -96,7 +115,7 @@ abbrev mutual
   stmt_code (block s) ss b t = all_code s ss b t
   stmt_code (test q x y) ss b t = expr_code q ss b (b + length ss) then c.branch (at q ss (b + length ss)) (all_code x ss b t) (all_code y ss b t) c.end
   stmt_code (repeat u q e s) ss b t = c.loops u (expr_code q ss b (b + length ss)) (at q ss (b + length ss)) (all_code e ss b t) (all_code s ss b t) c.end
-  stmt_code (lights w args s) ss b t = exprs_code args ss b (b + length ss) then c.lights w (all_at args ss (b + length ss)) (all_code s ss b t) c.end
+  stmt_code (lights w args s) ss b t = exprs_code args ss b (b + length ss) then c.lights w (all_at args ss b (b + length ss)) (all_code s ss b t) c.end
   stmt_code leave ss b t = c.breaks c.end
   stmt_code again ss b t = c.continues c.end
 

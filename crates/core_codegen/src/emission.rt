@@ -1,11 +1,12 @@
 // From the core tree to grid code.
-ghost use Rattle.std.specs.Prelude.{◌≡◌, ◌+◌, ◌^◌, ◌<◌, ◌≤◌, ◌++◌, ◌&&◌, length, IfOk, OnOk};
+ghost use Rattle.std.specs.Prelude.{◌≡◌, ◌+◌, ◌^◌, ◌<◌, ◌≤◌, ◌++◌, ◌&&◌, length, IfOk, OnOk, MatchOption};
+ghost use Rattle.sl_ast.specs.declared.typed.Variable.TheVariants as variables;
 ghost use Rattle.grid_code.specs.Code.{◌then◌};
 ghost use Rattle.grid_code.specs.Names.{first_free};
 ghost use Rattle.grid_code.specs.View.{block_of};
-ghost use Rattle.sl_meaning.specs.Core.{formals, after, after_all, all_uniform, args_uniform, stmt_uniform, stmts_uniform};
+ghost use Rattle.sl_meaning.specs.Core.{read, formals, after, after_all, all_uniform, args_uniform, stmt_uniform, stmts_uniform};
 ghost use Rattle.sl_meaning.specs.CoreView.{expr_of, exprs_of, args_of, stmt_of, stmts_of, loop_of};
-ghost use Rattle.core_codegen.specs.Compile.{at, all_at, locals, all_locals, behind, expr_code, exprs_code, args_code, stmt_code, all_code, shader_code};
+ghost use Rattle.core_codegen.specs.Compile.{at, IsMade, all_at, locals, all_locals, behind, expr_code, exprs_code, args_code, stmt_code, all_code, shader_code};
 ghost use Rattle.core_codegen.specs.Correct.{Means};
 ghost use Rattle.core_codegen.specs.Fine.{GridAll, StaysAll};
 ghost use Rattle.core_codegen.specs.Room.{expr_room, exprs_room, args_room, stmt_room, all_room, temps as temps_of, all_temps};
@@ -21,6 +22,7 @@ use builtins::shape_of;
 use fixed_math::NoMemory;
 use grid_code::named::FIRST_FREE;
 use grid_code::{Node, Register, Slot, register};
+use sl_ast::Variable;
 use sl_meaning::{Argument, CoreExpr, CoreLoop, CoreStmt};
 use std::alloc::Global;
 
@@ -106,7 +108,24 @@ fn expression(
     }
 }
 
-// Puts the values of expressions into registers one behind another.
+// The variable of the frame that an expression reads, if it does nothing else.
+fn variable_of(e: &CoreExpr) -> Option<u32>
+    ensures { MatchOption result (IsMade (expr_of e.now)) (λ k. expr_of e.now ≡ read (variables.Level k)) }
+{
+    match e {
+        CoreExpr::Read(Variable::Level(k)) => Some(*k),
+        CoreExpr::Read(Variable::Predefined(_)) => None,
+        CoreExpr::Literal(_) => None,
+        CoreExpr::Apply(_, _) => None,
+        CoreExpr::Differ(_, _) => None,
+        CoreExpr::Sum(_, _) => None,
+        CoreExpr::Texture(_, _) => None,
+        CoreExpr::Call(_, _, _, _) => None,
+    }
+}
+
+// Puts the values of expressions into registers one behind another, but for those that are variables of the frame, and gives the
+// registers that hold them.
 #[cycle(emission)]
 fn expressions(
     args: &[CoreExpr],
@@ -119,13 +138,16 @@ fn expressions(
     requires scoped { ScopedExprs (exprs_of args.now) (scope_of scope.now) }
     requires frame { base + length (scope_of scope.now) ≤ next }
     requires fits { next + exprs_room (exprs_of args.now) < 2 ^ 32 }
-    ensures at { IfOk result (λ qs. qs.items ≡ all_at (exprs_of args.now) (scope_of scope.now) next) }
+    ensures at { IfOk result (λ qs. qs.items ≡ all_at (exprs_of args.now) (scope_of scope.now) base next) }
     ensures code { OnOk result (block_of code.new.items ≡ block_of code.old.items then exprs_code (exprs_of args.now) (scope_of scope.now) base next) }
 {
     let mut registers = Vec::new(alloc);
     let mut target = next;
     for e in args {
-        let from = expression(e, alloc, code, scope, base, target)?;
+        let from = match variable_of(e) {
+            Some(k) => scope.register_of(Variable::Level(k), base),
+            None => expression(e, alloc, code, scope, base, target)?,
+        };
         registers.push(from)?;
         target += 1;
     }

@@ -4,7 +4,8 @@ use Rattle.std.proofs.Math.Nat.{max-le}
 use Rattle.grid_code.specs.Valid.{nesting}
 use Rattle.grid_code.proofs.ValidThen.{nesting_then}
 use Rattle.sl_meaning.specs.Core.{Slot, Expr, literal, read, apply, differ, sum, texture, call, Exprs, none, more, Arguments, no_arguments, argument, Stmt, declare, assign, block, test, repeat, lights, leave, again, Stmts, done, first, formals, after, after_all}
-use Rattle.core_codegen.specs.Compile.{behind, expr_code, exprs_code, args_code, stmt_code, all_code}
+use Rattle.core_codegen.specs.Compile.{behind, operand_code, expr_code, exprs_code, args_code, stmt_code, all_code}
+use Rattle.core_codegen.proofs.Operands.{of_operand}
 use Rattle.mask_codegen.proofs.CoreNesting.{expr_nesting, exprs_nesting, args_nesting, stmt_nesting, all_nesting}
 use Rattle.mask_codegen.proofs.LoweredNesting.{max_parts}
 
@@ -39,7 +40,7 @@ mutual
   exprs_nest none ss b r m h = none_in m
   exprs_nest (more e rest) ss b r m h =
       let x = max_parts (expr_nesting e) _ m h in
-      nesting_then m (expr_code e ss b r) _ (expr_nests e ss b r m x.0) (exprs_nest rest ss b (r + 1) m x.1)
+      nesting_then m (operand_code e (expr_code e ss b r)) _ (of_operand (λ z q y. nesting y ≤ m) e b r (expr_code e ss b r) (λ k. none_in m) (expr_nests e ss b r m x.0)) (exprs_nest rest ss b (r + 1) m x.1)
 
   pub args_nest : (es : Arguments) (ss : List Slot) (b r m : ℕ) → args_nesting es ≤ m → nesting (args_code es ss b r) ≤ m
   args_nest no_arguments ss b r m h = none_in m

@@ -33,26 +33,26 @@ same_self shapes.Word = refl
 pub same_from : (s t : Shape) → s ≡ t → same_shape s t ≡ true
 same_from s t h = subst (λ x. same_shape s x ≡ true) h (same_self s)
 
-pub few_at : (es : Exprs) (ss : List Slot) (r : ℕ) → are_few es ≡ true → at_most_three (all_at es ss r) ≡ true
-few_at none ss r h = refl
-few_at (more a none) ss r h = refl
-few_at (more a (more b none)) ss r h = refl
-few_at (more a (more b (more d none))) ss r h = refl
-few_at (more a (more b (more d (more e rest)))) ss r h = h
+pub few_at : (es : Exprs) (ss : List Slot) (b r : ℕ) → are_few es ≡ true → at_most_three (all_at es ss b r) ≡ true
+few_at none ss b r h = refl
+few_at (more x none) ss b r h = refl
+few_at (more x (more y none)) ss b r h = refl
+few_at (more x (more y (more z none))) ss b r h = refl
+few_at (more x (more y (more z (more e rest)))) ss b r h = h
 
-pub some_at : (es : Exprs) (ss : List Slot) (r : ℕ) → are_some es ≡ true → one_to_three (all_at es ss r) ≡ true
-some_at none ss r h = h
-some_at (more a none) ss r h = refl
-some_at (more a (more b none)) ss r h = refl
-some_at (more a (more b (more d none))) ss r h = refl
-some_at (more a (more b (more d (more e rest)))) ss r h = h
+pub some_at : (es : Exprs) (ss : List Slot) (b r : ℕ) → are_some es ≡ true → one_to_three (all_at es ss b r) ≡ true
+some_at none ss b r h = h
+some_at (more x none) ss b r h = refl
+some_at (more x (more y none)) ss b r h = refl
+some_at (more x (more y (more z none))) ss b r h = refl
+some_at (more x (more y (more z (more e rest)))) ss b r h = h
 
-three_at : (es : Exprs) (ss : List Slot) (r : ℕ) → are_triple es ≡ true → are_three (all_at es ss r) ≡ true
-three_at none ss r h = h
-three_at (more a none) ss r h = h
-three_at (more a (more b none)) ss r h = h
-three_at (more a (more b (more d none))) ss r h = refl
-three_at (more a (more b (more d (more e rest)))) ss r h = h
+three_at : (es : Exprs) (ss : List Slot) (b r : ℕ) → are_triple es ≡ true → are_three (all_at es ss b r) ≡ true
+three_at none ss b r h = h
+three_at (more x none) ss b r h = h
+three_at (more x (more y none)) ss b r h = h
+three_at (more x (more y (more z none))) ss b r h = refl
+three_at (more x (more y (more z (more e rest)))) ss b r h = h
 
 module _ (k : SlKind) (l u : Bool) where
   pub into_placed : (to : Register) (kind : SlType) (from : Register) → register_shape to ≡ shape_of kind → is_placed k l u (into to kind from) ≡ true
@@ -64,19 +64,19 @@ module _ (k : SlKind) (l u : Bool) where
   pub read_placed : (x : Variable) (ss : List Slot) (b r : ℕ) → is_placed k l u (c.put (at (read x) ss r) (Copy (variable ss b x)) c.end) ≡ true
   read_placed x ss b r = both _ _ (same_from (register_shape (variable ss b x)) (register_shape (at (read x) ss r)) (variable_shape x ss b ∙ sym (shape_at (read x) ss r))) refl
 
-  pub apply_placed : (op : ValueOperation) (args : Exprs) (ss : List Slot) (r : ℕ) → are_some args ≡ true → is_placed k l u (c.put (at (apply op args) ss r) (Apply op (all_at args ss r)) c.end) ≡ true
-  apply_placed op args ss r h =
-      both _ _ (same_from (shape_applied op (register_shapes (all_at args ss r))) (register_shape (at (apply op args) ss r)) (ap (shape_applied op) (shapes_at args ss r) ∙ sym (shape_at (apply op args) ss r)))
-      (both _ _ (some_at args ss r h) refl)
+  pub apply_placed : (op : ValueOperation) (args : Exprs) (ss : List Slot) (b r : ℕ) → are_some args ≡ true → is_placed k l u (c.put (at (apply op args) ss r) (Apply op (all_at args ss b r)) c.end) ≡ true
+  apply_placed op args ss b r h =
+      both _ _ (same_from (shape_applied op (register_shapes (all_at args ss b r))) (register_shape (at (apply op args) ss r)) (ap (shape_applied op) (shapes_at args ss b r) ∙ sym (shape_at (apply op args) ss r)))
+      (both _ _ (some_at args ss b r h) refl)
 
-  pub sum_placed : (s : LightSum) (args : Exprs) (ss : List Slot) (r : ℕ) → is_surface k ≡ true → are_few args ≡ true → is_placed k l u (c.sum (at (sum s args) ss r) s (all_at args ss r) c.end) ≡ true
-  sum_placed s args ss r h f = both _ _ h (both _ _ refl (both _ _ (few_at args ss r f) refl))
+  pub sum_placed : (s : LightSum) (args : Exprs) (ss : List Slot) (b r : ℕ) → is_surface k ≡ true → are_few args ≡ true → is_placed k l u (c.sum (at (sum s args) ss r) s (all_at args ss b r) c.end) ≡ true
+  sum_placed s args ss b r h f = both _ _ h (both _ _ refl (both _ _ (few_at args ss b r f) refl))
 
 pub differ_placed : (k : SlKind) (l : Bool) (d : Difference) (e : Expr) (ss : List Slot) (r : ℕ) → has_surface k ≡ true → is_placed k l true (c.differ (at (differ d e) ss r) d (at e ss r) c.end) ≡ true
 differ_placed k l d e ss r h =
     both _ _ h (both _ _ (same_from (difference_shape d (register_shape (at e ss r))) (register_shape (at (differ d e) ss r))
     (ap (difference_shape d) (shape_at e ss r) ∙ difference_shape_in d e ss ∙ sym (shape_at (differ d e) ss r))) refl)
 
-pub texture_placed : (k : SlKind) (l : Bool) (m : ℕ) (args : Exprs) (ss : List Slot) (r : ℕ) → has_surface k ≡ true → are_triple args ≡ true → is_placed k l true (c.texture (at (texture m args) ss r) m (all_at args ss r) c.end) ≡ true
-texture_placed k l m args ss r h f =
-    both _ _ h (both _ _ (same_from shapes.Triple (register_shape (at (texture m args) ss r)) (sym (shape_at (texture m args) ss r))) (both _ _ (three_at args ss r f) refl))
+pub texture_placed : (k : SlKind) (l : Bool) (m : ℕ) (args : Exprs) (ss : List Slot) (b r : ℕ) → has_surface k ≡ true → are_triple args ≡ true → is_placed k l true (c.texture (at (texture m args) ss r) m (all_at args ss b r) c.end) ≡ true
+texture_placed k l m args ss b r h f =
+    both _ _ h (both _ _ (same_from shapes.Triple (register_shape (at (texture m args) ss r)) (sym (shape_at (texture m args) ss r))) (both _ _ (three_at args ss b r f) refl))

@@ -10,26 +10,30 @@ use Rattle.grid_code.specs.Valid.{is_placed}
 use Rattle.grid_code.proofs.Both.{both}
 use Rattle.grid_code.proofs.ValidThen.{placed_then}
 use Rattle.sl_meaning.specs.Core.{Slot, Expr, literal, read, apply, differ, sum, texture, call, Exprs, none, more, Arguments, no_arguments, argument, Stmt, declare, assign, block, test, repeat, lights, leave, again, Stmts, done, first, formals, after, after_all, is_uniform}
-use Rattle.core_codegen.specs.Compile.{at, shape_in, into, behind, expr_code, exprs_code, args_code, stmt_code, all_code}
+use Rattle.core_codegen.specs.Compile.{at, operand_code, shape_in, into, behind, expr_code, exprs_code, args_code, stmt_code, all_code}
 use Rattle.core_codegen.specs.Variables.{variable}
 use Rattle.core_codegen.specs.Fine.{StaysAll, FineExpr, FineExprs, FineArgs, FineStmt, FineAll, When, GridExpr, GridExprs, GridArgs, GridStmt, GridAll}
 use Rattle.mask_codegen.proofs.CorePlaced.{PlacedExpr, PlacedExprs, PlacedArgs, PlacedStmt, PlacedAll}
 use Rattle.mask_codegen.proofs.CodeNodes.{into_placed, literal_placed, read_placed, apply_placed, sum_placed, differ_placed, few_at, texture_placed}
+use Rattle.core_codegen.proofs.Operands.{of_operand}
 use Rattle.core_codegen.proofs.ValueRegisters.{shape_reg, shape_at, variable_shape}
 
 never : (m : Bool) → false ≡ true → m ≡ true
 never true h = refl
 never false h = h
 
+operand_placed : (k : SlKind) (m u : Bool) (e : Expr) (b r : ℕ) (code : Block) → is_placed k m u code ≡ true → is_placed k m u (operand_code e code) ≡ true
+operand_placed k m u e b r code h = of_operand (λ z q y. is_placed k m u y ≡ true) e b r code (λ j. refl) h
+
 -- in varying control; `m` says that the code stands in a loop where its statements stand in one
 mutual
   pub expr_fine : (k : SlKind) (m : Bool) (e : Expr) (ss : List Slot) (b r : ℕ) → FineExpr e ss → PlacedExpr k e → is_placed k m false (expr_code e ss b r) ≡ true
   expr_fine k m (literal v) ss b r f p = literal_placed k m false v ss r
   expr_fine k m (read x) ss b r f p = read_placed k m false x ss b r
-  expr_fine k m (apply op args) ss b r f p = placed_then k m false (exprs_code args ss b r) _ (exprs_fine k m args ss b r f p.1) (apply_placed k m false op args ss r p.0)
+  expr_fine k m (apply op args) ss b r f p = placed_then k m false (exprs_code args ss b r) _ (exprs_fine k m args ss b r f p.1) (apply_placed k m false op args ss b r p.0)
   expr_fine k m (differ d e) ss b r f p = absurd f
   expr_fine k m (texture j args) ss b r f p = absurd f
-  expr_fine k m (sum s args) ss b r f p = placed_then k m false (exprs_code args ss b r) _ (exprs_fine k m args ss b r f p.1.1) (sum_placed k m false s args ss r p.0 p.1.0)
+  expr_fine k m (sum s args) ss b r f p = placed_then k m false (exprs_code args ss b r) _ (exprs_fine k m args ss b r f p.1.1) (sum_placed k m false s args ss b r p.0 p.1.0)
   expr_fine k m (call args body kind e) ss b r f p =
       let fs = formals args in
       let ss2 = after_all body fs in
@@ -40,7 +44,8 @@ mutual
 
   pub exprs_fine : (k : SlKind) (m : Bool) (es : Exprs) (ss : List Slot) (b r : ℕ) → FineExprs es ss → PlacedExprs k es → is_placed k m false (exprs_code es ss b r) ≡ true
   exprs_fine k m none ss b r f p = refl
-  exprs_fine k m (more e rest) ss b r f p = placed_then k m false (expr_code e ss b r) _ (expr_fine k m e ss b r f.0 p.0) (exprs_fine k m rest ss b (r + 1) f.1 p.1)
+  exprs_fine k m (more e rest) ss b r f p =
+      placed_then k m false (operand_code e (expr_code e ss b r)) _ (operand_placed k m false e b r (expr_code e ss b r) (expr_fine k m e ss b r f.0 p.0)) (exprs_fine k m rest ss b (r + 1) f.1 p.1)
 
   pub args_fine : (k : SlKind) (m : Bool) (es : Arguments) (ss : List Slot) (b r : ℕ) → FineArgs es ss → PlacedArgs k es → is_placed k m false (args_code es ss b r) ≡ true
   args_fine k m no_arguments ss b r f p = refl
@@ -67,7 +72,7 @@ mutual
   stmt_fine k l m w (lights over args s) ss b t f p =
       let n = b + length ss in
       placed_then k m false (exprs_code args ss b n) _ (exprs_fine k m args ss b n f.0 p.1.1.0)
-      (both _ _ p.0 (both _ _ (few_at args ss n p.1.0) (both _ _ (all_fine k l m w s ss b t f.1 p.1.1.1) refl)))
+      (both _ _ p.0 (both _ _ (few_at args ss b n p.1.0) (both _ _ (all_fine k l m w s ss b t f.1 p.1.1.1) refl)))
   stmt_fine k l m w leave ss b t f p = both _ _ (w p) refl
   stmt_fine k l m w again ss b t f p = both _ _ (w p) refl
 
@@ -91,10 +96,10 @@ mutual
   pub expr_grid : (k : SlKind) (m : Bool) (e : Expr) (ss : List Slot) (b r : ℕ) → GridExpr e ss → PlacedExpr k e → is_placed k m true (expr_code e ss b r) ≡ true
   expr_grid k m (literal v) ss b r f p = literal_placed k m true v ss r
   expr_grid k m (read x) ss b r f p = read_placed k m true x ss b r
-  expr_grid k m (apply op args) ss b r f p = placed_then k m true (exprs_code args ss b r) _ (exprs_grid k m args ss b r f p.1) (apply_placed k m true op args ss r p.0)
+  expr_grid k m (apply op args) ss b r f p = placed_then k m true (exprs_code args ss b r) _ (exprs_grid k m args ss b r f p.1) (apply_placed k m true op args ss b r p.0)
   expr_grid k m (differ d e) ss b r f p = placed_then k m true (expr_code e ss b r) _ (expr_grid k m e ss b r f p.1) (differ_placed k m d e ss r p.0)
-  expr_grid k m (sum s args) ss b r f p = placed_then k m true (exprs_code args ss b r) _ (exprs_grid k m args ss b r f p.1.1) (sum_placed k m true s args ss r p.0 p.1.0)
-  expr_grid k m (texture j args) ss b r f p = placed_then k m true (exprs_code args ss b r) _ (exprs_grid k m args ss b r f p.1.1) (texture_placed k m j args ss r p.0 p.1.0)
+  expr_grid k m (sum s args) ss b r f p = placed_then k m true (exprs_code args ss b r) _ (exprs_grid k m args ss b r f p.1.1) (sum_placed k m true s args ss b r p.0 p.1.0)
+  expr_grid k m (texture j args) ss b r f p = placed_then k m true (exprs_code args ss b r) _ (exprs_grid k m args ss b r f p.1.1) (texture_placed k m j args ss b r p.0 p.1.0)
   expr_grid k m (call args body kind e) ss b r f p =
       let fs = formals args in
       let ss2 = after_all body fs in
@@ -105,7 +110,8 @@ mutual
 
   pub exprs_grid : (k : SlKind) (m : Bool) (es : Exprs) (ss : List Slot) (b r : ℕ) → GridExprs es ss → PlacedExprs k es → is_placed k m true (exprs_code es ss b r) ≡ true
   exprs_grid k m none ss b r f p = refl
-  exprs_grid k m (more e rest) ss b r f p = placed_then k m true (expr_code e ss b r) _ (expr_grid k m e ss b r f.0 p.0) (exprs_grid k m rest ss b (r + 1) f.1 p.1)
+  exprs_grid k m (more e rest) ss b r f p =
+      placed_then k m true (operand_code e (expr_code e ss b r)) _ (operand_placed k m true e b r (expr_code e ss b r) (expr_grid k m e ss b r f.0 p.0)) (exprs_grid k m rest ss b (r + 1) f.1 p.1)
 
   pub args_grid : (k : SlKind) (m : Bool) (es : Arguments) (ss : List Slot) (b r : ℕ) → GridArgs es ss → PlacedArgs k es → is_placed k m true (args_code es ss b r) ≡ true
   args_grid k m no_arguments ss b r f p = refl
@@ -136,7 +142,7 @@ mutual
   stmt_grid k l m w (lights over args s) ss b t f p =
       let n = b + length ss in
       placed_then k m true (exprs_code args ss b n) _ (exprs_grid k m args ss b n f.0 p.1.1.0)
-      (both _ _ p.0 (both _ _ (few_at args ss n p.1.0) (both _ _ (all_fine k l m w s ss b t f.1.0 p.1.1.1) refl)))
+      (both _ _ p.0 (both _ _ (few_at args ss b n p.1.0) (both _ _ (all_fine k l m w s ss b t f.1.0 p.1.1.1) refl)))
   stmt_grid k l m w leave ss b t f p = both _ _ (w p) refl
   stmt_grid k l m w again ss b t f p = both _ _ (w p) refl
 

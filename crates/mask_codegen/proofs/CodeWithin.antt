@@ -16,14 +16,16 @@ use Rattle.builtins.specs.Values.{shape_of}
 use Rattle.grid_code.specs.declared.code.Register.{Register}
 use Rattle.grid_code.specs.declared.code.Register.TheVariants.{Uniform, Varying}
 use Rattle.grid_code.specs.Names.{reg, name_at}
+use Rattle.grid_code.specs.Code.{end}
 use Rattle.grid_code.specs.Uses.{within}
 use Rattle.grid_code.proofs.Both.{both, left, right}
 use Rattle.grid_code.proofs.ValidThen.{within_then}
 use Rattle.sl_meaning.specs.Core.{Slot, slot, no_slot, Expr, literal, read, apply, differ, sum, texture, call, Exprs, none, more, Arguments, no_arguments, argument, Stmt, declare, assign, block, test, repeat, lights, leave, again, Stmts, done, first, formals, after, after_all, class_in, is_uniform, stmt_uniform, stmts_uniform}
-use Rattle.core_codegen.specs.Compile.{at, all_at, into, behind, expr_code, exprs_code, args_code, stmt_code, all_code}
+use Rattle.core_codegen.specs.Compile.{shape_in, at, operand_at, all_at, operand_code, into, behind, expr_code, exprs_code, args_code, stmt_code, all_code}
 use Rattle.core_codegen.specs.Variables.{slot_at, variable}
 use Rattle.core_codegen.specs.Fine.{InScope}
 use Rattle.core_codegen.specs.Sizes.{ScopedExpr, ScopedExprs, ScopedArgs, ScopedStmt, ScopedAll}
+use Rattle.core_codegen.proofs.Operands.{of_operand}
 use Rattle.mask_codegen.proofs.CorePlaced.{Reads, PlacedExpr, PlacedExprs, PlacedArgs, PlacedStmt, PlacedAll}
 use Rattle.mask_codegen.proofs.Made.{frame, shared, shared_by, made, made_exprs, made_args, made_stmt, made_all}
 
@@ -73,9 +75,12 @@ module _ (p : Register → Bool) (k : SlKind) (named : (x : Predefined) → read
       let ss2 = after_all body fs in
       last_of (made e ss2 (r + length ss2)) _ (all_second p (made_all body fs r t) _ (all_second p (shared_by body fs t) _ (all_second p (made_args args ss r) _ h)))
 
-  all_at_made : (es : Exprs) (ss : List Slot) (r : ℕ) → All (made_exprs es ss r) → All (all_at es ss r)
-  all_at_made none ss r h = refl
-  all_at_made (more e rest) ss r h = both _ _ (at_made e ss r (all_first p (made e ss r) _ h)) (all_at_made rest ss (r + 1) (all_second p (made e ss r) _ h))
+  operand_in : (e : Expr) (ss : List Slot) (b r : ℕ) → ScopedExpr e ss → All (frame b ss) → All (made e ss r) → p (operand_at e ss b r) ≡ true
+  operand_in e ss b r s f h = of_operand (λ z q y. ScopedExpr z ss → p (reg (is_uniform z ss) (shape_in z ss) q) ≡ true) e b r end (λ j i. frame_at ss b j f i) (λ i. at_made e ss r h) s
+
+  all_at_made : (es : Exprs) (ss : List Slot) (b r : ℕ) → ScopedExprs es ss → All (frame b ss) → All (made_exprs es ss r) → All (all_at es ss b r)
+  all_at_made none ss b r s f h = refl
+  all_at_made (more e rest) ss b r s f h = both _ _ (operand_in e ss b r s.0 f (all_first p (made e ss r) _ h)) (all_at_made rest ss b (r + 1) s.1 f (all_second p (made e ss r) _ h))
 
   args_frame : (es : Arguments) (ss : List Slot) (r : ℕ) → All (made_args es ss r) → All (frame r (formals es))
   args_frame no_arguments ss r h = refl
@@ -142,16 +147,16 @@ module _ (p : Register → Bool) (k : SlKind) (named : (x : Predefined) → read
     expr_within (read x) ss b r s q f h = both _ _ (at_made (read x) ss r h) (both _ _ (variable_in x ss b q s f) refl)
     expr_within (apply op args) ss b r s q f h =
         let g = all_first p (made_exprs args ss r) _ h in
-        within_then p (exprs_code args ss b r) _ (exprs_within args ss b r s q.1 f g) (both _ _ (at_made (apply op args) ss r h) (both _ _ (all_at_made args ss r g) refl))
+        within_then p (exprs_code args ss b r) _ (exprs_within args ss b r s q.1 f g) (both _ _ (at_made (apply op args) ss r h) (both _ _ (all_at_made args ss b r s f g) refl))
     expr_within (differ d e) ss b r s q f h =
         let g = all_first p (made e ss r) _ h in
         within_then p (expr_code e ss b r) _ (expr_within e ss b r s q.1 f g) (both _ _ (at_made (differ d e) ss r h) (both _ _ (at_made e ss r g) refl))
     expr_within (sum w args) ss b r s q f h =
         let g = all_first p (made_exprs args ss r) _ h in
-        within_then p (exprs_code args ss b r) _ (exprs_within args ss b r s q.1.1 f g) (both _ _ (at_made (sum w args) ss r h) (both _ _ (all_at_made args ss r g) refl))
+        within_then p (exprs_code args ss b r) _ (exprs_within args ss b r s q.1.1 f g) (both _ _ (at_made (sum w args) ss r h) (both _ _ (all_at_made args ss b r s f g) refl))
     expr_within (texture m args) ss b r s q f h =
         let g = all_first p (made_exprs args ss r) _ h in
-        within_then p (exprs_code args ss b r) _ (exprs_within args ss b r s q.1.1 f g) (both _ _ (at_made (texture m args) ss r h) (both _ _ (all_at_made args ss r g) refl))
+        within_then p (exprs_code args ss b r) _ (exprs_within args ss b r s q.1.1 f g) (both _ _ (at_made (texture m args) ss r h) (both _ _ (all_at_made args ss b r s f g) refl))
     expr_within (call args body kind e) ss b r s q f h =
         let fs = formals args in
         let t = behind fs r body in
@@ -172,7 +177,8 @@ module _ (p : Register → Bool) (k : SlKind) (named : (x : Predefined) → read
     pub exprs_within : (es : Exprs) (ss : List Slot) (b r : ℕ) → ScopedExprs es ss → PlacedExprs k es → All (frame b ss) → All (made_exprs es ss r) → within p (exprs_code es ss b r) ≡ true
     exprs_within none ss b r s q f h = refl
     exprs_within (more e rest) ss b r s q f h =
-        within_then p (expr_code e ss b r) _ (expr_within e ss b r s.0 q.0 f (all_first p (made e ss r) _ h)) (exprs_within rest ss b (r + 1) s.1 q.1 f (all_second p (made e ss r) _ h))
+        let g = expr_within e ss b r s.0 q.0 f (all_first p (made e ss r) _ h) in
+        within_then p (operand_code e (expr_code e ss b r)) _ (of_operand (λ z i y. within p y ≡ true) e b r (expr_code e ss b r) (λ j. refl) g) (exprs_within rest ss b (r + 1) s.1 q.1 f (all_second p (made e ss r) _ h))
 
     pub args_within : (es : Arguments) (ss : List Slot) (b r : ℕ) → ScopedArgs es ss → PlacedArgs k es → All (frame b ss) → All (made_args es ss r) → within p (args_code es ss b r) ≡ true
     args_within no_arguments ss b r s q f h = refl
@@ -213,7 +219,7 @@ module _ (p : Register → Bool) (k : SlKind) (named : (x : Predefined) → read
         let n = b + length ss in
         let g = all_first p (made_exprs args ss n) _ h in
         within_then p (exprs_code args ss b n) _ (exprs_within args ss b n s.0 q.1.1.0 f g)
-        (both _ _ (all_at_made args ss n g)
+        (both _ _ (all_at_made args ss b n s.0 f g)
         (both _ _ (all_within l d ss b t s.1 q.1.1.1 f (λ m. c (and_right _ (stmts_uniform d ss) m)) (all_second p (made_exprs args ss n) _ h)) refl))
     stmt_within l leave ss b t s q f c h = refl
     stmt_within l again ss b t s q f c h = refl

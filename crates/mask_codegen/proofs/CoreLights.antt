@@ -6,7 +6,8 @@ use Rattle.grid_code.specs.Valid.{has_light_statement}
 use Rattle.grid_code.proofs.ValidThen.{lights_then}
 use Rattle.sl_meaning.specs.Core.{Slot, Expr, literal, read, apply, differ, sum, texture, call, Exprs, none, more, Arguments, no_arguments, argument, Stmt, declare, assign, block, test, repeat, lights, leave, again, Stmts, done, first, formals, after, after_all}
 use Rattle.sl_meaning.specs.Runs.{lights_in, lights_in_exprs, lights_in_args, lights_in_stmt, lights_in_all}
-use Rattle.core_codegen.specs.Compile.{behind, expr_code, exprs_code, args_code, stmt_code, all_code, shader_code}
+use Rattle.core_codegen.specs.Compile.{behind, operand_code, expr_code, exprs_code, args_code, stmt_code, all_code, shader_code}
+use Rattle.core_codegen.proofs.Operands.{of_operand}
 
 either : (a b c d : Bool) → a ≡ c → b ≡ d → (a || b) ≡ (c || d)
 either a b c d h k = cc
@@ -28,7 +29,9 @@ mutual
 
   pub exprs_code_lights : (es : Exprs) (ss : List Slot) (b r : ℕ) → has_light_statement (exprs_code es ss b r) ≡ lights_in_exprs es
   exprs_code_lights none ss b r = refl
-  exprs_code_lights (more e rest) ss b r = lights_then (expr_code e ss b r) _ ∙ either _ _ _ _ (expr_code_lights e ss b r) (exprs_code_lights rest ss b (r + 1))
+  exprs_code_lights (more e rest) ss b r =
+      lights_then (operand_code e (expr_code e ss b r)) _ ∙
+      either _ _ _ _ (of_operand (λ z q y. has_light_statement y ≡ lights_in z) e b r (expr_code e ss b r) (λ k. refl) (expr_code_lights e ss b r)) (exprs_code_lights rest ss b (r + 1))
 
   pub args_code_lights : (es : Arguments) (ss : List Slot) (b r : ℕ) → has_light_statement (args_code es ss b r) ≡ lights_in_args es
   args_code_lights no_arguments ss b r = refl

@@ -4,7 +4,8 @@ use Rattle.grid_code.specs.Uses.{looks_within}
 use Rattle.grid_code.proofs.Both.{both}
 use Rattle.grid_code.proofs.ValidThen.{looks_then}
 use Rattle.sl_meaning.specs.Core.{Slot, Expr, literal, read, apply, differ, sum, texture, call, Exprs, none, more, Arguments, no_arguments, argument, Stmt, declare, assign, block, test, repeat, lights, leave, again, Stmts, done, first, formals, after, after_all}
-use Rattle.core_codegen.specs.Compile.{behind, expr_code, exprs_code, args_code, stmt_code, all_code, shader_code}
+use Rattle.core_codegen.specs.Compile.{behind, operand_code, expr_code, exprs_code, args_code, stmt_code, all_code, shader_code}
+use Rattle.core_codegen.proofs.Operands.{of_operand}
 
 abbrev mutual
   pub LooksExpr : (ℕ → Bool) → Expr → Type 0
@@ -55,7 +56,9 @@ mutual
 
   exprs_code_looks : (p : ℕ → Bool) (es : Exprs) (ss : List Slot) (b r : ℕ) → LooksExprs p es → looks_within p (exprs_code es ss b r) ≡ true
   exprs_code_looks p none ss b r h = refl
-  exprs_code_looks p (more e rest) ss b r h = looks_then p (expr_code e ss b r) _ (expr_code_looks p e ss b r h.0) (exprs_code_looks p rest ss b (r + 1) h.1)
+  exprs_code_looks p (more e rest) ss b r h =
+      looks_then p (operand_code e (expr_code e ss b r)) _
+      (of_operand (λ z q y. looks_within p y ≡ true) e b r (expr_code e ss b r) (λ k. refl) (expr_code_looks p e ss b r h.0)) (exprs_code_looks p rest ss b (r + 1) h.1)
 
   args_code_looks : (p : ℕ → Bool) (es : Arguments) (ss : List Slot) (b r : ℕ) → LooksArgs p es → looks_within p (args_code es ss b r) ≡ true
   args_code_looks p no_arguments ss b r h = refl

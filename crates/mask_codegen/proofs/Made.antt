@@ -1,4 +1,4 @@
--- The registers that the code of a core tree makes, and how many rows they take.
+-- The registers that the code of a core tree makes at most, with one for each operand that is read where it stands, and how many rows they take.
 use Rattle.std.proofs.Common.{ℕ, ◌+◌, Bool, cond, List, [], ◌∷◌, ◌++◌, length}
 use Rattle.builtins.specs.declared.shape.Shape.TheVariants as shapes
 use Rattle.builtins.specs.Values.{shape_of}

@@ -14,13 +14,23 @@ use Rattle.grid_code.specs.Shapes.{register_class, are_uniform_registers}
 use Rattle.core_codegen.specs.Sizes.{ScopedExpr, ScopedExprs, ScopedArgs, ScopedStmt, ScopedAll, expr_size, exprs_size, args_size, stmt_size, all_size}
 use Rattle.core_codegen.specs.Room.{expr_room, exprs_room, args_room, stmt_room, all_room, temps, all_temps}
 use Rattle.core_codegen.specs.Slots.{scope_of}
-use Rattle.core_codegen.proofs.Emitting.{operands_step, operands_end, passed_uniform, passing_step, passing_end, running_step, running_end, scope_ends, all_slack, length_formals, length_after_all}
+use Rattle.core_codegen.proofs.Emitting.{operands_step, operands_end, held_operand, held_code, made_operand, made_code, passed_uniform, passing_step, passing_end, running_step, running_end, scope_ends, all_slack, length_formals, length_after_all}
 use Rattle.core_codegen.proofs.Emitted.{apply_at, apply_code, differ_code, sum_code, look_at, look_code, call_at, call_code, declare_code, assign_code, test_code, repeat_code, lights_code, class_of, classes_of, both_of, assigned_class}
 use Rattle.core_codegen.proofs.emission.+emission.Goals as goal
+use Rattle.core_codegen.proofs.emission.+emission.Goals.{expressions-in-Some, expressions-in-None+in_ok-from-in-None}
 
 pub expressions-loop-e-preserved : goal.expressions-loop-e-preserved
 expressions-loop-e-preserved t c =
-    operands_step _ _ _ _ _ _ _ _ _ c.e-item.result c.loop-e.invariant (omega arith) c.e-item.is c.in_ok-from.from _ _ c.in_ok-from.ensures.at c.in_ok-from.ensures.code c.in_ok-push.ensures.items
+    let e = expr_of c.e-item.result in
+    let ss = scope_of c.args.scope.now in
+    let base = c.args.base in
+    let target = c.loop-e.target in
+    elim c.match-variable_of.branch [
+      | expressions-in-Some w ↦ operands_step _ _ _ _ _ _ _ _ _ c.e-item.result c.loop-e.invariant (omega arith) c.e-item.is c.match-variable_of.from _ _ (w.from-is ∙ held_operand e ss base target w.in-Some.k w.register_of-from.result w.in-Some.ensures w.register_of-from.ensures)
+          (ap (λ v. block_of v.items) w.code-is ∙ held_code e ss base target w.in-Some.k (block_of c.loop-e.code.items) w.in-Some.ensures) c.in_ok-push.ensures.items
+      | expressions-in-None+in_ok-from-in-None w ↦ operands_step _ _ _ _ _ _ _ _ _ c.e-item.result c.loop-e.invariant (omega arith) c.e-item.is c.match-variable_of.from _ _ (w.from-is ∙ made_operand e ss base target w.in_ok-from-in-None.from w.in-None.ensures w.in_ok-from-in-None.ensures.at)
+          (ap (λ v. block_of v.items) w.code-is ∙ made_code e ss base target (block_of c.loop-e.code.items) (block_of w.expression.new.code.items) w.in-None.ensures w.in_ok-from-in-None.ensures.code) c.in_ok-push.ensures.items
+    ]
 
 pub expressions-returns-clause-code : goal.expressions-returns-clause-code
 expressions-returns-clause-code t c = (operands_end _ _ _ _ _ _ _ _ _ c.loop-e.invariant (omega arith)).1
@@ -170,7 +180,7 @@ expression-returns-in_ok-operands-in-Apply-clause-at t c =
     let next = c.args.next in
     IfOk-weaker c.apply.result (λ q. q ≡ applied_at c.in-Apply.op c.in_ok-operands-in-Apply.operands.items next) (λ q. q ≡ at (expr_of c.args.e.now) ss next)
     (λ q h. apply_at ss c.args.base next c.in-Apply.op (exprs_of c.in-Apply.args) c.in_ok-operands-in-Apply.operands.items q
-    (c.in_ok-operands-in-Apply.ensures.at ∙ ap (λ l. all_at (exprs_of l) ss next) c.as_slice.ensures) h
+    (c.in_ok-operands-in-Apply.ensures.at ∙ ap (λ l. all_at (exprs_of l) ss c.args.base next) c.as_slice.ensures) h
     ∙ ap (λ x. at x ss next) (sym (apply_shown c.args.e.now c.in-Apply.op c.in-Apply.args c.in-Apply.is)))
     c.apply.ensures.at
 
@@ -182,7 +192,7 @@ expression-returns-in_ok-operands-in-Apply-clause-code t c =
     on_ok_weaker c.apply.result
     (λ h. apply_code ss c.args.base next c.in-Apply.op (exprs_of c.in-Apply.args) c.in_ok-operands-in-Apply.operands.items o _ _
     (c.in_ok-operands-in-Apply.ensures.code ∙ ap (λ l. o then exprs_code (exprs_of l) ss c.args.base next) c.as_slice.ensures)
-    (c.in_ok-operands-in-Apply.ensures.at ∙ ap (λ l. all_at (exprs_of l) ss next) c.as_slice.ensures) h
+    (c.in_ok-operands-in-Apply.ensures.at ∙ ap (λ l. all_at (exprs_of l) ss c.args.base next) c.as_slice.ensures) h
     ∙ ap (λ x. o then expr_code x ss c.args.base next) (sym (apply_shown c.args.e.now c.in-Apply.op c.in-Apply.args c.in-Apply.is)))
     c.apply.ensures.code
 
@@ -206,7 +216,7 @@ expression-returns-in_ok-operands-in-Sum-clause-code t c =
     on_ok_weaker c.sum.result
     (λ h. sum_code ss c.args.base next c.in-Sum.over (exprs_of c.in-Sum.args) c.in_ok-operands-in-Sum.operands.items o _ _
     (c.in_ok-operands-in-Sum.ensures.code ∙ ap (λ l. o then exprs_code (exprs_of l) ss c.args.base next) c.as_slice-in-Sum.ensures)
-    (c.in_ok-operands-in-Sum.ensures.at ∙ ap (λ l. all_at (exprs_of l) ss next) c.as_slice-in-Sum.ensures) h
+    (c.in_ok-operands-in-Sum.ensures.at ∙ ap (λ l. all_at (exprs_of l) ss c.args.base next) c.as_slice-in-Sum.ensures) h
     ∙ ap (λ x. o then expr_code x ss c.args.base next) (sym (sum_shown c.args.e.now c.in-Sum.over c.in-Sum.args c.in-Sum.is)))
     c.sum.ensures.code
 
@@ -452,10 +462,10 @@ pub statement-returns-in_ok-b-in-Lights-clause-class : goal.statement-returns-in
 statement-returns-in_ok-b-in-Lights-clause-class t c =
     let ss = scope_of c.args.scope.now in
     let args = exprs_of c.in-Lights.args in
-    let hq = c.in_ok-operands-in-Lights.ensures.at ∙ ap (λ l. all_at (exprs_of l) ss c.end-next.result) c.as_slice-in-Lights.ensures in
+    let hq = c.in_ok-operands-in-Lights.ensures.at ∙ ap (λ l. all_at (exprs_of l) ss c.args.base c.end-next.result) c.as_slice-in-Lights.ensures in
     IfOk-weaker c.lit.result (λ u. u ≡ are_uniform_registers c.in_ok-operands-in-Lights.operands.items && c.in_ok-b-in-Lights.b) (λ u. u ≡ stmt_uniform (stmt_of c.args.s.now) ss)
     (λ u h. both_of _ _ _ _ _ h
-    (classes_of args ss c.end-next.result c.in_ok-operands-in-Lights.operands.items _ hq refl)
+    (classes_of args ss c.args.base c.end-next.result c.in_ok-operands-in-Lights.operands.items _ hq refl)
     (c.in_ok-b-in-Lights.ensures.class ∙ ap (λ l. stmts_uniform (stmts_of l) ss) c.as_slice-in-Lights-2.ensures)
     ∙ ap (λ x. stmt_uniform x ss) (sym (lights_shown c.args.s.now c.in-Lights.word c.in-Lights.args c.in-Lights.body c.in-Lights.is)))
     c.lit.ensures.class
@@ -470,7 +480,7 @@ statement-returns-in_ok-b-in-Lights-clause-code t c =
     (λ h. lights_code ss base next c.args.temps c.end-next.ensures c.in-Lights.word (exprs_of c.in-Lights.args) (stmts_of c.in-Lights.body) c.in_ok-operands-in-Lights.operands.items o _ _
     (block_of c.new-inside.result.items) _
     (c.in_ok-operands-in-Lights.ensures.code ∙ ap (λ l. o then exprs_code (exprs_of l) ss base next) c.as_slice-in-Lights.ensures)
-    (c.in_ok-operands-in-Lights.ensures.at ∙ ap (λ l. all_at (exprs_of l) ss next) c.as_slice-in-Lights.ensures)
+    (c.in_ok-operands-in-Lights.ensures.at ∙ ap (λ l. all_at (exprs_of l) ss c.args.base next) c.as_slice-in-Lights.ensures)
     (ap block_of c.new-inside.ensures.items) (c.in_ok-b-in-Lights.ensures.code ∙ ap (λ l. block_of c.new-inside.result.items then all_code (stmts_of l) ss base c.args.temps) c.as_slice-in-Lights-2.ensures)
     h
     ∙ ap (λ x. o then stmt_code x ss base c.args.temps) (sym (lights_shown c.args.s.now c.in-Lights.word c.in-Lights.args c.in-Lights.body c.in-Lights.is)))
@@ -511,7 +521,7 @@ expression-returns-in_ok-operands-in-Texture-clause-at t c =
     let next = c.args.next in
     IfOk-weaker c.texture.result (λ q. q ≡ looked_at c.in_ok-operands-in-Texture.operands.items next) (λ q. q ≡ at (expr_of c.args.e.now) ss next)
     (λ q h. look_at ss c.args.base next c.in-Texture.node (exprs_of c.in-Texture.args) c.in_ok-operands-in-Texture.operands.items q
-    (c.in_ok-operands-in-Texture.ensures.at ∙ ap (λ l. all_at (exprs_of l) ss next) c.as_slice-in-Texture.ensures) h
+    (c.in_ok-operands-in-Texture.ensures.at ∙ ap (λ l. all_at (exprs_of l) ss c.args.base next) c.as_slice-in-Texture.ensures) h
     ∙ ap (λ x. at x ss next) (sym (texture_shown c.args.e.now c.in-Texture.node c.in-Texture.args c.in-Texture.is)))
     c.texture.ensures.at
 
@@ -523,6 +533,6 @@ expression-returns-in_ok-operands-in-Texture-clause-code t c =
     on_ok_weaker c.texture.result
     (λ h. look_code ss c.args.base next c.in-Texture.node (exprs_of c.in-Texture.args) c.in_ok-operands-in-Texture.operands.items o _ _
     (c.in_ok-operands-in-Texture.ensures.code ∙ ap (λ l. o then exprs_code (exprs_of l) ss c.args.base next) c.as_slice-in-Texture.ensures)
-    (c.in_ok-operands-in-Texture.ensures.at ∙ ap (λ l. all_at (exprs_of l) ss next) c.as_slice-in-Texture.ensures) h
+    (c.in_ok-operands-in-Texture.ensures.at ∙ ap (λ l. all_at (exprs_of l) ss c.args.base next) c.as_slice-in-Texture.ensures) h
     ∙ ap (λ x. o then expr_code x ss c.args.base next) (sym (texture_shown c.args.e.now c.in-Texture.node c.in-Texture.args c.in-Texture.is)))
     c.texture.ensures.code
