@@ -6,7 +6,7 @@ ghost use Rattle.conformance.specs.Names.{texts};
 ghost use Rattle.conformance.specs.Answer.{state_of, entry_line, head_text, answer_text, Answers};
 
 use crate::case::Case;
-use crate::stop::Stop;
+use fixed_math::NoMemory;
 use outside::{Entry, MemoryNotes, MemorySink};
 use render::run;
 use sha2::{Digest, Sha256};
@@ -21,7 +21,7 @@ const NOTES_ROOM: usize = 65536;
 /// Runs a case, and writes the lines of its answer: its name, the status, the notes, and a line for each frame of the sink, in order, with its
 /// length and its SHA-256. The frames are those of the verdict on the case's words and files: all of them where the status is 0, none where it is
 /// 2 to 7, and else some first ones, of which the last may be open.
-pub fn answer(alloc: Global, case: Case<'_>) -> Result<Vec<u8>, Stop>
+pub fn answer(alloc: Global, case: Case<'_>) -> Result<Vec<u8>, NoMemory>
     ensures { IfOk result (λ t. Answers case.entry.name.now (texts case.entry.words.items) case.entry.library.files t.items) }
 {
     let Case {
@@ -42,7 +42,7 @@ fn lines(
     status: u8,
     notes: &[u8],
     frames: &MemorySink,
-) -> Result<Vec<u8>, Stop>
+) -> Result<Vec<u8>, NoMemory>
     ensures { IfOk result (λ t. t.items ≡ answer_text name.now status notes.now frames.now.written) }
 {
     let mut text = head(alloc, name, status, notes)?;
@@ -52,7 +52,7 @@ fn lines(
 }
 
 // The lines before the entries.
-fn head(alloc: Global, name: &str, status: u8, notes: &[u8]) -> Result<Vec<u8>, Stop>
+fn head(alloc: Global, name: &str, status: u8, notes: &[u8]) -> Result<Vec<u8>, NoMemory>
     ensures { IfOk result (λ t. t.items ≡ head_text name.now status notes.now) }
 {
     let length = notes.len();
@@ -64,7 +64,7 @@ fn head(alloc: Global, name: &str, status: u8, notes: &[u8]) -> Result<Vec<u8>, 
 }
 
 // Adds a line for each entry.
-fn add_entries(alloc: Global, text: &mut Vec<u8>, frames: &MemorySink) -> Result<(), Stop>
+fn add_entries(alloc: Global, text: &mut Vec<u8>, frames: &MemorySink) -> Result<(), NoMemory>
     ensures { OnOk result (text.new.items ≡ text.old.items ++ flat_map entry_line frames.now.written) }
 {
     for n in 0..frames.entries() {
@@ -83,7 +83,7 @@ fn state(ended: bool) -> &'static str
 
 // The line of an entry.
 #[tactic(auto, unfolding(crate::specs::Answer::entry_line))]
-fn line_of(alloc: Global, frame: Entry<'_>) -> Result<String, Stop>
+fn line_of(alloc: Global, frame: Entry<'_>) -> Result<String, NoMemory>
     ensures { IfOk result (λ s. string_bytes s ≡ entry_line (entry_of frame.entry)) }
 {
     let name = frame.name;

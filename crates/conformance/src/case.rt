@@ -1,9 +1,10 @@
 // A case, and how its lines are read.
-ghost use Rattle.std.specs.Prelude.{◌≡◌, ◌↔◌, ◌∷◌, [], ◌++◌, eqb, false, Ok, Some, IsTrue, IfOk, OnOk, codes, slice_get};
+ghost use Rattle.std.specs.Prelude.{◌≡◌, ◌↔◌, ◌∷◌, [], ◌++◌, eqb, false, Ok, Some, IsTrue, IfOk, IfErr, OnOk, codes, slice_get};
 ghost use Rattle.std.specs.List.{slice_split};
-ghost use Rattle.conformance.specs.Lines.{Stands};
+ghost use Rattle.conformance.specs.Lines.{Stands, number_at};
 ghost use Rattle.conformance.specs.Names.{IsName, space, texts, words_line};
-ghost use Rattle.conformance.specs.Reading.{CameFurther};
+ghost use Rattle.conformance.specs.Reading.{CameFurther, IsOfText};
+ghost use Rattle.conformance.specs.declared.stop.Stop.TheVariants.{Form};
 
 use crate::reader::Reader;
 use crate::stop::Stop;
@@ -22,7 +23,8 @@ pub struct Case<'a> {
 impl<'a> Case<'a> {
     /// The next case of a text.
     pub fn read(alloc: Global, reader: &mut Reader<'a>) -> Result<Case<'a>, Stop>
-        ensures { OnOk result (CameFurther reader.old reader.new) }
+        ensures further { OnOk result (CameFurther reader.old reader.new) }
+        ensures stop { IfErr result IsOfText }
     {
         let name = read_name(reader)?;
         let words = read_words(alloc, reader)?;
@@ -47,6 +49,7 @@ fn is_name(text: &str) -> bool
 fn read_name<'a>(reader: &mut Reader<'a>) -> Result<&'a str, Stop>
     ensures further { OnOk result (CameFurther reader.old reader.new) }
     ensures name { IfOk result (λ n. IsName n.now) }
+    ensures malformed { IfErr result (λ e. e ≡ Form (number_at reader.old.text.now reader.old.at)) }
     ensures read { IfOk result (λ n. Stands reader.old.text.now reader.old.at reader.new.at (codes "case " ++ n.now)) }
 {
     match reader.line()?.strip_prefix("case ") {
@@ -78,6 +81,7 @@ fn words_of<'a>(alloc: Global, list: &'a str) -> Result<Vec<&'a str>, NoMemory>
 // The words of a case, behind the program's name.
 fn read_words<'a>(alloc: Global, reader: &mut Reader<'a>) -> Result<Vec<&'a str>, Stop>
     ensures further { OnOk result (CameFurther reader.old reader.new) }
+    ensures stop { IfErr result IsOfText }
     ensures program { IfOk result (λ ws. slice_get (texts ws.items) 0 ≡ Some (codes "reyes")) }
     ensures read { IfOk result (λ ws. Stands reader.old.text.now reader.old.at reader.new.at (words_line (texts ws.items))) }
 {
@@ -115,6 +119,7 @@ fn file_head(line: &str) -> Option<(&str, usize)> {
 // Adds the next file to the library, or says that the case ends.
 fn read_file(reader: &mut Reader<'_>, library: &mut MemoryLibrary) -> Result<bool, Stop>
     ensures further { OnOk result (CameFurther reader.old reader.new) }
+    ensures stop { IfErr result IsOfText }
     ensures last { result ≡ Ok false → Stands reader.old.text.now reader.old.at reader.new.at (codes "end") }
     ensures kept { result ≡ Ok false → library.new ≡ library.old }
 {

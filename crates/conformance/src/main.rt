@@ -15,8 +15,9 @@ mod case;
 mod reader;
 mod stop;
 
-ghost use Rattle.std.specs.Prelude.{OnOk};
-ghost use Rattle.conformance.specs.Reading.{CameFurther};
+ghost use Rattle.std.specs.Prelude.{◌≢◌, OnOk, IfErr};
+ghost use Rattle.conformance.specs.Reading.{CameFurther, IsOfText};
+ghost use Rattle.conformance.specs.declared.stop.Stop.TheVariants.{Output};
 
 use answer::answer;
 use case::Case;
@@ -37,7 +38,8 @@ fn input(rt: &(impl Input + AllocGlobal)) -> Result<Vec<u8>, Stop> {
 
 /// Answers one case.
 fn answer_next(rt: &(impl Print + AllocGlobal), reader: &mut Reader<'_>) -> Result<(), Stop>
-    ensures { OnOk result (CameFurther reader.old reader.new) }
+    ensures further { OnOk result (CameFurther reader.old reader.new) }
+    ensures stop { IfErr result (λ e. e ≢ Output → IsOfText e) }
 {
     let case = Case::read(rt.alloc(), reader)?;
     let text = answer(rt.alloc(), case)?;

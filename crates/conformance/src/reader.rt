@@ -72,6 +72,7 @@ impl<'a> Reader<'a> {
     /// Where they aren't there, the line that was read last is malformed, since it gave their number.
     pub fn bytes(&mut self, count: usize) -> Result<&'a [u8], Stop>
         ensures same { self.new.text ≡ self.old.text }
+        ensures start { self.new.start ≡ self.old.start }
         ensures further { OnOk result (self.old.at < self.new.at) }
         ensures read { IfOk result (λ b. Stands self.old.text.now self.old.at self.new.at b.now) }
         ensures whole { IfOk result (λ b. length b.now ≡ count) }

@@ -3,7 +3,6 @@ ghost use Rattle.std.specs.Prelude.{◌≡◌};
 ghost use Rattle.conformance.specs.declared.stop.Stop.TheVariants.{NoMemory as StopNoMemory};
 
 use fixed_math::NoMemory;
-use std::alloc::{AllocError, AllocFailed};
 use std::fmt;
 
 /// What ends the program early.
@@ -34,22 +33,6 @@ impl From<NoMemory> for Stop {
     ghost from_gives = { λ _ e. e ≡ StopNoMemory };
 
     fn from(_: NoMemory) -> Stop {
-        Stop::NoMemory
-    }
-}
-
-impl From<AllocError> for Stop {
-    ghost from_gives = { λ _ e. e ≡ StopNoMemory };
-
-    fn from(_: AllocError) -> Stop {
-        Stop::NoMemory
-    }
-}
-
-impl<T: Drop> From<AllocFailed<T>> for Stop {
-    ghost from_gives = { λ _ e. e ≡ StopNoMemory };
-
-    fn from(_: AllocFailed<T>) -> Stop {
         Stop::NoMemory
     }
 }
