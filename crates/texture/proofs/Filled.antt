@@ -8,7 +8,7 @@ use Rattle.std.proofs.Math.ListN.{get_or-map as Math_get_or-map}
 use Rattle.std.proofs.lemmas.Bool.{cases_lt}
 use Rattle.fixed_math.specs.declared.vec3.Vec3.{Vec3}
 use Rattle.fixed_math.specs.Axes.{origin}
-use Rattle.texture.specs.declared.cache.Tile.{Tile}
+use Rattle.texture.specs.declared.look.Tile.{Tile}
 use Rattle.texture.specs.Images.{Image}
 use Rattle.texture.specs.Pyramid.{side_at, texel}
 use Rattle.texture.specs.Slots.{Held, IsFilledTo, IsFilled, IsKept, AreKept, AreBare, AreEmpty, keys_of, put, slot_of, tile_at, empty, no_image}

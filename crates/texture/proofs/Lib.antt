@@ -8,6 +8,7 @@ pub mod Listed
 pub mod LookSteps
 pub mod Numerals
 pub mod Scans
+pub mod Shares
 pub mod Sides
 pub mod Spots
 pub mod Stored

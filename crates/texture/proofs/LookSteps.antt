@@ -1,45 +1,60 @@
 -- A look-up by its steps.
-use Rattle.std.proofs.Common.{◌≡◌, ◌∙◌, ap, refl, ℕ, ◌^◌, ◌≤◌, ℤ, pos, ◌+ℤ◌, List, Option, to_z, of_z, unsigned_abs, arith}
-use Rattle.std.specs.Int.{w128}
-use Rattle.std.proofs.lemmas.Int.{ints, to_z-of_z, fits_signed_from_abs}
+use Rattle.std.proofs.Common.{◌≡◌, ◌∙◌, ap, ℕ, ◌^◌, ◌/◌, ℤ, pos, ◌+ℤ◌, List}
+use Rattle.std.specs.Prelude.{Option, Some}
+use Rattle.std.proofs.lemmas.List.{set-set}
 use Rattle.fixed_math.specs.declared.vec3.Vec3.{Vec3}
-use Rattle.texture.specs.declared.cache.Tile.{Tile}
+use Rattle.texture.specs.declared.look.Tile.{Tile}
 use Rattle.texture.specs.Images.{Image}
 use Rattle.texture.specs.Pyramid.{side_at, texel}
-use Rattle.texture.specs.Looks.{place_of, rest_of, put_into, blend_all, look_of}
-use Rattle.texture.specs.Slots.{put, tile_at, slots_after}
+use Rattle.texture.specs.Looks.{place_of, rest_of, put_into, blend_all, mixed, look_of}
+use Rattle.texture.specs.Slots.{put, put_four, slot_of, tile_at, slots_after}
 
-pub look_through : (p : Image) (l : ℕ) (s t : ℤ) (w h : ℕ) (ax ay fx fy : ℤ) (x xx y yy : ℕ) (a b c d m n r : Vec3) →
-    w ≡ side_at p.width (2 ^ l) → h ≡ side_at p.height (2 ^ l) → ax ≡ place_of s w → fx ≡ rest_of s w → ay ≡ place_of t h → fy ≡ rest_of t h →
-    x ≡ put_into ax w → xx ≡ put_into (ax +ℤ pos 1) w → y ≡ put_into ay h → yy ≡ put_into (ay +ℤ pos 1) h →
-    a ≡ texel p l x y → b ≡ texel p l xx y → c ≡ texel p l x yy → d ≡ texel p l xx yy →
-    m ≡ blend_all a b fx → n ≡ blend_all c d fx → r ≡ blend_all m n fy → r ≡ look_of p l s t
+pub mixed_through : (p : Image) (l x xx y yy : ℕ) (f g : ℤ) (a b c d m n r : Vec3) → a ≡ texel p l x y → b ≡ texel p l xx y → c ≡ texel p l x yy → d ≡ texel p l xx yy →
+    m ≡ blend_all a b f → n ≡ blend_all c d f → r ≡ blend_all m n g → r ≡ mixed p l x xx y yy f g
+mixed_through p l x xx y yy f g a b c d m n r ea eb ec ed em en er =
+    let F : Vec3 → Vec3 → Vec3 → Vec3 → Vec3 = λ a b c d. blend_all (blend_all a b f) (blend_all c d f) g in
+    er ∙ ap (λ q. blend_all q n g) em ∙ ap (λ q. blend_all (blend_all a b f) q g) en
+    ∙ ap (λ q. F q b c d) ea ∙ ap (λ q. F (texel p l x y) q c d) eb ∙ ap (λ q. F (texel p l x y) (texel p l xx y) q d) ec
+    ∙ ap (λ q. F (texel p l x y) (texel p l xx y) (texel p l x yy) q) ed
+
+pub look_through : (p : Image) (l : ℕ) (s t : ℤ) (w h x xx y yy : ℕ) (f g : ℤ) (r : Vec3) →
+    w ≡ side_at p.width (2 ^ l) → h ≡ side_at p.height (2 ^ l) →
+    x ≡ put_into (place_of s w) w → xx ≡ put_into (place_of s w +ℤ pos 1) w → y ≡ put_into (place_of t h) h → yy ≡ put_into (place_of t h +ℤ pos 1) h →
+    f ≡ rest_of s w → g ≡ rest_of t h → r ≡ mixed p l x xx y yy f g → r ≡ look_of p l s t
 unfolding look_of
-look_through p l s t w h ax ay fx fy x xx y yy a b c d m n r ew eh eax efx eay efy ex exx ey eyy ea eb ec ed em en er =
-    let F : Vec3 → Vec3 → Vec3 → Vec3 → ℤ → ℤ → Vec3 = λ a b c d fx fy. blend_all (blend_all a b fx) (blend_all c d fx) fy in
-    let G : ℕ → ℕ → ℕ → ℕ → ℤ → ℤ → Vec3 = λ x xx y yy fx fy. F (texel p l x y) (texel p l xx y) (texel p l x yy) (texel p l xx yy) fx fy in
-    let H : ℤ → ℤ → ℕ → ℕ → ℤ → ℤ → Vec3 = λ ax ay w h fx fy. G (put_into ax w) (put_into (ax +ℤ pos 1) w) (put_into ay h) (put_into (ay +ℤ pos 1) h) fx fy in
-    er ∙ ap (λ q. blend_all q n fy) em ∙ ap (λ q. blend_all (blend_all a b fx) q fy) en
-    ∙ ap (λ q. F q b c d fx fy) ea ∙ ap (λ q. F (texel p l x y) q c d fx fy) eb ∙ ap (λ q. F (texel p l x y) (texel p l xx y) q d fx fy) ec
-    ∙ ap (λ q. F (texel p l x y) (texel p l xx y) (texel p l x yy) q fx fy) ed
-    ∙ ap (λ q. G q xx y yy fx fy) ex ∙ ap (λ q. G (put_into ax w) q y yy fx fy) exx ∙ ap (λ q. G (put_into ax w) (put_into (ax +ℤ pos 1) w) q yy fx fy) ey
-    ∙ ap (λ q. G (put_into ax w) (put_into (ax +ℤ pos 1) w) (put_into ay h) q fx fy) eyy
-    ∙ ap (λ q. H q ay w h fx fy) eax ∙ ap (λ q. H (place_of s w) q w h fx fy) eay
-    ∙ ap (λ q. H (place_of s w) (place_of t h) w h q fy) efx ∙ ap (λ q. H (place_of s w) (place_of t h) w h (rest_of s w) q) efy
-    ∙ ap (λ q. H (place_of s q) (place_of t h) q h (rest_of s q) (rest_of t h)) ew
-    ∙ ap (λ q. H (place_of s (side_at p.width (2 ^ l))) (place_of t q) (side_at p.width (2 ^ l)) q (rest_of s (side_at p.width (2 ^ l))) (rest_of t q)) eh
+look_through p l s t w h x xx y yy f g r ew eh ex exx ey eyy ef eg er =
+    let H : ℕ → ℕ → Vec3 = λ w h. mixed p l (put_into (place_of s w) w) (put_into (place_of s w +ℤ pos 1) w) (put_into (place_of t h) h) (put_into (place_of t h +ℤ pos 1) h) (rest_of s w) (rest_of t h) in
+    er ∙ ap (λ q. mixed p l q xx y yy f g) ex ∙ ap (λ q. mixed p l (put_into (place_of s w) w) q y yy f g) exx
+    ∙ ap (λ q. mixed p l (put_into (place_of s w) w) (put_into (place_of s w +ℤ pos 1) w) q yy f g) ey
+    ∙ ap (λ q. mixed p l (put_into (place_of s w) w) (put_into (place_of s w +ℤ pos 1) w) (put_into (place_of t h) h) q f g) eyy
+    ∙ ap (λ q. mixed p l (put_into (place_of s w) w) (put_into (place_of s w +ℤ pos 1) w) (put_into (place_of t h) h) (put_into (place_of t h +ℤ pos 1) h) q g) ef
+    ∙ ap (λ q. mixed p l (put_into (place_of s w) w) (put_into (place_of s w +ℤ pos 1) w) (put_into (place_of t h) h) (put_into (place_of t h +ℤ pos 1) h) (rest_of s w) q) eg
+    ∙ ap (λ q. H q h) ew ∙ ap (λ q. H (side_at p.width (2 ^ l)) q) eh
 
-pub slots_through : (ss ss1 ss2 ss3 ss4 : List (Option Tile)) (which : ℕ) (p : Image) (l : ℕ) (s t : ℤ) (w h : ℕ) (ax ay : ℤ) (x xx y yy : ℕ) →
-    w ≡ side_at p.width (2 ^ l) → h ≡ side_at p.height (2 ^ l) → ax ≡ place_of s w → ay ≡ place_of t h →
-    x ≡ put_into ax w → xx ≡ put_into (ax +ℤ pos 1) w → y ≡ put_into ay h → yy ≡ put_into (ay +ℤ pos 1) h →
-    ss1 ≡ put ss (tile_at which l x y) → ss2 ≡ put ss1 (tile_at which l xx y) → ss3 ≡ put ss2 (tile_at which l x yy) → ss4 ≡ put ss3 (tile_at which l xx yy) →
-    ss4 ≡ slots_after ss which p l s t
+pub slots_through : (ss : List (Option Tile)) (which : ℕ) (p : Image) (l : ℕ) (s t : ℤ) (w h x xx y yy : ℕ) (r : List (Option Tile)) →
+    w ≡ side_at p.width (2 ^ l) → h ≡ side_at p.height (2 ^ l) →
+    x ≡ put_into (place_of s w) w → xx ≡ put_into (place_of s w +ℤ pos 1) w → y ≡ put_into (place_of t h) h → yy ≡ put_into (place_of t h +ℤ pos 1) h →
+    r ≡ put_four ss which l x xx y yy → r ≡ slots_after ss which p l s t
 unfolding slots_after
-slots_through ss ss1 ss2 ss3 ss4 which p l s t w h ax ay x xx y yy ew eh eax eay ex exx ey eyy e1 e2 e3 e4 =
-    e4 ∙ rw (e3, e2, e1, ex, exx, ey, eyy, eax, eay, ew, eh) refl
+slots_through ss which p l s t w h x xx y yy r ew eh ex exx ey eyy er =
+    let H : ℕ → ℕ → List (Option Tile) = λ w h. put_four ss which l (put_into (place_of s w) w) (put_into (place_of s w +ℤ pos 1) w) (put_into (place_of t h) h) (put_into (place_of t h +ℤ pos 1) h) in
+    er ∙ ap (λ q. put_four ss which l q xx y yy) ex ∙ ap (λ q. put_four ss which l (put_into (place_of s w) w) q y yy) exx
+    ∙ ap (λ q. put_four ss which l (put_into (place_of s w) w) (put_into (place_of s w +ℤ pos 1) w) q yy) ey
+    ∙ ap (λ q. put_four ss which l (put_into (place_of s w) w) (put_into (place_of s w +ℤ pos 1) w) (put_into (place_of t h) h) q) eyy
+    ∙ ap (λ q. H q h) ew ∙ ap (λ q. H (side_at p.width (2 ^ l)) q) eh
 
-pub same_place : (z : ℤ) → unsigned_abs z ≤ 2 ^ 42 → to_z w128 (of_z w128 z) ≡ z
-same_place z h = to_z-of_z w128 z (fits_signed_from_abs w128 z (omega arith))
+-- a tile that is put into its slot once more
+put_again : (ss : List (Option Tile)) (k : Tile) → put (put ss k) k ≡ put ss k
+put_again ss k = set-set ss (slot_of k) (Some k) (Some k)
 
-pub next_place : (z : ℤ) → unsigned_abs z ≤ 2 ^ 42 → to_z w128 (of_z w128 (to_z w128 (of_z w128 z) +ℤ pos 1)) ≡ z +ℤ pos 1
-next_place z h = ap (λ y. to_z w128 (of_z w128 (y +ℤ pos 1))) (same_place z h) ∙ to_z-of_z w128 (z +ℤ pos 1) (fits_signed_from_abs w128 (z +ℤ pos 1) (omega (arith, ints)))
+-- four texels of one tile
+pub put_one : (ss : List (Option Tile)) (which l x xx y yy : ℕ) → xx / 32 ≡ x / 32 → yy / 32 ≡ y / 32 → put_four ss which l x xx y yy ≡ put ss (tile_at which l x y)
+put_one ss which l x xx y yy ex ey =
+    let k = tile_at which l x y in
+    let b : tile_at which l xx y ≡ k = ap {B = Tile} (λ n. record { which = which; level = l; column = n; row = y / 32 }) ex in
+    let c : tile_at which l x yy ≡ k = ap {B = Tile} (λ n. record { which = which; level = l; column = x / 32; row = n }) ey in
+    let d : tile_at which l xx yy ≡ k = ap {B = Tile} (λ n. record { which = which; level = l; column = n; row = yy / 32 }) ex ∙ c in
+    ap (λ q. put (put (put (put ss k) q) (tile_at which l x yy)) (tile_at which l xx yy)) b
+    ∙ ap (λ q. put (put (put (put ss k) k) q) (tile_at which l xx yy)) c
+    ∙ ap (λ q. put (put (put (put ss k) k) k) q) d
+    ∙ put_again (put (put ss k) k) k ∙ put_again (put ss k) k ∙ put_again ss k

@@ -63,6 +63,7 @@ pub record IsFile (bytes : List ℕ) (p : Image) : Type 0 where
   pub size : length samples ≡ byte_count p.width p.height p.most
   pub image : p ≡ image_in p.width p.height p.most samples
 
+-- bytes that are a file of no image
 abbrev pub IsNoFile : List ℕ → Type 0
 IsNoFile bytes = (p : Image) → IsFile bytes p → ⊥
 

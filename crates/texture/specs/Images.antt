@@ -37,6 +37,7 @@ image_in width height most bytes = record { width = width; height = height; most
 abbrev pub byte_count : ℕ → ℕ → ℕ → ℕ
 byte_count width height most = sample_count width height * bytes_each most
 
+-- how many bytes an image's samples take in a file
 abbrev pub image_bytes : Image → ℕ
 image_bytes p = byte_count p.width p.height p.most
 

@@ -3,6 +3,7 @@ pub mod Pyramid
 pub mod Levels
 pub mod Looks
 pub mod Slots
+pub mod Around
 pub mod Files
 pub mod Scans
 pub mod Tables

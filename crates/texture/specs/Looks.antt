@@ -1,5 +1,5 @@
 -- Looking a texture up: the four texels around a place of a level, mixed.
-use Rattle.std.specs.Prelude.{ℕ, ◌-◌, ◌^◌, ℤ, pos, ◌*ℤ◌, ◌-ℤ◌, ◌+ℤ◌, unsigned_abs, ◌≡◌, refl}
+use Rattle.std.specs.Prelude.{ℕ, ◌-◌, ◌^◌, ℤ, pos, ◌*ℤ◌, ◌-ℤ◌, ◌+ℤ◌, ◌≤ℤ◌, unsigned_abs, ◌≡◌, refl}
 use Rattle.fixed_math.specs.declared.vec3.Vec3.{Vec3}
 use Rattle.fixed_math.specs.Fixed.{add, sub, mul}
 use Rattle.fixed_math.specs.Whole.{floor_by, clamp}
@@ -10,6 +10,7 @@ use Rattle.texture.specs.Pyramid.{side_at, texel, four, texel_part, square_sum, 
 abbrev pub blend : ℤ → ℤ → ℤ → ℤ
 blend a b t = add (mul a (sub (pos 65536) t)) (mul b t)
 
+-- two colours mixed
 abbrev pub blend_all : Vec3 → Vec3 → ℤ → Vec3
 blend_all a b t = record { x = blend a.x b.x t; y = blend a.y b.y t; z = blend a.z b.z t }
 
@@ -29,6 +30,21 @@ rest_of s side = exact_of s side -ℤ pos 65536 *ℤ place_of s side
 abbrev pub put_into : ℤ → ℕ → ℕ
 put_into z side = unsigned_abs (clamp (pos 0) (pos (side - 1)) z)
 
+-- a part of a whole of 65536
+abbrev pub IsShare : ℤ → Type 0
+IsShare z = (pos 0 ≤ℤ z) × (z ≤ℤ pos 65536)
+
+pub record AreShares (v : Vec3) : Type 0 where
+  pub red : IsShare v.x
+  pub green : IsShare v.y
+  pub blue : IsShare v.z
+
+-- the mix of the four texels of level l in columns x and xx and rows y and yy
+abbrev pub mixed : Image → ℕ → ℕ → ℕ → ℕ → ℕ → ℤ → ℤ → Vec3
+mixed p l x xx y yy f g =
+    let row : ℕ → Vec3 = λ y. blend_all (texel p l x y) (texel p l xx y) f in
+    blend_all (row y) (row yy) g
+
 -- the colour at s and t of level l
 unfoldable pub look_of : Image → ℕ → ℤ → ℤ → Vec3
 look_of p l s t =
@@ -36,9 +52,7 @@ look_of p l s t =
     let h = side_at p.height (2 ^ l) in
     let x = place_of s w in
     let y = place_of t h in
-    let at_ : ℤ → ℤ → Vec3 = λ x y. texel p l (put_into x w) (put_into y h) in
-    let row : ℤ → Vec3 = λ y. blend_all (at_ x y) (at_ (x +ℤ pos 1) y) (rest_of s w) in
-    blend_all (row y) (row (y +ℤ pos 1)) (rest_of t h)
+    mixed p l (put_into x w) (put_into (x +ℤ pos 1) w) (put_into y h) (put_into (y +ℤ pos 1) h) (rest_of s w) (rest_of t h)
 
 -- worked values: the four samples, at the middle of the first, at the middle of all, and past the corner; the last level's one texel
 first_of_four : look_of four 0 (pos 16384) (pos 16384) ≡ record { x = pos 65536; y = pos 0; z = pos 0 }

@@ -27,9 +27,11 @@ inside side m x = min m (side - x * m)
 abbrev pub side_at : ℕ → ℕ → ℕ
 side_at side m = (side + (m - 1)) / m
 
+-- a channel of a texel: the mean of the samples in its square, of a whole of 65536
 unfoldable pub texel_part : Image → ℕ → ℕ → ℕ → ℕ → ℕ
 texel_part p m x y c = 65536 * square_sum p c m x y / (p.most * (inside p.width m x * inside p.height m y))
 
+-- the number of a channel by its axis
 abbrev pub channel : Axis → ℕ
 channel X = 0
 channel Y = 1

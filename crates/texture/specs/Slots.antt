@@ -3,7 +3,7 @@ use Rattle.std.specs.Prelude.{ℕ, ◌+◌, ◌*◌, ◌/◌, ◌%◌, ◌^◌, 
 use Rattle.fixed_math.specs.declared.vec3.Vec3.{Vec3}
 use Rattle.fixed_math.specs.Axes.{origin}
 use Rattle.fixed_math.specs.Hash.{hash32}
-use Rattle.texture.specs.declared.cache.Tile.{Tile}
+use Rattle.texture.specs.declared.look.Tile.{Tile}
 use Rattle.texture.specs.Images.{Image}
 use Rattle.texture.specs.Pyramid.{side_at, texel, four}
 use Rattle.texture.specs.Looks.{place_of, put_into}
@@ -27,6 +27,7 @@ pub record IsFilledTo (n : ℕ) (p : Image) (k : Tile) (xs : List Vec3) : Type 0
   pub each : (i : ℕ) → i < n → k.column * 32 + i % 32 < side_at p.width (2 ^ k.level) → k.row * 32 + i / 32 < side_at p.height (2 ^ k.level) →
       get_or xs i origin ≡ texel p k.level (k.column * 32 + i % 32) (k.row * 32 + i / 32)
 
+-- these are all texels of a tile
 abbrev pub IsFilled : Image → Tile → List Vec3 → Type 0
 IsFilled p k xs = IsFilledTo 1024 p k xs
 
@@ -37,13 +38,16 @@ pub record IsKept (ps : List Image) (h : Held) : Type 0 where
 abbrev pub empty : Held
 empty = record { tile = None; texels = [] }
 
+-- 256 slots, each empty or with the tile that belongs there
 pub record AreKept (ps : List Image) (hs : List Held) : Type 0 where
   pub size : length hs ≡ 256
   pub each : (i : ℕ) → IsKept ps (get_or hs i empty)
 
+-- which tiles the slots hold
 abbrev pub keys_of : List Held → List (Option Tile)
 keys_of hs = map (λ (h : Held). h.tile) hs
 
+-- the slot of a tile, by its hash
 abbrev pub slot_of : Tile → ℕ
 slot_of k = hash32 (k.which ∷ k.level ∷ k.column ∷ k.row ∷ []) % 256
 
@@ -55,16 +59,18 @@ put ss k = slice_set ss (slot_of k) (Some k)
 abbrev pub tile_at : ℕ → ℕ → ℕ → ℕ → Tile
 tile_at which l x y = record { which = which; level = l; column = x / 32; row = y / 32 }
 
--- the slots after a look-up: the tiles of its four texels, put into their slots
+-- the slots after the tiles of four texels were put into theirs
+abbrev pub put_four : List (Option Tile) → ℕ → ℕ → ℕ → ℕ → ℕ → ℕ → List (Option Tile)
+put_four ss which l x xx y yy = put (put (put (put ss (tile_at which l x y)) (tile_at which l xx y)) (tile_at which l x yy)) (tile_at which l xx yy)
+
+-- the slots after a look-up, by its four texels
 unfoldable pub slots_after : List (Option Tile) → ℕ → Image → ℕ → ℤ → ℤ → List (Option Tile)
 slots_after ss which p l s t =
     let w = side_at p.width (2 ^ l) in
     let h = side_at p.height (2 ^ l) in
-    let x = put_into (place_of s w) w in
-    let xx = put_into (place_of s w +ℤ pos 1) w in
-    let y = put_into (place_of t h) h in
-    let yy = put_into (place_of t h +ℤ pos 1) h in
-    put (put (put (put ss (tile_at which l x y)) (tile_at which l xx y)) (tile_at which l x yy)) (tile_at which l xx yy)
+    let x = place_of s w in
+    let y = place_of t h in
+    put_four ss which l (put_into x w) (put_into (x +ℤ pos 1) w) (put_into y h) (put_into (y +ℤ pos 1) h)
 
 -- 256 slots, each of them empty
 pub record AreEmpty (ss : List (Option Tile)) : Type 0 where

@@ -13,6 +13,7 @@ pub record Table : Type 0 where
 abbrev pub cell : Image → ℕ → ℕ → ℕ → ℕ
 cell p m w k = square_sum p (k % 3) m (k / 3 % w) (k / 3 / w)
 
+-- a table of the sums over all squares of a side
 pub record AreSums (p : Image) (m : ℕ) (t : Table) : Type 0 where
   pub width : t.width ≡ side_at p.width m
   pub height : t.height ≡ side_at p.height m

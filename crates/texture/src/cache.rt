@@ -1,25 +1,17 @@
 // A cache of tiles.
-ghost use Rattle.std.specs.Prelude.{◌≡◌, ◌≢◌, ◌≤◌, ◌<◌, ◌^◌, ℕ, Some, None, cond, length, get_or, is_some, IsTrue, IfOk};
+ghost use Rattle.std.specs.Prelude.{◌≡◌, ◌≢◌, ◌≤◌, ◌<◌, ◌%◌, ◌*◌, ◌+◌, ◌^◌, ℕ, Some, None, cond, length, get_or, is_some, IsTrue, IfOk};
 ghost use Rattle.std.specs.List.{count_by};
 ghost use Rattle.fixed_math.specs.Axes.{origin};
 ghost use Rattle.texture.specs.Pyramid.{side_at, texel};
-ghost use Rattle.texture.specs.Looks.{look_of};
-ghost use Rattle.texture.specs.Slots.{Held, Kept, AreEmpty, IsFilled, AreKept, slot_of, keys_of, put as put_key, slots_after, tile_at, no_image, empty};
+ghost use Rattle.texture.specs.Around.{IsAround, IsInOneTile, first_tile, mixed_at};
+ghost use Rattle.texture.specs.Looks.{AreShares, look_of};
+ghost use Rattle.texture.specs.Slots.{Held, Kept, AreEmpty, IsFilled, AreKept, slot_of, keys_of, put as put_key, put_four, slots_after, tile_at, no_image, empty};
 
-use crate::look::{mix_all, put, spot_of};
+use crate::look::{Around, Tile, mix_all, spot_of};
 use crate::texture::Texture;
 use fixed_math::{NoMemory, Num, Vec3, hash32};
 use std::alloc::Global;
 use std::marker::Model;
-
-/// Which 32 by 32 texels a slot keeps: of texture `which`, at `level`, the tile in `column` and `row`.
-#[derive(Clone, Copy)]
-pub(crate) struct Tile {
-    pub(crate) which: u32,
-    pub(crate) level: u32,
-    pub(crate) column: u32,
-    pub(crate) row: u32,
-}
 
 /// A slot of the cache: nothing, or a tile with its texels by rows.
 #[derive(Drop)]
@@ -83,10 +75,14 @@ impl Slot {
         ensures tile { self.new.tile ≡ Some tile }
         ensures filled { IsFilled texture.now tile self.new.texels }
     {
+        let columns = texture.columns(tile.level);
+        let rows = texture.rows(tile.level);
         for i in 0..1024u32 {
             let x = tile.column * 32 + i % 32;
             let y = tile.row * 32 + i / 32;
-            self.texels[i as usize] = texture.texel_or_black(tile.level, x, y);
+            if x < columns && y < rows {
+                self.texels[i as usize] = texture.texel(tile.level, x, y);
+            }
         }
         self.tile = Some(tile);
     }
@@ -121,14 +117,31 @@ fn bring(slots: &mut Vec<Slot>, place: usize, texture: &Texture, tile: Tile)
     slots[place].fill(texture, tile);
 }
 
-/// A texel of a slot.
-fn texel_in(slots: &[Slot], place: usize, i: usize) -> Vec3
-    requires there { place < length slots.now }
-    requires inside { i < 1024 }
-    ensures { result ≡ get_or (get_or slots.now place empty).texels i origin }
+/// A texel of a slot, by its column and row in the level.
+fn texel_in(slots: &[Slot], place: usize, x: u32, y: u32) -> Vec3
+    requires { place < length slots.now }
+    ensures { result ≡ get_or (get_or slots.now place empty).texels (y % 32 * 32 + x % 32) origin }
 {
     let slot = &slots[place];
-    slot.texels[i]
+    slot.texels[(y % 32 * 32 + x % 32) as usize]
+}
+
+/// The mix of four texels of the tile that a slot keeps.
+fn mix_in_tile(slots: &[Slot], place: usize, texture: &Texture, a: Around) -> Vec3
+    requires there { place < length slots.now }
+    requires filled { IsFilled texture.now (first_tile a) (get_or slots.now place empty).texels }
+    requires around { IsAround texture.now a }
+    requires one { IsInOneTile a }
+    ensures { result ≡ mixed_at texture.now a }
+{
+    texture.recall();
+    let left = texel_in(slots, place, a.across.first, a.up.first);
+    let right = texel_in(slots, place, a.across.second, a.up.first);
+    let below_left = texel_in(slots, place, a.across.first, a.up.second);
+    let below_right = texel_in(slots, place, a.across.second, a.up.second);
+    let first = mix_all(left, right, a.across.rest);
+    let second = mix_all(below_left, below_right, a.across.rest);
+    mix_all(first, second, a.up.rest)
 }
 
 /// Look-ups of textures through a cache of at most 256 tiles. Contracts see it as its textures and the tiles of its slots.
@@ -169,6 +182,7 @@ impl<'t> Cache<'t> {
         requires left { x ≤ 2048 }
         requires up { y ≤ 2048 }
         ensures value { result ≡ texel (get_or self.old.textures which no_image) l x y }
+        ensures shares { AreShares result }
         ensures slots { self.new.slots ≡ put_key self.old.slots (tile_at which l x y) }
         ensures textures { self.new.textures ≡ self.old.textures }
     {
@@ -179,10 +193,10 @@ impl<'t> Cache<'t> {
             row: y / 32,
         };
         let place = slot_at(tile);
-        let textures = self.textures;
-        let texture = &textures[which as usize];
+        let texture = self.texture(which);
+        texture.recall();
         bring(&mut self.slots, place, texture, tile);
-        texel_in(&self.slots, place, (y % 32 * 32 + x % 32) as usize)
+        texel_in(&self.slots, place, x, y)
     }
 
     /// The colour at `s` and `t` of level `l` of texture `which`: the four texels around the place, mixed. 0 and 1 are the edges of the
@@ -196,23 +210,59 @@ impl<'t> Cache<'t> {
         ensures textures { self.new.textures ≡ self.old.textures }
     {
         let l = l as u32;
-        let width = self.columns(which, l);
-        let height = self.rows(which, l);
-        let across = spot_of(s, width);
-        let up = spot_of(t, height);
-        let x = put(across.place, width);
-        let xx = put(across.place + 1, width);
-        let y = put(up.place, height);
-        let yy = put(up.place + 1, height);
-        let a = self.texel(which, l, x, y);
-        let b = self.texel(which, l, xx, y);
-        let c = self.texel(which, l, x, yy);
-        let d = self.texel(which, l, xx, yy);
-        mix_all(
-            mix_all(a, b, across.rest),
-            mix_all(c, d, across.rest),
-            up.rest,
-        )
+        let around = Around {
+            which,
+            level: l,
+            across: spot_of(s, self.columns(which, l)),
+            up: spot_of(t, self.rows(which, l)),
+        };
+        if around.is_in_one_tile() {
+            self.look_in_one(around)
+        } else {
+            self.look_in_four(around)
+        }
+    }
+
+    // The mix of four texels of one tile.
+    fn look_in_one(&mut self, a: Around) -> Vec3
+        requires there { a.which < length self.old.textures }
+        requires around { IsAround (get_or self.old.textures a.which no_image) a }
+        requires one { IsInOneTile a }
+        ensures value { result ≡ mixed_at (get_or self.old.textures a.which no_image) a }
+        ensures slots { self.new.slots ≡ put_key self.old.slots (first_tile a) }
+        ensures textures { self.new.textures ≡ self.old.textures }
+    {
+        let tile = a.tile();
+        let place = slot_at(tile);
+        let texture = self.texture(a.which);
+        bring(&mut self.slots, place, texture, tile);
+        mix_in_tile(&self.slots, place, texture, a)
+    }
+
+    // The mix of four texels, each through the cache.
+    fn look_in_four(&mut self, a: Around) -> Vec3
+        requires there { a.which < length self.old.textures }
+        requires around { IsAround (get_or self.old.textures a.which no_image) a }
+        ensures value { result ≡ mixed_at (get_or self.old.textures a.which no_image) a }
+        ensures slots { self.new.slots ≡ put_four self.old.slots a.which a.level a.across.first a.across.second a.up.first a.up.second }
+        ensures textures { self.new.textures ≡ self.old.textures }
+    {
+        let left = self.texel(a.which, a.level, a.across.first, a.up.first);
+        let right = self.texel(a.which, a.level, a.across.second, a.up.first);
+        let below_left = self.texel(a.which, a.level, a.across.first, a.up.second);
+        let below_right = self.texel(a.which, a.level, a.across.second, a.up.second);
+        let first = mix_all(left, right, a.across.rest);
+        let second = mix_all(below_left, below_right, a.across.rest);
+        mix_all(first, second, a.up.rest)
+    }
+
+    /// The texture of a number.
+    fn texture(&self, which: u32) -> &'t Texture
+        requires { which < length self.now.textures }
+        ensures { result.now ≡ get_or self.now.textures which no_image }
+    {
+        let textures = self.textures;
+        &textures[which as usize]
     }
 
     /// The number of columns of level `l` of texture `which`.
@@ -223,9 +273,7 @@ impl<'t> Cache<'t> {
         ensures some { 0 < result }
         ensures most { result ≤ 2048 }
     {
-        let textures = self.textures;
-        let texture = &textures[which as usize];
-        texture.columns(l)
+        self.texture(which).columns(l)
     }
 
     /// The number of rows of level `l` of texture `which`.
@@ -236,9 +284,7 @@ impl<'t> Cache<'t> {
         ensures some { 0 < result }
         ensures most { result ≤ 2048 }
     {
-        let textures = self.textures;
-        let texture = &textures[which as usize];
-        texture.rows(l)
+        self.texture(which).rows(l)
     }
 
     /// The textures, as `new` was given them.

@@ -7,6 +7,7 @@
 mod cache;
 mod fault;
 mod header;
+mod laws;
 mod look;
 mod numbers;
 mod places;
@@ -18,6 +19,7 @@ mod texture;
 
 pub use cache::Cache;
 pub use fault::TextureFault;
+pub use laws::one_image_law;
 pub use reading::read;
 pub use steps::level;
 pub use texture::Texture;

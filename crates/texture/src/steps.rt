@@ -20,31 +20,20 @@ fn reaches(step: i64, k: u32) -> bool
     step <= 65536 * side_of(k) as i64
 }
 
-/// The last level of a texture: the least whose one square holds it.
-fn last(t: &Texture) -> u32
-    ensures value { result ≡ last_level t.now }
-    ensures bound { result ≤ 11 }
-{
-    let most = t.most_side();
-    for k in 0..11u32 {
-        if holds(most, k) {
-            return k;
-        }
-    }
-    11
-}
-
 /// The level for a step: the least that is coarse enough, or the last one where that is less.
 pub fn level(t: &Texture, step: i64) -> u8
     requires { pos 0 ≤ℤ step }
     ensures value { result ≡ level_of t.now step }
     ensures bound { result ≤ 11 }
 {
-    let last = last(t);
-    for k in 0..last {
+    let most = t.most_side();
+    for k in 0..11u32 {
         if reaches(step, k) {
             return k as u8;
         }
+        if holds(most, k) {
+            return k as u8;
+        }
     }
-    last as u8
+    11
 }

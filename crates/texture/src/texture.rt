@@ -1,6 +1,6 @@
 // Textures, and their texels.
 ghost use Rattle.std.specs.Prelude.{◌≡◌, ◌≤◌, ◌<◌, ◌*◌, ◌/◌, ◌^◌, IfOk, pos};
-ghost use Rattle.texture.specs.Images.{Image, image_bytes, most_side};
+ghost use Rattle.texture.specs.Images.{Image, IsImage, image_bytes, most_side};
 ghost use Rattle.texture.specs.Tables.{AreFirst};
 ghost use Rattle.texture.specs.Pyramid.{square_sum, inside as inside_of, side_at, texel_part, texel};
 
@@ -33,6 +33,13 @@ impl Texture {
     {
         let tables = tables_of(alloc, &image)?;
         Ok(Texture { image, tables })
+    }
+
+    /// Does nothing: a call tells a proof what holds of every image.
+    pub(crate) fn recall(&self)
+        ensures { IsImage self.now }
+    {
+        self.image.recall();
     }
 
     /// The number of columns of samples, from 1 to 2,048.
@@ -93,23 +100,22 @@ impl Texture {
         self.image.most() as u64 * (across as u64 * up as u64)
     }
 
-    /// A channel of the texel of level `l` in column `x` and row `y`.
-    fn part(&self, l: u32, x: u32, y: u32, c: usize) -> Num
+    /// A channel of the texel of level `l` in column `x` and row `y`, whose square has `whole` samples, times the greatest value.
+    fn part(&self, l: u32, x: u32, y: u32, c: usize, whole: u64) -> Num
         requires level { l ≤ 11 }
         requires channel { c < 3 }
-        requires column { x < side_at self.now.width (2 ^ l) }
-        requires row { y < side_at self.now.height (2 ^ l) }
-        requires left { x ≤ 2048 }
-        requires up { y ≤ 2048 }
+        requires column { x ≤ 2048 }
+        requires row { y ≤ 2048 }
+        requires whole { whole ≡ self.now.most * (inside_of self.now.width (2 ^ l) x * inside_of self.now.height (2 ^ l) y) }
+        requires some { 0 < whole }
         ensures { result ≡ pos (texel_part self.now (2 ^ l) x y c) }
     {
         self.image.recall();
-        let whole = self.whole(side_of(l), x, y);
         mean(self.sum(l, c, x, y), whole)
     }
 
     /// The texel of level `l` in column `x` and row `y`.
-    fn texel(&self, l: u32, x: u32, y: u32) -> Vec3
+    pub(crate) fn texel(&self, l: u32, x: u32, y: u32) -> Vec3
         requires level { l ≤ 11 }
         requires column { x < side_at self.now.width (2 ^ l) }
         requires row { y < side_at self.now.height (2 ^ l) }
@@ -117,10 +123,11 @@ impl Texture {
         requires up { y ≤ 2048 }
         ensures { result ≡ texel self.now l x y }
     {
+        let whole = self.whole(side_of(l), x, y);
         Vec3 {
-            x: self.part(l, x, y, 0),
-            y: self.part(l, x, y, 1),
-            z: self.part(l, x, y, 2),
+            x: self.part(l, x, y, 0, whole),
+            y: self.part(l, x, y, 1, whole),
+            z: self.part(l, x, y, 2, whole),
         }
     }
 
@@ -150,20 +157,6 @@ impl Texture {
         ensures most { result ≤ 2048 }
     {
         squares(self.image.height(), side_of(l))
-    }
-
-    /// The texel where the level has one, else black.
-    pub(crate) fn texel_or_black(&self, l: u32, x: u32, y: u32) -> Vec3
-        requires { l ≤ 11 }
-        ensures { x < side_at self.now.width (2 ^ l) → y < side_at self.now.height (2 ^ l) → result ≡ texel self.now l x y }
-    {
-        if x >= self.columns(l) {
-            return Vec3::default();
-        }
-        if y >= self.rows(l) {
-            return Vec3::default();
-        }
-        self.texel(l, x, y)
     }
 }
 
@@ -199,5 +192,5 @@ fn mean(sum: u64, whole: u64) -> Num
     requires small { sum ≤ 2 ^ 40 }
     ensures { result ≡ pos (65536 * sum / whole) }
 {
-    Num::sat((65536 * sum / whole) as i128)
+    Num::from_raw((65536 * sum / whole) as i64)
 }

@@ -1,46 +1,37 @@
-use Rattle.std.proofs.Common.{ap, ◌∙◌, get_or, List}
-use Rattle.texture.specs.Images.{Image}
-use Rattle.texture.specs.Pyramid.{texel}
-use Rattle.texture.specs.Looks.{put_into}
+use Rattle.std.proofs.Common.{◌∙◌, refl, sym, pos, get_or}
 use Rattle.texture.specs.Slots.{no_image}
-use Rattle.texture.proofs.LookSteps.{look_through, slots_through, same_place, next_place}
+use Rattle.texture.proofs.LookSteps.{look_through, slots_through, put_one}
 use Rattle.texture.proofs.cache.Cache.look.Goals as goal
 
-pub returns-clause-value : goal.returns-clause-value
-returns-clause-value c =
-    let w = c.columns-width.result in
-    let h = c.rows-height.result in
-    let ax = c.spot_of-across.result.place in
-    let ay = c.spot_of-up.result.place in
-    let which = c.args.which in
-    let pick : List Image → Image = λ ts. get_or ts which no_image in
-    let t1 = c.texel-a.ensures.textures in
-    let t2 = c.texel-b.ensures.textures ∙ t1 in
-    let t3 = c.texel-c.ensures.textures ∙ t2 in
-    let x = c.put-x.ensures.value ∙ ap (λ z. put_into z w) (same_place ax c.spot_of-across.ensures.bound) in
-    let xx = c.put-xx.ensures.value ∙ ap (λ z. put_into z w) (next_place ax c.spot_of-across.ensures.bound) in
-    let y = c.put-y.ensures.value ∙ ap (λ z. put_into z h) (same_place ay c.spot_of-up.ensures.bound) in
-    let yy = c.put-yy.ensures.value ∙ ap (λ z. put_into z h) (next_place ay c.spot_of-up.ensures.bound) in
-    look_through (pick c.args.self.now.textures) c.args.l c.args.s c.args.t w h ax ay c.spot_of-across.result.rest c.spot_of-up.result.rest
-    c.put-x.result c.put-xx.result c.put-y.result c.put-yy.result c.texel-a.result c.texel-b.result c.texel-c.result c.texel-d.result c.mix_all.result c.mix_all-2.result c.mix_all-3.result
-    c.columns-width.ensures.value c.rows-height.ensures.value c.spot_of-across.ensures.place c.spot_of-across.ensures.rest c.spot_of-up.ensures.place c.spot_of-up.ensures.rest
-    x xx y yy c.texel-a.ensures.value
-    (c.texel-b.ensures.value ∙ ap (λ ts. texel (pick ts) c.args.l c.put-xx.result c.put-y.result) t1)
-    (c.texel-c.ensures.value ∙ ap (λ ts. texel (pick ts) c.args.l c.put-x.result c.put-yy.result) t2)
-    (c.texel-d.ensures.value ∙ ap (λ ts. texel (pick ts) c.args.l c.put-xx.result c.put-yy.result) t3)
-    c.mix_all.ensures c.mix_all-2.ensures c.mix_all-3.ensures
+pub returns-then-is_in_one_tile-clause-value : goal.returns-then-is_in_one_tile-clause-value
+returns-then-is_in_one_tile-clause-value c =
+    let a = c.spot_of in
+    let b = c.spot_of-2 in
+    look_through (get_or c.args.self.now.textures c.args.which no_image) c.args.l c.args.s c.args.t c.columns.result c.rows.result
+    a.result.first a.result.second b.result.first b.result.second (pos a.result.rest) (pos b.result.rest) c.look_in_one.result
+    c.columns.ensures.value c.rows.ensures.value a.ensures.first a.ensures.second b.ensures.first b.ensures.second a.ensures.rest b.ensures.rest c.look_in_one.ensures.value
 
-pub returns-clause-slots : goal.returns-clause-slots
-returns-clause-slots c =
-    let w = c.columns-width.result in
-    let h = c.rows-height.result in
-    let ax = c.spot_of-across.result.place in
-    let ay = c.spot_of-up.result.place in
-    let x = c.put-x.ensures.value ∙ ap (λ z. put_into z w) (same_place ax c.spot_of-across.ensures.bound) in
-    let xx = c.put-xx.ensures.value ∙ ap (λ z. put_into z w) (next_place ax c.spot_of-across.ensures.bound) in
-    let y = c.put-y.ensures.value ∙ ap (λ z. put_into z h) (same_place ay c.spot_of-up.ensures.bound) in
-    let yy = c.put-yy.ensures.value ∙ ap (λ z. put_into z h) (next_place ay c.spot_of-up.ensures.bound) in
-    slots_through c.args.self.now.slots c.texel-a.new.self.slots c.texel-b.new.self.slots c.texel-c.new.self.slots c.texel-d.new.self.slots
-    c.args.which (get_or c.args.self.now.textures c.args.which no_image) c.args.l c.args.s c.args.t w h ax ay c.put-x.result c.put-xx.result c.put-y.result c.put-yy.result
-    c.columns-width.ensures.value c.rows-height.ensures.value c.spot_of-across.ensures.place c.spot_of-up.ensures.place x xx y yy
-    c.texel-a.ensures.slots c.texel-b.ensures.slots c.texel-c.ensures.slots c.texel-d.ensures.slots
+pub returns-then-is_in_one_tile-clause-slots : goal.returns-then-is_in_one_tile-clause-slots
+returns-then-is_in_one_tile-clause-slots c =
+    let a = c.spot_of in
+    let b = c.spot_of-2 in
+    slots_through c.args.self.now.slots c.args.which (get_or c.args.self.now.textures c.args.which no_image) c.args.l c.args.s c.args.t c.columns.result c.rows.result
+    a.result.first a.result.second b.result.first b.result.second c.look_in_one.new.self.slots
+    c.columns.ensures.value c.rows.ensures.value a.ensures.first a.ensures.second b.ensures.first b.ensures.second
+    (c.look_in_one.ensures.slots ∙ sym (put_one c.args.self.now.slots c.args.which c.args.l a.result.first a.result.second b.result.first b.result.second (c.if-is_in_one_tile.ensures refl).columns (c.if-is_in_one_tile.ensures refl).rows))
+
+pub returns-else-is_in_one_tile-clause-value : goal.returns-else-is_in_one_tile-clause-value
+returns-else-is_in_one_tile-clause-value c =
+    let a = c.spot_of in
+    let b = c.spot_of-2 in
+    look_through (get_or c.args.self.now.textures c.args.which no_image) c.args.l c.args.s c.args.t c.columns.result c.rows.result
+    a.result.first a.result.second b.result.first b.result.second (pos a.result.rest) (pos b.result.rest) c.look_in_four.result
+    c.columns.ensures.value c.rows.ensures.value a.ensures.first a.ensures.second b.ensures.first b.ensures.second a.ensures.rest b.ensures.rest c.look_in_four.ensures.value
+
+pub returns-else-is_in_one_tile-clause-slots : goal.returns-else-is_in_one_tile-clause-slots
+returns-else-is_in_one_tile-clause-slots c =
+    let a = c.spot_of in
+    let b = c.spot_of-2 in
+    slots_through c.args.self.now.slots c.args.which (get_or c.args.self.now.textures c.args.which no_image) c.args.l c.args.s c.args.t c.columns.result c.rows.result
+    a.result.first a.result.second b.result.first b.result.second c.look_in_four.new.self.slots
+    c.columns.ensures.value c.rows.ensures.value a.ensures.first a.ensures.second b.ensures.first b.ensures.second c.look_in_four.ensures.slots

@@ -1,22 +1,18 @@
-use Rattle.std.proofs.Common.{◌≡◌, ◌∙◌, ap, sym, subst, ◌*◌, ◌/◌, ◌^◌, ◌≤◌, pos}
+use Rattle.std.proofs.Common.{◌∙◌, ap, sym, subst, ◌*◌, ◌/◌, ◌^◌, ◌≤◌, pos}
 use Rattle.texture.specs.Images.{IsImage}
-use Rattle.texture.specs.Pyramid.{inside, square_sum, texel_part}
+use Rattle.texture.specs.Pyramid.{square_sum, texel_part}
 use Rattle.texture.proofs.Tables.{square_sum-below}
 use Rattle.texture.proofs.texture.Texture.part.Goals as goal
 
 pub mean-requires-clause-part : goal.mean-requires-clause-part
 mean-requires-clause-part c =
     let p = c.args.self.now in
-    let w : c.whole-whole.result ≡ p.most * (inside p.width (2 ^ c.args.l) c.args.x * inside p.height (2 ^ c.args.l) c.args.y) =
-    c.whole-whole.ensures.value ∙ ap (λ m. p.most * (inside p.width m c.args.x * inside p.height m c.args.y)) c.side_of.ensures.value in
     let b = square_sum-below p c.args.c (2 ^ c.args.l) c.args.x c.args.y (subst IsImage c.self.view_is c.recall.ensures) in
-    subst (λ n. n ≤ c.whole-whole.result) (sym c.sum.ensures.value) (subst (λ n. square_sum p c.args.c (2 ^ c.args.l) c.args.x c.args.y ≤ n) (sym w) b)
+    subst (λ n. n ≤ c.args.whole) (sym c.sum.ensures.value) (subst (λ n. square_sum p c.args.c (2 ^ c.args.l) c.args.x c.args.y ≤ n) (sym c.requires.whole) b)
 
 pub returns : goal.returns
 unfolding texel_part
 returns c =
     let p = c.args.self.now in
-    let w : c.whole-whole.result ≡ p.most * (inside p.width (2 ^ c.args.l) c.args.x * inside p.height (2 ^ c.args.l) c.args.y) =
-    c.whole-whole.ensures.value ∙ ap (λ m. p.most * (inside p.width m c.args.x * inside p.height m c.args.y)) c.side_of.ensures.value in
-    c.mean.ensures ∙ ap (λ n. pos (65536 * n / c.whole-whole.result)) c.sum.ensures.value
-    ∙ ap (λ n. pos (65536 * square_sum p c.args.c (2 ^ c.args.l) c.args.x c.args.y / n)) w
+    c.mean.ensures ∙ ap (λ n. pos (65536 * n / c.args.whole)) c.sum.ensures.value
+    ∙ ap (λ n. pos (65536 * square_sum p c.args.c (2 ^ c.args.l) c.args.x c.args.y / n)) c.requires.whole

@@ -1,0 +1,37 @@
+-- Four texels around a place of a level.
+use Rattle.std.specs.Prelude.{ℕ, ◌≤◌, ◌<◌, ◌/◌, ◌^◌, pos, ◌≡◌}
+use Rattle.fixed_math.specs.declared.vec3.Vec3.{Vec3}
+use Rattle.texture.specs.declared.look.Spot.{Spot}
+use Rattle.texture.specs.declared.look.Around.{Around}
+use Rattle.texture.specs.Images.{Image}
+use Rattle.texture.specs.Pyramid.{side_at}
+use Rattle.texture.specs.declared.look.Tile.{Tile}
+use Rattle.texture.specs.Looks.{mixed}
+use Rattle.texture.specs.Slots.{tile_at}
+
+-- both texels of a spot stand in a row of so many, at most 2,048
+pub record IsSpot (side : ℕ) (s : Spot) : Type 0 where
+  pub first : s.first < side
+  pub second : s.second < side
+  pub first_most : s.first < 2048
+  pub second_most : s.second < 2048
+  pub rest : s.rest < 65536
+
+-- all four stand in their level of the image
+pub record IsAround (p : Image) (a : Around) : Type 0 where
+  pub level : a.level ≤ 11
+  pub across : IsSpot (side_at p.width (2 ^ a.level)) a.across
+  pub up : IsSpot (side_at p.height (2 ^ a.level)) a.up
+
+-- one tile has all four
+pub record IsInOneTile (a : Around) : Type 0 where
+  pub columns : a.across.second / 32 ≡ a.across.first / 32
+  pub rows : a.up.second / 32 ≡ a.up.first / 32
+
+-- the tile of the first
+abbrev pub first_tile : Around → Tile
+first_tile a = tile_at a.which a.level a.across.first a.up.first
+
+-- the mix of the four
+abbrev pub mixed_at : Image → Around → Vec3
+mixed_at p a = mixed p a.level a.across.first a.across.second a.up.first a.up.second (pos a.across.rest) (pos a.up.rest)
