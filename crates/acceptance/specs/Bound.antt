@@ -56,10 +56,12 @@ default_spaces space = record { world = identity; object = identity; shader = sp
 unfoldable pub default_in : Tree → Map → ℕ → Value
 default_in tree space k = default_of tree k (default_spaces space)
 
+-- the value of a parameter that is given, else its default
 abbrev pub given_or : SlType → Map → Value → Option Param → Value
 given_or kind space default (Some p) = given_value kind space p.values
 given_or kind space default None = default
 
+-- the parameter with number k of a shader
 abbrev pub param_at : Tree → ℕ → Local
 param_at tree k = get_or tree.params k no_local
 

@@ -12,6 +12,7 @@ pub data Cause : Type 0 where
 abbrev pub Reads : Type 0 → Type 0
 Reads A = Result A Cause
 
+-- why something isn't there, if it isn't
 abbrev pub cause_in : {A : Type 0} → Reads A → Option Cause
 cause_in (Ok x) = None
 cause_in (Err cause) = Some cause
@@ -26,6 +27,7 @@ abbrev pub or_else : {A : Type 0} → Option A → Option A → Option A
 or_else (Some x) others = Some x
 or_else None others = others
 
+-- the first thing in a list that is there
 abbrev pub first_of : {A : Type 0} → List (Option A) → Option A
 first_of [] = None
 first_of (x ∷ xs) = or_else x (first_of xs)

@@ -13,6 +13,7 @@ use Rattle.sl_expressions.specs.declared.faults.TypeCode.TheVariants as types
 use Rattle.acceptance.specs.declared.code.FaultCode.{FaultCode}
 use Rattle.acceptance.specs.declared.code.FaultCode.TheVariants.{L1, L2, L3, L4, S1, S2, S3, S4, S5, N1, N2, N3, N4, N5, N6, N7, P1, P2, P3, T1, T2, T3, T4, T5, T6, T7, T8, T9, T10, T11, B1, B2, B3, G1, G2, G3, G4, G5, M1, M2, M3, M4, M5, M6, M7, M8, M9, M10, M11, M12, X1}
 
+-- the text of a code in notes
 abbrev pub code_text : FaultCode → List ℕ
 code_text L1 = codes "L1"
 code_text L2 = codes "L2"
@@ -120,12 +121,14 @@ status_of_code M11 = 5
 status_of_code M12 = 5
 status_of_code X1 = 3
 
+-- a code of the scene's tokens
 abbrev pub of_lex : LexCode → FaultCode
 of_lex lex.L1 = L1
 of_lex lex.L2 = L2
 of_lex lex.L3 = L3
 of_lex lex.L4 = L4
 
+-- a code of a request
 abbrev pub of_request : RibCode → FaultCode
 of_request rib.S1 = S1
 of_request rib.S2 = S2
@@ -133,6 +136,7 @@ of_request rib.S3 = S3
 of_request rib.S4 = S4
 of_request rib.S5 = S5
 
+-- a code of the graphics state
 abbrev pub of_state : StateCode → FaultCode
 of_state state.N1 = N1
 of_state state.N2 = N2
@@ -154,11 +158,13 @@ of_state state.M5 = M5
 of_state state.M6 = M6
 of_state state.M7 = M7
 
+-- a code of a shader's grammar
 abbrev pub of_syntax : SlCode → FaultCode
 of_syntax grammar.P1 = P1
 of_syntax grammar.P2 = P2
 of_syntax grammar.P3 = P3
 
+-- a code of a shader's types, size and classes
 abbrev pub of_type : TypeCode → FaultCode
 of_type types.T1 = T1
 of_type types.T2 = T2

@@ -41,6 +41,7 @@ pub record Headed : Type 0 where
   pub most : ℕ
   pub raster : List ℕ
 
+-- what a header says, where the bytes begin with one
 abbrev pub header_of : List ℕ → Option Headed
 header_of bytes =
     follow (behind_magic bytes) (λ rest.
@@ -54,6 +55,7 @@ header_of bytes =
 abbrev pub is_whole : Headed → Bool
 is_whole h = nat_lt 0 h.width && (nat_lt 0 h.height && (nat_lt 0 h.most && (nat_le h.most 65535 && nat_le (byte_count h.width h.height h.most) (length h.raster))))
 
+-- the image of a header and the samples after it
 abbrev pub image_of : Headed → Image
 image_of h = image_in h.width h.height h.most (take (byte_count h.width h.height h.most) h.raster)
 
@@ -66,6 +68,7 @@ abbrev pub reading_of : Option Headed → Reading
 reading_of None = NoFile
 reading_of (Some h) = if is_whole h then (if nat_le (most_side (image_of h)) 2048 then Form (image_of h) else TooLarge) else NoFile
 
+-- what a file is by its front: no texture, one with a side past the limit, or one of an image
 abbrev pub reading : List ℕ → Reading
 reading bytes = reading_of (header_of bytes)
 

@@ -60,9 +60,11 @@ prim_refused trees of_use p = if is_unfit_prim trees of_use p then Some (At Scen
 abbrev pub frame_refused : List Tree → List ℕ → FrameValue → Option Cause
 frame_refused trees of_use f = first_of (map (prim_refused trees of_use) f.prims)
 
+-- the first primitive of some frames that is refused
 abbrev pub frames_refused : List Tree → List ℕ → List FrameValue → Option Cause
 frames_refused trees of_use fs = first_of (map (frame_refused trees of_use) fs)
 
+-- the first primitive with a variable that doesn't fit a parameter of its shaders, as B2 at its line
 abbrev pub prims_refused : SetValue → List FrameValue → Option Cause
 prims_refused s fs = frames_refused s.trees s.of_use fs
 

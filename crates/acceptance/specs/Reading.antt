@@ -59,6 +59,7 @@ ReadsShaders files names (Err refusal) = Because refusal (shaders_refused files 
 abbrev pub named_use : ShaderUse → Option (List ℕ)
 named_use u = Some u.name
 
+-- beside each use stands the place of the shader of its name
 abbrev pub ArePlaced : List ShaderUse → UsedShaders → Type 0
 ArePlaced uses shaders = map (slice_get (map name_of shaders.read)) shaders.of_use ≡ map named_use uses
 
@@ -108,5 +109,6 @@ set_in a = record { trees = map tree_read a.shaders.read; of_use = a.shaders.of_
 abbrev pub images_read : UsedTextures → List Image
 images_read t = t.read
 
+-- the scene that the code has read, with its shaders
 abbrev pub accepted_in : AcceptedScene → AcceptedValue
 accepted_in a = record { scene = a.scene; set = set_in a }

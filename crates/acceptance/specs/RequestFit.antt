@@ -37,9 +37,11 @@ abbrev pub type_at : List Local → Option ℕ → Option SlType
 type_at ls None = None
 type_at ls (Some place) = option_map (λ l. l.kind) (slice_get ls place)
 
+-- the type with which a shader declares a parameter, none where it doesn't
 abbrev pub declared_type : List Local → List ℕ → Option SlType
 declared_type ls name = type_at ls (last_place name (map local_name ls))
 
+-- the shader declares no parameter of that name: B1
 abbrev pub is_undeclared : List Local → Param → Bool
 is_undeclared ls p = is_none (declared_type ls p.name)
 
@@ -47,6 +49,7 @@ abbrev pub is_other : Kind → Option SlType → Bool
 is_other kind None = false
 is_other kind (Some declared) = not (is_of_type declared kind)
 
+-- the shader declares it with another type: B2
 abbrev pub is_misfit : List Local → Param → Bool
 is_misfit ls p = is_other p.kind (declared_type ls p.name)
 

@@ -30,6 +30,7 @@ abbrev pub names_in : Reads Tree → ShaderUse → List (List ℕ)
 names_in (Ok tree) u = names_with tree (bound_values tree u)
 names_in (Err cause) u = []
 
+-- what the look-ups of each use name
 abbrev pub names_of_uses : Files → List ShaderUse → List (List (List ℕ))
 names_of_uses files uses = map (λ u. names_in (shader_tree files u.name) u) uses
 
@@ -48,5 +49,6 @@ set_of files uses images = record {
   textures = images;
 }
 
+-- a scene with the shaders of its uses over the files held, and with these images
 abbrev pub accepted_with : Files → SceneValue → List Image → AcceptedValue
 accepted_with files scene images = record { scene = scene; set = set_of files scene.uses images }

@@ -33,6 +33,7 @@ abbrev pub text_with : Option (List ℕ) → List ℕ → Option (List ℕ)
 text_with (Some bytes) name = Some bytes
 text_with None name = stock_text name
 
+-- the text of a shader: that of its file, else the stock's
 abbrev pub shader_text : Files → List ℕ → Option (List ℕ)
 shader_text files name = text_with (held_as files (file_of name)) name
 
@@ -40,6 +41,7 @@ shader_text files name = text_with (held_as files (file_of name)) name
 abbrev pub most_rows : ℕ
 most_rows = 4096
 
+-- a tree whose rows of registers are few enough, else M9
 abbrev pub tree_in_rows : List ℕ → Tree → Reads Tree
 tree_in_rows name tree = if nat_lt most_rows (rows_of tree) then Err (At (Shader name) tree.place.line M9) else Ok tree
 
@@ -53,17 +55,21 @@ abbrev pub tree_of_checked : List ℕ → Found Tree → Reads Tree
 tree_of_checked name (Ok tree) = tree_in_rows name tree
 tree_of_checked name (Err (code, line)) = Err (At (Shader name) line (of_type code))
 
+-- the typed tree of a tree that was parsed, or the first fault
 abbrev pub tree_of_parsed : List ℕ → Result syntax.Shader (SlCode × ℕ) → Reads Tree
 tree_of_parsed name (Ok shader) = tree_of_checked name (checked shader)
 tree_of_parsed name (Err (code, line)) = Err (At (Shader name) line (of_syntax code))
 
+-- the typed tree of a shader's text, which may not be too long
 abbrev pub tree_of_bytes : List ℕ → List ℕ → Reads Tree
 tree_of_bytes name bytes = if nat_lt most_shader_bytes (length bytes) then Err (At (Shader name) 1 M10) else tree_of_parsed name (parsed bytes)
 
+-- the typed tree of the text that was found, or that there is none
 abbrev pub tree_of_text : List ℕ → Option (List ℕ) → Reads Tree
 tree_of_text name None = Err (Missing (file_of name))
 tree_of_text name (Some bytes) = tree_of_bytes name bytes
 
+-- the typed tree of a shader by its name, or its first fault
 unfoldable pub shader_tree : Files → List ℕ → Reads Tree
 shader_tree files name = tree_of_text name (shader_text files name)
 
@@ -80,6 +86,7 @@ distinct (name ∷ names) = name ∷ without name (distinct names)
 abbrev pub use_name : ShaderUse → List ℕ
 use_name u = u.name
 
+-- the names of a scene's shaders, each once, by first use
 abbrev pub shader_names : List ShaderUse → List (List ℕ)
 shader_names uses = distinct (map use_name uses)
 
@@ -92,6 +99,7 @@ abbrev pub asked_behind : Reads Tree → List (List ℕ) → List (List ℕ)
 asked_behind (Ok tree) others = others
 asked_behind (Err cause) others = []
 
+-- the files that are asked for shaders, up to the first that is refused
 abbrev pub shaders_asked : Files → List (List ℕ) → List (List ℕ)
 shaders_asked files [] = []
 shaders_asked files (name ∷ names) = file_of name ∷ asked_behind (shader_tree files name) (shaders_asked files names)

@@ -26,6 +26,7 @@ text_of (Triple x) = []
 abbrev pub text_at : List Value → ℕ → List ℕ
 text_at vs k = text_of (get_or vs k (Word []))
 
+-- what an operand names: the text that is written out, or the value of the parameter
 abbrev pub name_with : List Value → Expr → List ℕ
 name_with vs (word text p) = text
 name_with vs (variable (Level k) kind p) = text_at vs k
@@ -44,6 +45,7 @@ some_name (c ∷ cs) = Some (c ∷ cs)
 abbrev pub names_with : Tree → List Value → List (List ℕ)
 names_with t vs = map (λ n. name_with vs n.name) (texture_nodes t)
 
+-- the empty name stands for no texture
 abbrev pub is_some_name : List ℕ → Bool
 is_some_name [] = false
 is_some_name (c ∷ cs) = true
@@ -74,9 +76,11 @@ texture_names names = distinct (filter is_some_name (joined names))
 abbrev pub most_texture_bytes : ℕ
 most_texture_bytes = 16777216
 
+-- as many textures as a scene may have
 abbrev pub most_textures : ℕ
 most_textures = 64
 
+-- as many bytes as the samples of all textures may have
 abbrev pub most_samples : ℕ
 most_samples = 268435456
 
@@ -86,6 +90,7 @@ image_of_reading name NoFile = Err (At (Texture name) 1 X1)
 image_of_reading name TooLarge = Err (At (Texture name) 1 M11)
 image_of_reading name (Form image) = Ok image
 
+-- the image of the bytes held under a name, or why it is refused
 abbrev pub image_of_held : List ℕ → Option (List ℕ) → Reads Image
 image_of_held name None = Err (Missing name)
 image_of_held name (Some bytes) = if nat_lt most_texture_bytes (length bytes) then Err (At (Texture name) 1 M10) else image_of_reading name (reading bytes)
@@ -114,6 +119,7 @@ abbrev pub images_from : Files → List Image → List (List ℕ) → Reads (Lis
 images_from files ps [] = Ok ps
 images_from files ps (name ∷ names) = images_behind (image_behind files ps name) (λ qs. images_from files qs names)
 
+-- the images of textures by their names, or the first refusal
 abbrev pub images_of : Files → List (List ℕ) → Reads (List Image)
 images_of files names = images_from files [] names
 
@@ -126,6 +132,7 @@ abbrev pub textures_from : Files → List Image → List (List ℕ) → List (Li
 textures_from files ps [] = []
 textures_from files ps (name ∷ names) = name ∷ asked_behind (image_behind files ps name) (λ qs. textures_from files qs names)
 
+-- the names asked for, up to and with the first that is refused
 abbrev pub textures_asked : Files → List (List ℕ) → List (List ℕ)
 textures_asked files names = textures_from files [] names
 
@@ -135,5 +142,6 @@ abbrev pub entry_in : List (List ℕ) → List ℕ → Option ℕ
 entry_in all [] = None
 entry_in all (c ∷ cs) = Some (place_in all (c ∷ cs))
 
+-- for each look-up of each use the place of its texture among all names
 abbrev pub entries_in : List (List ℕ) → List (List (List ℕ)) → List (List (Option ℕ))
 entries_in all names = map (λ ns. map (entry_in all) ns) names

@@ -4,6 +4,7 @@
 mod accepted_scene;
 mod accepting;
 mod code;
+mod laws;
 mod read;
 mod refusal;
 mod request_fit;
@@ -16,6 +17,7 @@ mod variables;
 pub use accepted_scene::AcceptedScene;
 pub use accepting::accept;
 pub use code::{FaultCode, of_lex, of_request, of_state, of_syntax, of_type};
+pub use laws::image_files_law;
 pub use read::ReadShader;
 pub use refusal::{FileId, Refusal, in_scene, in_shader, in_texture};
 pub use request_fit::{bind, declared_names, is_of_type};

@@ -19,6 +19,7 @@ use Rattle.bound_split.specs.Leaves.{leaves}
 abbrev pub lowered : ℤ → Vec3 → Vec3
 lowered bound p = by_axes (λ a. part_of a p -ℤ bound)
 
+-- a point with each coordinate greater by the bound
 abbrev pub raised : ℤ → Vec3 → Vec3
 raised bound p = by_axes (λ a. part_of a p +ℤ bound)
 
@@ -45,6 +46,7 @@ extent_of v bound b = let w = widened bound b in record { nearest = w.low.z; rea
 abbrev pub overlaps : ℤ → ℤ → ℕ → ℕ → Bool
 overlaps first last from to = int_lt first (pos (256 * to)) && int_le (pos (256 * from)) last
 
+-- an extent meets a rectangle of pixels
 abbrev pub reaches : Reach → PixelRect → Bool
 reaches Nowhere r = false
 reaches Everywhere r = true

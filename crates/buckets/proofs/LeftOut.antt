@@ -8,6 +8,7 @@ use Rattle.std.proofs.lemmas.List.Elements.{filter_map-append}
 use Rattle.std.proofs.lemmas.List.Sums.{fold-append}
 use Rattle.fixed_math.specs.Spots.{PixelRect, pixel_count}
 use Rattle.patches.specs.Lists.{Each}
+use Rattle.patches.specs.ListLaws.{Each-weaken}
 use Rattle.patches.specs.Parts.{Part, IsPart}
 use Rattle.transforms.specs.declared.view.View.{View}
 use Rattle.bound_split.proofs.Meetings.{by_bool}
@@ -15,6 +16,7 @@ use Rattle.scene.specs.Scene.{PrimValue, FrameValue}
 use Rattle.shader_binding.specs.Sets.{AcceptedValue}
 use Rattle.hider.specs.declared.fragment.Fragment.{Fragment}
 use Rattle.hider.specs.declared.sample.Sample.{Sample}
+use Rattle.hider.specs.declared.sample_grid.SampleGrid.{SampleGrid}
 use Rattle.hider.specs.Cells.{Micropolygon}
 use Rattle.hider.specs.Composite.{is_opaque, cut}
 use Rattle.hider.specs.Fragments.{fragment_of, covering, put_in, put_all, by_depth, fragments, IsSortedFrom, IsSorted}
@@ -27,6 +29,7 @@ use Rattle.buckets.specs.Culled.{leaf_meets, leaf_nearest, IsShadedPrim}
 use Rattle.buckets.specs.Pictures.{leaf_micropolygons}
 use Rattle.buckets.specs.Sampled.{ShowsMore}
 use Rattle.buckets.proofs.Culling.{left_out, no_nearer}
+use Rattle.buckets.proofs.PassedOver.{blocks_behind}
 
 -- what shows of further micropolygons goes behind what shows
 pub further : (v : View) (ms ns : List Micropolygon) (s : Sample) → fragments v (ms ++ ns) s ≡ put_all (fragments v ms s) (covering v ns s)
@@ -91,6 +94,15 @@ passed_over_same a f prim part z s ms is part_is time far opaque =
     ap cut (further f.camera ms leaf s)
     ∙ all_behind z (covering f.camera leaf s) (fragments f.camera ms s) (by_depth_order (covering f.camera ms s)).sorted opaque
     (no_less z (leaf_nearest f prim part) (covering f.camera leaf s) far (no_nearer a f prim part s is part_is time))
+
+-- so all of it lies behind an opaque fragment where one lies before its least depth
+pub lies_behind : (a : AcceptedValue) (f : FrameValue) (prim : PrimValue) (part : Part) (g : SampleGrid) (shown : Sample → List Fragment) (n : ℕ) → IsShadedPrim a f prim → IsPart part → BlocksAll (leaf_nearest f prim part) g shown
+    → n < sample_count g → Each (λ k. blocks k.depth (shown (sample_of g n)) ≡ true) (covering f.camera (leaf_micropolygons a f prim part) (sample_of g n))
+lies_behind a f prim part g shown n is part_is opaque lt =
+    let s = sample_of g n in
+    Each-weaken (λ k. leaf_nearest f prim part ≤ℤ k.depth) (λ k. blocks k.depth (shown s) ≡ true) (covering f.camera (leaf_micropolygons a f prim part) s)
+    (λ k far. blocks_behind (shown s) (leaf_nearest f prim part) k.depth far (opaque n lt))
+    (no_nearer a f prim part s is part_is (sample_time g.xs g.ys (rect_of g) n))
 
 -- ---- what a tile shows as well
 -- micropolygons that change nothing of what can show at the samples of a tile

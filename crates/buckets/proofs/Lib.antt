@@ -3,6 +3,7 @@ pub mod LeafParts
 pub mod ShadedPlaces
 pub mod Culling
 pub mod LeftOut
+pub mod TileSamples
 pub mod PassedOver
 pub mod Behind
 pub mod HiddenGrids

@@ -40,6 +40,7 @@ part_with t part = part_of t (numbers_in (Nth (slice_index_or part 0 0) (slice_i
 abbrev pub frame_table : AcceptedValue → FrameValue → ℕ → ℕ → Table
 frame_table a f side tag = table_with f.options (pixel (film_of a f)) side tag
 
+-- the text of a part of a frame's picture, by the numbers of its buckets
 unfoldable pub part_bytes : AcceptedValue → FrameValue → ℕ → ℕ → List ℕ → List ℕ
 part_bytes a f side tag part = part_text (part_with (frame_table a f side tag) part)
 
@@ -60,6 +61,7 @@ pub record IsTableOf (t : Table) (a : AcceptedValue) (f : FrameValue) : Type 0 w
   pub table : IsTable t
   pub picture : table_picture t ≡ picture_bytes a f
 
+-- a law: the picture that a frame's table makes is the frame's
 abbrev pub TablesMakePictures : Type 0
 TablesMakePictures = (a : AcceptedValue) (f : FrameValue) (side tag : ℕ) → IsFormat (format_in f) → AreOptions f.options → 4 ≤ side → side ≤ 64 → tag < 2 ^ 32 → IsTableOf (frame_table a f side tag) a f
 

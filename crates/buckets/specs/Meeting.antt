@@ -5,6 +5,7 @@ use Rattle.grid_epoch.specs.Kept.{AreDistinct}
 use Rattle.buckets.specs.Pictures.{FrameLeaf, frame_leaves}
 use Rattle.buckets.specs.TileWalk.{Drawing, Counts, draws, meets_tile, tile_count, leaf_points}
 
+-- the leaves that meet tile n
 abbrev pub meeting : Drawing → ℕ → List FrameLeaf
 meeting d n = filter (meets_tile d n) (frame_leaves d.frame)
 
@@ -13,9 +14,11 @@ abbrev pub meetings : Drawing → ℕ → ℕ → ℕ
 meetings d zero n = 0
 meetings d (suc k) n = cond (draws d n) (length (meeting d n)) 0 + meetings d k (n + 1)
 
+-- a leaf meets some tile that is drawn
 abbrev pub meets_some : Drawing → FrameLeaf → Bool
 meets_some d x = list_any (λ n. meets_tile d n x) (range_with_len 0 (tile_count d))
 
+-- the leaves that meet some tile
 abbrev pub meeting_some : Drawing → List FrameLeaf
 meeting_some d = filter (meets_some d) (frame_leaves d.frame)
 

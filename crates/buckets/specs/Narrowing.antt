@@ -24,6 +24,7 @@ Misses f r k = (prim : PrimValue) → slice_get f.prims k ≡ Some prim → (pos
 abbrev pub IsWholeExtent : FrameValue → ℕ → Extent → Type 0
 IsWholeExtent f k e = (prim : PrimValue) → slice_get f.prims k ≡ Some prim → (pos 0 ≤ℤ prim.bound) × (e ≡ extent_of f.camera prim.bound (prim_box prim (rect_of (whole_of k))))
 
+-- where each whole primitive of a frame can show
 pub record AreExtents (f : FrameValue) (extents : List Extent) : Type 0 where
   pub each : (k : ℕ) (d : Extent) → k < length extents → IsWholeExtent f k (slice_index_or extents k d)
 

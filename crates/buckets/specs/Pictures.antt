@@ -55,6 +55,7 @@ abbrev pub box_by : Option AnyPatch → AnyPatch → Rect → Box
 box_by None patch r = patch_box patch r
 box_by (Some closing) patch r = moving_box patch_box patch closing r
 
+-- the box of a primitive over a rectangle of parameters, which holds where it is when the shutter opens and closes
 abbrev pub prim_box : PrimValue → Rect → Box
 prim_box prim r = box_by prim.closing prim.patch r
 
@@ -74,6 +75,7 @@ prim_leaves f n prim = map (leaf_in prim) (leaves (decide f.camera prim) (whole_
 abbrev pub leaves_from : FrameValue → ℕ → List PrimValue → List FrameLeaf
 leaves_from f n prims = flat_map (λ np. prim_leaves f np.0 np.1) (enumerate_from n prims)
 
+-- the leaves of all primitives of a frame, in the order of the scene
 abbrev pub frame_leaves : FrameValue → List FrameLeaf
 frame_leaves f = leaves_from f 0 f.prims
 
@@ -81,6 +83,7 @@ frame_leaves f = leaves_from f 0 f.prims
 abbrev pub micropolygons_of : AcceptedValue → FrameValue → List FrameLeaf → List Micropolygon
 micropolygons_of a f xs = flat_map (λ x. leaf_micropolygons a f x.prim x.part) xs
 
+-- all micropolygons of a frame, in the order of the scene
 unfoldable pub micropolygons : AcceptedValue → FrameValue → List Micropolygon
 micropolygons a f = micropolygons_of a f (frame_leaves f)
 
@@ -97,6 +100,7 @@ film_of a f = record {
 abbrev pub header_of : FrameValue → List ℕ
 header_of f = header ((crop_of f.options).right - (crop_of f.options).left) ((crop_of f.options).bottom - (crop_of f.options).top) f.options
 
+-- the bytes of a frame's picture
 unfoldable pub picture_bytes : AcceptedValue → FrameValue → List ℕ
 picture_bytes a f = picture (film_of a f)
 

@@ -39,6 +39,7 @@ next_of b r = record { begun = b; epochs = r.epochs + 1; most_points = r.most_po
 abbrev pub share_of : SceneValue → SetValue → FrameValue → Limits → Share → Drawing
 share_of scene set f limits share = record { accepted = record { scene = scene; set = set }; frame = f; side = limits.bucket; limit = limits.grid_points; share = share }
 
+-- the drawing of a whole frame
 abbrev pub drawing_of : SceneValue → SetValue → FrameValue → Limits → Drawing
 drawing_of scene set f limits = share_of scene set f limits Whole
 

@@ -44,6 +44,7 @@ PutsRowsInPart b written = PutsFront (bytes_above b.drawing (picture_rect b.draw
 unfoldable pub bucket_bytes : Drawing → ℕ → List ℕ
 bucket_bytes d n = word n ++ band d.frame.options.one (pixels (film d) (bucket_of d n))
 
+-- the bytes of the buckets of a share before number n
 unfoldable pub bytes_below : Drawing → ℕ → List ℕ
 bytes_below d n = flat_map (bucket_bytes d) (numbers_in d.share n)
 

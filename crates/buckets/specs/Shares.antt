@@ -9,6 +9,7 @@ abbrev pub is_in : Share → ℕ → Bool
 is_in Whole number = true
 is_in (Nth part parts) number = number % parts == part
 
+-- a share of all buckets, or of a part whose number is below the count of parts
 abbrev pub IsShare : Share → Type 0
 IsShare Whole = Unit {0}
 IsShare (Nth part parts) = (part < parts) × (parts < 2 ^ 32)
@@ -18,6 +19,7 @@ abbrev pub first_in : Share → ℕ
 first_in Whole = 0
 first_in (Nth part parts) = part
 
+-- how far apart the numbers of a share lie
 abbrev pub step_in : Share → ℕ
 step_in Whole = 1
 step_in (Nth part parts) = parts

@@ -22,6 +22,7 @@ abbrev pub IsKnown : FrameValue → Option Known → Type 0
 IsKnown f None = Unit {0}
 IsKnown f (Some k) = (prim : PrimValue) → slice_get f.prims k.number ≡ Some prim → IsSight f prim k.piece k.sight
 
+-- what is kept of pieces is true of them
 pub record AreKnown (f : FrameValue) (known : List (Option Known)) : Type 0 where
   pub room : length known ≡ 16384
   pub each : All (IsKnown f) known

@@ -75,6 +75,7 @@ abbrev pub coming_from : FrameValue → ℕ → List PrimValue → List Part →
 coming_from f n [] stack = []
 coming_from f n (p ∷ ps) stack = map (leaf_in p) (pending (decide f.camera p) stack) ++ leaves_from f (n + 1) ps
 
+-- the leaves that are to come: those of a stack's pieces, then those of the primitives after it
 unfoldable pub to_come : FrameValue → ℕ → List Part → List FrameLeaf
 to_come f n stack = coming_from f n (drop n f.prims) stack
 

@@ -41,6 +41,7 @@ format_in f = record { width = f.camera.width; height = f.camera.height; options
 abbrev pub picture_rect : FrameValue → PixelRect
 picture_rect f = crop_of f.options
 
+-- the pixels of bucket n
 abbrev pub bucket_of : Drawing → ℕ → PixelRect
 bucket_of d n = bucket d.side (picture_rect d.frame) n
 
@@ -52,9 +53,11 @@ tile_count d = bucket_count d.side (picture_rect d.frame)
 abbrev pub draws : Drawing → ℕ → Bool
 draws d n = is_in d.share n
 
+-- the pixels of tile n: those with a sample that may count for a pixel of its bucket
 abbrev pub tile_rect : Drawing → ℕ → PixelRect
 tile_rect d n = seen_from (format_in d.frame) (bucket_of d n)
 
+-- the samples of tile n
 unfoldable pub tile_grid : Drawing → ℕ → SampleGrid
 tile_grid d n = grid_over (tile_rect d n) d.frame.options
 
@@ -63,6 +66,7 @@ tile_grid d n = grid_over (tile_rect d n) d.frame.options
 unfoldable pub meets_in : FrameValue → PixelRect → FrameLeaf → Bool
 meets_in f r x = leaf_meets f x.prim r x.part
 
+-- whether a leaf can show in tile n
 abbrev pub meets_tile : Drawing → ℕ → FrameLeaf → Bool
 meets_tile d n x = meets_in d.frame (rect_of_grid (tile_grid d n)) x
 
@@ -108,6 +112,7 @@ in_new_epoch c = record { kept = []; points = 0; shadings = c.shadings; epochs =
 abbrev pub with_shaded : Part → ℕ → Counts → Counts
 with_shaded part n c = record { kept = c.kept ++ part ∷ []; points = c.points + n; shadings = c.shadings + 1; epochs = c.epochs; most = c.most }
 
+-- whether so many points more can be kept
 abbrev pub has_room : ℕ → ℕ → Counts → Bool
 has_room limit n c = nat_le (c.points + n) limit
 
@@ -121,6 +126,7 @@ points_by SplitU = 0
 points_by SplitV = 0
 points_by (Dice p q) = line_count p * line_count q
 
+-- how many points the grid of a leaf has
 unfoldable pub leaf_points : Drawing → FrameLeaf → ℕ
 leaf_points d x = points_by (decide d.frame.camera x.prim x.part)
 
@@ -138,6 +144,7 @@ unfoldable pub past_leaf : Drawing → ℕ → Walked → FrameLeaf → Walked
 past_leaf d n w x =
     cond (is_shown d n w.shown x) (walked (w.shown ++ x ∷ []) (with_needed d.limit x.part (leaf_points d x) w.counts)) w
 
+-- the walk after these leaves
 abbrev pub past_leaves : Drawing → ℕ → Walked → List FrameLeaf → Walked
 past_leaves d n w [] = w
 past_leaves d n w (x ∷ xs) = past_leaves d n (past_leaf d n w x) xs
@@ -146,6 +153,7 @@ past_leaves d n w (x ∷ xs) = past_leaves d n (past_leaf d n w x) xs
 unfoldable pub past_tile : Drawing → ℕ → Counts → Counts
 past_tile d n c = (past_leaves d n (walked [] c) (frame_leaves d.frame)).counts
 
+-- the counts after so many tiles
 abbrev pub past_tiles : Drawing → ℕ → ℕ → Counts → Counts
 past_tiles d zero n c = c
 past_tiles d (suc k) n c = past_tiles d k (n + 1) (cond (draws d n) (past_tile d n c) c)

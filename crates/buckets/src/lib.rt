@@ -22,5 +22,6 @@ pub use frame_part::render_part;
 pub use limits::{DrawFault, Limits, Report};
 pub use moving_cells::MovingCells;
 pub use walk_laws::{
-    frame_table_law, nothing_lost_law, one_epoch_law, passed_over_law, shadings_law,
+    behind_law, frame_table_law, nothing_lost_law, one_epoch_law, passed_over_law, shadings_law,
+    tile_samples_law, unmet_law,
 };

@@ -1,6 +1,6 @@
 // Laws of the walk through a frame's tiles, and of a frame's parts, as contracts.
 ghost use Rattle.buckets.specs.FrameParts.{TablesMakePictures};
-ghost use Rattle.buckets.specs.TileLaws.{ShadesWhereMet, ShadesOnce, LosesNothing, PassesOverWhole};
+ghost use Rattle.buckets.specs.TileLaws.{ShadesWhereMet, ShadesOnce, CoversNothingUnmet, LiesBehindOpaque, TilesAreSmall, LosesNothing, PassesOverWhole};
 
 /// The law of shadings: no leaf is shaded for a tile that it doesn't meet, and for each that it meets at most once.
 pub fn shadings_law()
@@ -11,6 +11,22 @@ pub fn shadings_law()
 /// epoch, and each leaf is shaded at most once.
 pub fn one_epoch_law()
     ensures { ShadesOnce }
+{}
+
+/// The law of leaves that a tile leaves out: what doesn't meet it covers none of its samples, displacement and motion included.
+pub fn unmet_law()
+    ensures { CoversNothingUnmet }
+{}
+
+/// The law of leaves that a tile passes over: where an opaque fragment lies nearer at each sample than a leaf's least depth less its
+/// bound, all that shows of the leaf lies strictly behind an opaque fragment.
+pub fn behind_law()
+    ensures { LiesBehindOpaque }
+{}
+
+/// The law of a tile's samples: they are at most those of a bucket and of the pixels that the filter reaches about it.
+pub fn tile_samples_law()
+    ensures { TilesAreSmall }
 {}
 
 /// The law of what is left out: the leaves that a tile shows give each of its samples the colour that all leaves give it.

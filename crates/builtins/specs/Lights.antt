@@ -42,6 +42,7 @@ shown cone (lit l cl) = kept cone (negated l, cl)
 abbrev pub seen : List Value → List Light → List (Vec3 × Vec3)
 seen cone ls = filter_map (shown cone) ls
 
+-- a colour times a number
 abbrev pub scaled_by : ℤ → Vec3 → Vec3
 scaled_by k c = each (λ x. mul x k) c
 
@@ -56,6 +57,7 @@ ambients (lit l cl ∷ rest) = ambients rest
 abbrev pub total : List Vec3 → Vec3
 total cs = fold (λ c d. each_two add c d) origin cs
 
+-- what a light adds to `diffuse`: its colour times the cosine, where that is above 0
 abbrev pub diffused : Vec3 → Vec3 × Vec3 → Vec3
 diffused n light = scaled_by (max (pos 0) (facing light.0 n)) light.1
 
@@ -63,12 +65,15 @@ diffused n light = scaled_by (max (pos 0) (facing light.0 n)) light.1
 abbrev pub highlight : Vec3 → Vec3 → ℤ → Vec3 → ℤ
 highlight n v r l = pow (max (pos 0) (facing n (each_two add (normalize l) v))) (div (pos 65536) r)
 
+-- what a light adds to `specular`
 abbrev pub thrown : Vec3 → Vec3 → ℤ → Vec3 × Vec3 → Vec3
 thrown n v r light = scaled_by (highlight n v r light.0) light.1
 
+-- the light lies on the side to which the normal points, or on its plane
 abbrev pub is_before : Vec3 → Vec3 × Vec3 → Bool
 is_before n light = int_le (pos 0) (facing light.0 n)
 
+-- the sum over the lights before the surface
 abbrev pub specular : Vec3 → Vec3 → ℤ → List (Vec3 × Vec3) → Vec3
 specular n v r lights = total (map (thrown n v r) (filter (is_before n) lights))
 

@@ -23,9 +23,11 @@ rest x = int_rem_euclid x (pos 65536)
 unfoldable pub along_x : ℤ → ℤ → ℤ → ℤ → ℤ
 along_x w x y z = mix (lattice x y z) (lattice (x +ℤ pos 1) y z) w
 
+-- the blend along x and y of four points
 unfoldable pub along_y : ℤ → ℤ → ℤ → ℤ → ℤ → ℤ
 along_y u v x y z = mix (along_x u x y z) (along_x u x (y +ℤ pos 1) z) v
 
+-- the blend along x, y and z of eight points
 unfoldable pub along_z : ℤ → ℤ → ℤ → ℤ → ℤ → ℤ → ℤ
 along_z u v w x y z = mix (along_y u v x y z) (along_y u v x y (z +ℤ pos 1)) w
 

@@ -7,6 +7,7 @@ use Rattle.fixed_math.specs.Fixed.{sat, add, sub, mul, div, sqrt}
 use Rattle.fixed_math.specs.Sine.{sin, cos}
 use Rattle.fixed_math.specs.Power.{log2}
 
+-- the magnitude
 abbrev pub abs : ℤ → ℤ
 abs x = pos (unsigned_abs x)
 
@@ -32,9 +33,11 @@ ceil x = neg_ℤ (floor (neg_ℤ x))
 unfoldable pub round : ℤ → ℤ
 round x = ones (floor_by (x +ℤ pos 32768) 65536)
 
+-- sine over cosine
 unfoldable pub tan : ℤ → ℤ
 tan x = div (sin x) (cos x)
 
+-- 1 over the root
 unfoldable pub inversesqrt : ℤ → ℤ
 inversesqrt x = div (pos 65536) (sqrt x)
 
@@ -42,15 +45,19 @@ inversesqrt x = div (pos 65536) (sqrt x)
 unfoldable pub log : ℤ → ℤ
 log x = mul (log2 x) (pos 45426)
 
+-- a number of degrees in radians: 205887 / 11796480 is pi / 180
 unfoldable pub radians : ℤ → ℤ
 radians x = floor_by (x *ℤ pos 205887) 11796480
 
+-- a number of radians in degrees
 unfoldable pub degrees : ℤ → ℤ
 degrees x = sat (floor_by (x *ℤ pos 11796480) 205887)
 
+-- the lesser of two
 abbrev pub min : ℤ → ℤ → ℤ
 min a b = cond (int_lt b a) b a
 
+-- the greater of two
 abbrev pub max : ℤ → ℤ → ℤ
 max a b = cond (int_lt a b) b a
 
@@ -66,6 +73,7 @@ modulo a b = sub a (mul b (floor (div a b)))
 unfoldable pub mix : ℤ → ℤ → ℤ → ℤ
 mix a b t = add (mul a (sub (pos 65536) t)) (mul b t)
 
+-- 0 below the edge a, else 1
 abbrev pub step : ℤ → ℤ → ℤ
 step a x = cond (int_lt x a) (pos 0) (pos 65536)
 

@@ -40,12 +40,14 @@ from_space kind sp spaces.World p = image kind sp.world p
 from_space kind sp spaces.Object p = image kind sp.object p
 from_space kind sp spaces.Shader p = image kind sp.shader p
 
+-- a point, vector or normal from camera space into a named one
 abbrev pub into_space : SlType → Spaces → SpaceName → Vec3 → Vec3
 into_space kind sp spaces.Current p = p
 into_space kind sp spaces.World p = image kind (inverse_of sp.world) p
 into_space kind sp spaces.Object p = image kind (inverse_of sp.object) p
 into_space kind sp spaces.Shader p = image kind (inverse_of sp.shader) p
 
+-- the same from one named space into another
 abbrev pub through : SlType → Spaces → SpaceName → SpaceName → Value → Value
 through kind sp from into v = Triple (into_space kind sp into (from_space kind sp from (triple_of v)))
 
@@ -59,15 +61,19 @@ placed kind sp from v = Triple (from_space kind sp from (triple_of v))
 abbrev pub on_number : (ℤ → ℤ) → Value → Value
 on_number f v = Number (f (number_of v))
 
+-- a formula of two numbers on values
 abbrev pub on_numbers : (ℤ → ℤ → ℤ) → Value → Value → Value
 on_numbers f v w = Number (f (number_of v) (number_of w))
 
+-- a formula of a triple on a value
 abbrev pub on_triple : (Vec3 → ℤ) → Value → Value
 on_triple f v = Number (f (triple_of v))
 
+-- a formula of two triples on values
 abbrev pub on_triples : (Vec3 → Vec3 → ℤ) → Value → Value → Value
 on_triples f v w = Number (f (triple_of v) (triple_of w))
 
+-- a comparison of two numbers on values
 abbrev pub compare : (ℤ → ℤ → Bool) → Value → Value → Value
 compare f v w = truth (f (number_of v) (number_of w))
 
@@ -84,6 +90,7 @@ pub data Formula : Type 0 where
   one_or_two : (Value → Value) → (Value → Value → Value) → Formula
   two_or_three : (Value → Value → Value) → (Value → Value → Value → Value) → Formula
 
+-- the formula of each operation
 abbrev pub formula_of : ValueOperation → Formula
 formula_of ops.Negate = one (λ sp v. by_part neg_ℤ v)
 formula_of ops.Not = one (λ sp v. truth (not (is_true v)))
@@ -163,12 +170,15 @@ taking_three (one f) sp u v w = u
 taking_three (two f) sp u v w = u
 taking_three (one_or_two f g) sp u v w = u
 
+-- an operation on one operand
 unfoldable pub of_one : ValueOperation → Spaces → Value → Value
 of_one op sp v = taking_one (formula_of op) sp v
 
+-- an operation on two operands
 unfoldable pub of_two : ValueOperation → Value → Value → Value
 of_two op v w = taking_two (formula_of op) v w
 
+-- an operation on three operands
 unfoldable pub of_three : ValueOperation → Spaces → Value → Value → Value → Value
 of_three op sp u v w = taking_three (formula_of op) sp u v w
 

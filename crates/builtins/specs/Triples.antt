@@ -11,12 +11,15 @@ use Rattle.fixed_math.specs.declared.vec3.Vec3.{Vec3}
 abbrev pub each : (ℤ → ℤ) → Vec3 → Vec3
 each f a = by_axes (λ i. f (part_of i a))
 
+-- a formula of two numbers on each part of two triples
 abbrev pub each_two : (ℤ → ℤ → ℤ) → Vec3 → Vec3 → Vec3
 each_two f a b = by_axes (λ i. f (part_of i a) (part_of i b))
 
+-- the sum of the products of parts, each product and sum rounded and put into range
 unfoldable pub dot : Vec3 → Vec3 → ℤ
 dot a b = add (add (mul a.x b.x) (mul a.y b.y)) (mul a.z b.z)
 
+-- the cross product, each part a difference of two products
 unfoldable pub cross : Vec3 → Vec3 → Vec3
 cross a b = record {
   x = sub (mul a.y b.z) (mul a.z b.y);
@@ -28,6 +31,7 @@ cross a b = record {
 unfoldable pub length : Vec3 → ℤ
 length v = sat (pos (isqrt (square v.x + square v.y + square v.z)))
 
+-- the length of the difference
 unfoldable pub distance : Vec3 → Vec3 → ℤ
 distance a b = length (each_two sub a b)
 
@@ -39,6 +43,7 @@ normalize v = each (λ c. unit_part c v.x v.y v.z) v
 unfoldable pub reflect : Vec3 → Vec3 → Vec3
 reflect i n = each_two sub i (each (mul (mul (pos 131072) (dot i n))) n)
 
+-- each part negated
 abbrev pub negated : Vec3 → Vec3
 negated v = each neg_ℤ v
 

@@ -1,9 +1,11 @@
-//! Tests of what only a call shows: numbers, rows of them and texts, the memory forms of files, frames and notes, tokens and
-//! requests, surfaces with their maps, splits and sample places, what moves, meshes and polygons, tiles of samples, filters and
-//! levels, the joining of parts, and textures with their look-ups. What a text or a command's words can show is a case of
-//! `conformance`.
+//! Tests of what only a call shows: numbers, rows of them and texts, files, frames and notes in memory and those of the system, the
+//! stock's names, tokens and requests, surfaces with their maps, splits and sample places, what moves, meshes and polygons, tiles of
+//! samples, filters and levels, the joining of parts, and textures with their look-ups. What a text or a command's words can show is
+//! a case of `conformance`.
 #![tactic(auto)]
 
+#[cfg(test)]
+mod adapters;
 #[cfg(test)]
 mod files;
 #[cfg(test)]
@@ -22,6 +24,8 @@ mod motion;
 mod numbers;
 #[cfg(test)]
 mod scene_text;
+#[cfg(test)]
+mod stock_texts;
 #[cfg(test)]
 mod surfaces;
 pub mod texts;

@@ -25,18 +25,23 @@ action_rule = record (new_rule (codes "action")) { required = true }
 abbrev pub name_rule : Rule
 name_rule = record (new_rule (codes "name")) { required = true }
 
+-- `--bucket` takes a whole number from 4 to 64
 abbrev pub bucket_rule : Rule
 bucket_rule = record (new_rule (codes "bucket")) { long = Some (codes "bucket"); parser = Some (Unsigned 4 64); defaults = codes "16" ∷ [] }
 
+-- `--grid-points` takes one from 289 to 1,000,000
 abbrev pub grid_points_rule : Rule
 grid_points_rule = record (new_rule (codes "grid-points")) { long = Some (codes "grid-points"); parser = Some (Unsigned 289 1000000); defaults = codes "65536" ∷ [] }
 
+-- `--stats` takes no value
 abbrev pub stats_rule : Rule
 stats_rule = record (new_rule (codes "stats")) { long = Some (codes "stats"); action = Some SetTrue }
 
+-- `--part` takes a number from 0 to 255
 abbrev pub part_rule : Rule
 part_rule = record (new_rule (codes "part")) { long = Some (codes "part"); parser = Some (Unsigned 0 255) }
 
+-- `--of` takes one from 1 to 256
 abbrev pub of_rule : Rule
 of_rule = record (new_rule (codes "of")) { long = Some (codes "of"); parser = Some (Unsigned 1 256) }
 
@@ -89,6 +94,7 @@ file_command action name options = OnScene (record { action = action; source = F
 abbrev pub is_digit : ℕ → Bool
 is_digit b = nat_le 48 b && nat_le b 57
 
+-- the number of patches that a row of digits writes, 1 to 1,000
 abbrev pub patches_named : Text → Option ℕ
 patches_named text = if list_all is_digit text then number_in 1 1000 text else None
 
@@ -103,6 +109,7 @@ part_of name options (Some part) (Some count) = if nat_lt part count then Some (
 part_of name options (Some part) None = None
 part_of name options None count = None
 
+-- the command `part`, which needs both numbers
 abbrev pub part_command : Text → RunOptions → PartOptions → Option Command
 part_command name options parts = part_of name options parts.part parts.of
 
@@ -112,6 +119,7 @@ join_of name None (Some count) = Some (Join name count)
 join_of name None None = None
 join_of name (Some part) count = None
 
+-- the command `join`, which needs the count alone
 abbrev pub join_command : Text → PartOptions → Option Command
 join_command name parts = join_of name parts.part parts.of
 
@@ -149,6 +157,7 @@ command_by value =
     (options_for (value (codes "bucket")) (value (codes "grid-points")) (value (codes "stats")))
     (parts_for (value (codes "part")) (value (codes "of")))
 
+-- the command that values by names make
 abbrev pub command_in : List Row → Option Command
 command_in rows = command_by (λ name. first_of name rows)
 

@@ -46,6 +46,7 @@ place e b r = r
 abbrev pub operand_at : Expr → List Slot → ℕ → ℕ → Register
 operand_at e ss b r = reg (is_uniform e ss) (shape_in e ss) (place e b r)
 
+-- the registers of operands, one after another
 abbrev pub all_at : Exprs → List Slot → ℕ → ℕ → List Register
 all_at none ss b r = []
 all_at (more e rest) ss b r = operand_at e ss b r ∷ all_at rest ss b (r + 1)

@@ -43,6 +43,7 @@ pub record Begins (ss : List Slot) (a : Around) (es : Envs) (s : State) : Type 0
   pub holds : (i : ℕ) → i < a.lines.columns * a.lines.rows → Holds i ss first_free (es i) s
   pub exact : (i : ℕ) → i < a.lines.columns * a.lines.rows → length (es i).values ≡ length ss
 
+-- code that gives, at each place of each grid, what statements mean there
 pub record Means (body : Stmts) (ss : List Slot) (code : Block) : Type 0 where
   pub gives : (a : Around) (g : Ground) (n : ℕ) (es : Envs) (s : State) → Begins ss a es s → IsGround (a.lines.columns * a.lines.rows) g a →
       (i : ℕ) → i < a.lines.columns * a.lines.rows →

@@ -13,9 +13,11 @@ use Rattle.grid_code.specs.Shapes.{register_class, register_shape, are_uniform_r
 abbrev pub like : Register → ℕ → Register
 like q r = reg (register_class q) (register_shape q) r
 
+-- the register of an operation's value, by those of its operands
 abbrev pub applied_at : ValueOperation → List Register → ℕ → Register
 applied_at op qs r = reg (are_uniform_registers qs) (shape_applied op (register_shapes qs)) r
 
+-- the register of a difference
 abbrev pub differed_at : Difference → Register → ℕ → Register
 differed_at d q r = reg false (difference_shape d (register_shape q)) r
 

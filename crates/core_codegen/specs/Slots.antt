@@ -10,5 +10,6 @@ slot_of s = core.slot s.uniform s.kind
 abbrev pub slots_of : List Slot → List core.Slot
 slots_of ss = map slot_of ss
 
+-- the scope of the code as that of the core tree
 abbrev pub scope_of : Scope → List core.Slot
 scope_of s = slots_of s.slots.items

@@ -14,6 +14,7 @@ line_count p = 2 ^ p + 1
 abbrev pub line_at : ℕ → ℕ → ℕ → ℕ → ℕ
 line_at a i p k = (i * 2 ^ p + k) * 2 ^ (12 - (a + p))
 
+-- the parameters of all lines of a part, as numerators
 abbrev pub lines : ℕ → ℕ → ℕ → List ℕ
 lines a i p = map (line_at a i p) (range_with_len 0 (line_count p))
 

@@ -12,6 +12,7 @@ item zs k = slice_index_or zs k (pos 0)
 abbrev pub minor : List ℤ → List ℤ → ℕ → ℕ → ℤ
 minor a b i j = item a i *ℤ item b j -ℤ item a j *ℤ item b i
 
+-- the cross product of two derivatives, exact
 unfoldable pub cross : List ℤ → List ℤ → List ℤ
 cross a b = minor a b 1 2 ∷ minor a b 2 0 ∷ minor a b 0 1 ∷ []
 

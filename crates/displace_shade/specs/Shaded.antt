@@ -42,9 +42,11 @@ diced_names l i name = nothing name
 abbrev pub spaces_with : Leaf → Map → Map → Spaces
 spaces_with l object shader = record { world = l.world; object = object; shader = shader; near = l.camera.near; far = l.camera.far; flip = l.prim.flip }
 
+-- the spaces of a shader of a primitive
 abbrev pub spaces_of : Leaf → Bound → Spaces
 spaces_of l b = spaces_with l l.prim.object b.space
 
+-- the spaces of a light, whose object space is its own shader space
 abbrev pub light_spaces : Leaf → Bound → Spaces
 light_spaces l b = spaces_with l b.space b.space
 
@@ -56,6 +58,7 @@ abbrev pub with_light : Leaf → Option Bound → List (Vec3 → Light) → List
 with_light l None rest = rest
 with_light l (Some b) rest = light_of l b ∷ rest
 
+-- the lights of a list of uses, in its order
 abbrev pub lights_from : Leaf → SetValue → List ShaderUse → List ℕ → List (Vec3 → Light)
 lights_from l s uses [] = []
 lights_from l s uses (n ∷ ns) = with_light l (bound_at s uses n) (lights_from l s uses ns)
@@ -64,6 +67,7 @@ lights_from l s uses (n ∷ ns) = with_light l (bound_at s uses n) (lights_from 
 abbrev pub image_at : Bound → ℕ → Option Image
 image_at b k = image_named b.textures (entry_of (map (λ n. n.number) (texture_nodes b.tree)) b.look_ups k)
 
+-- what nothing changes while a shader runs over a leaf: lines, spaces, lights and images
 abbrev pub around : Leaf → Bound → List (Vec3 → Light) → Around
 around l b lights = record { lines = lines l; spaces = spaces_of l b; lights = lights; images = image_at b }
 
@@ -78,6 +82,7 @@ placed l old new names.P = Triple (moved l.prim.bound (triple_of (old names.P)) 
 placed l old new names.I = Triple (sight l.camera (moved l.prim.bound (triple_of (old names.P)) (triple_of (new names.P))))
 placed l old new name = new name
 
+-- the variables at place i after the displacement
 abbrev pub displaced : Leaf → Option Bound → ℕ → Names
 displaced l b i = placed l (diced_names l i) (shaded_by l b [] (diced_names l) i)
 
@@ -100,6 +105,7 @@ pub record GridValue : Type 0 where
 abbrev pub at_points : Leaf → (ℕ → Vec3) → List Vec3
 at_points l f = map f (range_with_len 0 (columns l * rows l))
 
+-- the shaded grid of a leaf: at each point the displaced place, and the colour and opacity that surface and volume leave
 unfoldable pub shaded : Leaf → SetValue → List ShaderUse → GridValue
 shaded l s uses =
     let behind = shaded_names l s uses in

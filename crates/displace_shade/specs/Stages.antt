@@ -73,5 +73,6 @@ placed_by s l = displaced l (bound_for (set_in s) (uses_in s) l.prim.displacemen
 abbrev pub run_by : Leaf → BoundShader → List (Vec3 → Light) → (ℕ → Names) → ℕ → Names
 run_by l b lights = shaded_by l (Some (bound_value b)) lights
 
+-- the variables after the surface, under the primitive's lights
 abbrev pub lit_by : Shaders → Leaf → (ℕ → Names) → ℕ → Names
 lit_by s l = shaded_by l (bound_at (set_in s) (uses_in s) l.prim.surface) (lights_from l (set_in s) (uses_in s) l.prim.lights)

@@ -53,6 +53,7 @@ rows f top bottom = record { left = (crop_in f).left; top = top; right = (crop_i
 abbrev pub place_in : ℕ → ℕ → ℕ → ℕ → ℕ → ℕ
 place_in left right top x y = (y - top) * (right - left) + (x - left)
 
+-- a pixel's entry in a band, by its place in the frame
 abbrev pub entry : ℕ → ℕ → ℕ → List (List ℕ) → ℕ → ℕ → List ℕ
 entry left right top band x y = get_or band (place_in left right top x y) []
 

@@ -13,6 +13,7 @@ use Rattle.scene.specs.Settings.{OptionValues}
 unfoldable pub exposed_part : OptionValues → ℤ → ℤ
 exposed_part o v = cond (int_eq o.gamma (pos 65536)) (mul v o.gain) (pow (mul v o.gain) (div (pos 65536) o.gamma))
 
+-- a colour after exposure
 abbrev pub exposed : OptionValues → Vec3 → Vec3
 exposed o c = record { x = exposed_part o c.x; y = exposed_part o c.y; z = exposed_part o c.z }
 

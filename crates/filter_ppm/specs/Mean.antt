@@ -33,6 +33,7 @@ nothing = record { count = 0; weight = pos 0; x = pos 0; y = pos 0; z = pos 0 }
 abbrev pub with_colour : Totals → ℤ → Vec3 → Totals
 with_colour t w c = record { count = t.count + 1; weight = t.weight +ℤ w; x = t.x +ℤ w *ℤ c.x; y = t.y +ℤ w *ℤ c.y; z = t.z +ℤ w *ℤ c.z }
 
+-- the mean that sums make
 abbrev pub mean : Totals → Vec3
 mean t = record { x = mean_part t.x t.weight; y = mean_part t.y t.weight; z = mean_part t.z t.weight }
 

@@ -25,6 +25,7 @@ across w d = floor_by (pos 131072 *ℤ d) w
 unfoldable pub bell : ℤ → ℤ → ℤ
 bell x y = exp (mul (neg_ℤ (pos 131072)) (add (mul x x) (mul y y)))
 
+-- the weight within a filter, by its kind
 abbrev pub by_filter : Filter → ℕ → ℕ → ℤ → ℤ → ℤ
 by_filter Box wx wy dx dy = pos 65536
 by_filter Triangle wx wy dx dy = mul (slope wx dx) (slope wy dy)

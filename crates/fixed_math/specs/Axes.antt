@@ -6,6 +6,7 @@ use Rattle.fixed_math.specs.declared.vec3.Vec3.{Vec3}
 use Rattle.fixed_math.specs.declared.vec3.Axis.{Axis}
 use Rattle.fixed_math.specs.declared.vec3.Axis.TheVariants.{X, Y, Z}
 
+-- a point's coordinate along an axis
 abbrev pub part_of : Axis → Vec3 → ℤ
 part_of X p = p.x
 part_of Y p = p.y
@@ -15,6 +16,7 @@ part_of Z p = p.z
 abbrev pub by_axes : (Axis → ℤ) → Vec3
 by_axes f = record { x = f X; y = f Y; z = f Z }
 
+-- the point 0, 0, 0
 abbrev pub origin : Vec3
 origin = by_axes (λ _. pos 0)
 
@@ -27,6 +29,7 @@ abbrev pub least : Axis → List Vec3 → ℤ
 least a [] = pos 0
 least a (p ∷ ps) = fold (λ m q. int_min m (part_of a q)) (part_of a p) ps
 
+-- the greatest coordinate of points along an axis
 abbrev pub greatest : Axis → List Vec3 → ℤ
 greatest a [] = pos 0
 greatest a (p ∷ ps) = fold (λ m q. int_max m (part_of a q)) (part_of a p) ps

@@ -13,6 +13,7 @@ bucket_columns side r = buckets_along side (r.right - r.left)
 abbrev pub bucket_rows : ℕ → PixelRect → ℕ
 bucket_rows side r = buckets_along side (r.bottom - r.top)
 
+-- how many buckets a rectangle of pixels has
 abbrev pub bucket_count : ℕ → PixelRect → ℕ
 bucket_count side r = bucket_columns side r * bucket_rows side r
 

@@ -26,6 +26,7 @@ abbrev pub limited : Option ℕ → Option ℕ
 limited None = None
 limited (Some m) = if nat_le m 2147483647 then Some m else None
 
+-- a magnitude with its sign
 abbrev pub signed : Bool → ℕ → ℤ
 signed negative m = if negative then neg_ℤ (pos m) else pos m
 

@@ -12,12 +12,15 @@ IsRaw x = (neg_ℤ (pos 2147483647) ≤ℤ x) × (x ≤ℤ pos 2147483647)
 abbrev pub sat : ℤ → ℤ
 sat x = clamp (neg_ℤ (pos 2147483647)) (pos 2147483647) x
 
+-- the sum, put into range
 abbrev pub add : ℤ → ℤ → ℤ
 add a b = sat (a +ℤ b)
 
+-- the difference, put into range
 abbrev pub sub : ℤ → ℤ → ℤ
 sub a b = sat (a -ℤ b)
 
+-- the product, rounded down once and put into range
 abbrev pub mul : ℤ → ℤ → ℤ
 mul a b = sat (floor_div (a *ℤ b) (pos 65536))
 

@@ -19,6 +19,7 @@ log_bits (suc k) m =
 unfoldable pub log2_of : ℕ → ℤ
 log2_of x = (pos (floor_log2 x) -ℤ pos 16) *ℤ pos 65536 +ℤ pos (log_bits 16 (x * 2 ^ (30 - floor_log2 x)))
 
+-- the logarithm to the base two, bit by bit; 0 of what isn't above 0
 abbrev pub log2 : ℤ → ℤ
 log2 (pos zero) = pos 0
 log2 (pos (suc n)) = log2_of (suc n)
@@ -36,9 +37,11 @@ abbrev pub with_exponent : ℕ → ℤ → ℤ
 with_exponent m (pos e) = pos (m * 2 ^ e)
 with_exponent m (negsuc e) = pos (m / 2 ^ suc e)
 
+-- two to the power x, bit by bit
 unfoldable pub exp2 : ℤ → ℤ
 exp2 x = sat (with_exponent (exp_bits 16 (unsigned_abs (int_rem_euclid x (pos 65536))) (2 ^ 30) (2 ^ 31)) (floor_by x 65536 -ℤ pos 14))
 
+-- x to the power y; 1 where y is 0, else 0 where x isn't above 0
 unfoldable pub pow : ℤ → ℤ → ℤ
 pow x (pos zero) = pos 65536
 pow x y = cond (int_lt (pos 0) x) (exp2 (mul y (log2 x))) (pos 0)

@@ -16,12 +16,15 @@ folded r = cond (int_lt (pos 102943) r) (pos 205887 -ℤ r) (cond (int_lt r (neg
 unfoldable pub one_less : ℤ → ℕ → ℤ
 one_less p n = pos 65536 -ℤ floor_by p n
 
+-- the series of a sine, by the angle and its square
 unfoldable pub series : ℤ → ℤ → ℤ
 series r s = mul r (one_less (mul s (one_less (mul s (one_less (mul s (one_less s 72)) 42)) 20)) 6)
 
+-- the sine of an angle in radians: less whole turns, folded to a quarter turn, and a series
 unfoldable pub sin : ℤ → ℤ
 sin x = let r = folded (reduced x) in series r (mul r r)
 
+-- the cosine: the sine a quarter turn further
 unfoldable pub cos : ℤ → ℤ
 cos x = sin (add x (pos 102944))
 

@@ -22,6 +22,7 @@ pub record PixelRect : Type 0 where
 abbrev pub whole_frame : ℕ → ℕ → PixelRect
 whole_frame width height = record { left = 0; top = 0; right = width; bottom = height }
 
+-- how many pixels a rectangle has
 abbrev pub pixel_count : PixelRect → ℕ
 pixel_count r = (r.right - r.left) * (r.bottom - r.top)
 
@@ -29,5 +30,6 @@ pixel_count r = (r.right - r.left) * (r.bottom - r.top)
 abbrev pub pixel_x : PixelRect → ℕ → ℕ
 pixel_x r p = r.left + p % (r.right - r.left)
 
+-- the row of a rectangle's pixel p, of which pixels go by rows
 abbrev pub pixel_y : PixelRect → ℕ → ℕ
 pixel_y r p = r.top + p / (r.right - r.left)

@@ -28,6 +28,7 @@ abbrev pub part : ℤ → ℕ → ℤ
 part c zero = pos 0
 part c (suc n) = floor_by (c *ℤ pos 65536) (suc n)
 
+-- a part of the unit vector of three whole numbers, rounded down; 0 where all are 0
 unfoldable pub unit_part : ℤ → ℤ → ℤ → ℤ → ℤ
 unit_part c x y z =
     let k = shift_for (unsigned_abs x) (unsigned_abs y) (unsigned_abs z) in

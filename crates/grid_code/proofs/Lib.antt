@@ -8,3 +8,4 @@ pub mod Blocks
 pub mod Gathered
 mod Leavers
 mod OwnTurns
+mod Resting

@@ -22,6 +22,7 @@ abbrev pub are_uniform_registers : List Register → Bool
 are_uniform_registers [] = true
 are_uniform_registers (q ∷ qs) = register_class q && are_uniform_registers qs
 
+-- the shapes of registers
 abbrev pub register_shapes : List Register → List Shape
 register_shapes [] = []
 register_shapes (q ∷ qs) = register_shape q ∷ register_shapes qs
@@ -31,6 +32,7 @@ abbrev pub difference_shape : Difference → Shape → Shape
 difference_shape differences.CalculateNormal s = shapes.Triple
 difference_shape d s = part_shape s
 
+-- the shape of what an instruction gives
 abbrev pub source_shape : Source → Shape
 source_shape (Constant v) = shape v
 source_shape (Copy r) = register_shape r

@@ -1,5 +1,5 @@
 -- What the turns of a loop leave to a place that doesn't take them, and how many turns a place takes: the laws of loops under a mask.
-use Rattle.std.specs.Prelude.{ℕ, zero, suc, ◌+◌, Bool, true, false, cond, not, ◌&&◌, List, [], ◌∷◌, Option, is_some, ◌≡◌}
+use Rattle.std.specs.Prelude.{ℕ, zero, suc, ◌+◌, ◌<◌, Bool, true, false, cond, not, ◌&&◌, List, [], ◌∷◌, Option, is_some, ◌≡◌}
 use Rattle.fixed_math.specs.declared.vec3.Vec3.{Vec3}
 use Rattle.sl_ast.specs.declared.kinds.Predefined.TheVariants as names
 use Rattle.sl_ast.specs.declared.kinds.LightStmt.{LightStmt}
@@ -19,6 +19,24 @@ use Rattle.grid_code.specs.Masked.{Ground, State, any, read, reads, result_of, w
 pub record Unchanged (i : ℕ) (g h : State) : Type 0 where
   pub rows : (t : Shape) (k : ℕ) → h.rows t k i ≡ g.rows t k i
   pub own : h.own i ≡ g.own i
+
+-- a place that isn't live when code begins isn't live behind it, and keeps its values of the varying registers and its own budget, whatever
+-- other places do
+pub record Rests (i : ℕ) (g h : State) : Type 0 where
+  pub live : h.live i ≡ false
+  pub kept : Unchanged i g h
+
+-- where none of the places is live, code changes no uniform register and not the uniform budget either
+pub record AllRest (c : ℕ) (g h : State) : Type 0 where
+  pub each : (i : ℕ) → i < c → Unchanged i g h
+  pub shared : (t : Shape) (k : ℕ) → h.shared t k ≡ g.shared t k
+  pub turns : h.turns ≡ g.turns
+
+abbrev pub RestLaw : Type 0
+RestLaw = (x : Block) (i : ℕ) (g : Ground) (c n : ℕ) (s : State) → s.live i ≡ false → Rests i s (masked x g c n s)
+
+abbrev pub AllRestLaw : Type 0
+AllRestLaw = (x : Block) (g : Ground) (c n : ℕ) (s : State) → ((i : ℕ) → i < c → s.live i ≡ false) → AllRest c s (masked x g c n s)
 
 -- up to m turns of a loop of code
 abbrev pub turns_from : Ground → ℕ → ℕ → ℕ → Bool → Block → Register → Block → Block → State → State

@@ -23,6 +23,7 @@ numbers_of s shapes.Number = s.numbers
 numbers_of s shapes.Triple = s.triples
 numbers_of s shapes.Word = s.words
 
+-- a register of a shape is in a set
 abbrev pub is_in : RegisterSet → Shape → ℕ → Bool
 is_in s shape r = list_any (λ k. k == r) (numbers_of s shape)
 
@@ -39,6 +40,7 @@ has varying uniform (Uniform s r) = is_in uniform s r
 abbrev pub names_at : SlKind → List Register
 names_at kind = name_at names.Pi ∷ map (λ row. name_at row.name) (variables kind)
 
+-- the registers of the predefined variables of a kind of shader
 abbrev pub kind_registers : SlKind → List Register
 kind_registers Light = lit_at ∷ names_at Light
 kind_registers kind = names_at kind
@@ -59,6 +61,7 @@ source_within p (Copy q) = p q
 source_within p (Into s q) = p q
 source_within p (Apply op qs) = list_all p qs
 
+-- each register that a block names passes a test
 abbrev pub within : (Register → Bool) → Block → Bool
 within p end = true
 within p (put r o x) = p r && (source_within p o && within p x)

@@ -13,7 +13,7 @@ mod slot;
 
 pub use code::{Node, Register, Source};
 pub use collect::gather;
-pub use laws::{leaver_law, own_turns_law};
+pub use laws::{leaver_law, own_turns_law, rest_law};
 pub use look_up_set::LookUpSet;
 pub use named::{register, register_of};
 pub use register_set::RegisterSet;

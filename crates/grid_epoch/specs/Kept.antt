@@ -16,6 +16,7 @@ has p ps = list_any (same_part p) ps
 abbrev pub pieces_in : List (Part × SeenGrid) → List Part
 pieces_in kept = map (λ k. k.0) kept
 
+-- how many points grids have together
 abbrev pub points_in : List (Part × SeenGrid) → ℕ
 points_in [] = 0
 points_in (k ∷ ks) = k.1.grid.columns * k.1.grid.rows + points_in ks
@@ -30,6 +31,7 @@ pub record EpochValue : Type 0 where
   pub limit : ℕ
   pub kept : List (Part × SeenGrid)
 
+-- what holds of an epoch: no piece twice, and the points within its limit
 pub record IsEpoch (limit live : ℕ) (pieces : List Part) (grids : List SeenGrid) : Type 0 where
   pub alike : length grids ≡ length pieces
   pub counted : live ≡ points_in (zip pieces grids)

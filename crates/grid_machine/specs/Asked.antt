@@ -31,6 +31,7 @@ abbrev pub begun_at : List Slot → ℕ → List Value → (ℕ → Vec3) → St
 begun_at params c values q =
     write c (name_at names.Ps) (λ i. Triple (q i)) (assigned c (registers_from first_free params) values fresh)
 
+-- what a light answers at place i, where its code is run by itself over the points q, with whole budgets and no lights
 abbrev pub asked : Lines → ℕ → Spaces → Code → List Value → Asked
 asked lines c spaces code values q i =
     answer_at (has_light_statement (block_of code.nodes)) (masked (block_of code.nodes) record { lines = lines; spaces = spaces; lights = []; images = λ k. None } c 65536 (begun_at code.params c values q)) i

@@ -61,6 +61,7 @@ step_names kind = cond (has_surface kind) (name_at names.Du ∷ name_at names.Dv
 abbrev pub uniform_inputs : SlKind → List Slot → List Register
 uniform_inputs kind params = params_of true first_free params ++ step_names kind
 
+-- the registers that a run is given rows for
 abbrev pub varying_inputs : SlKind → List Slot → List Register
 varying_inputs kind params = params_of false first_free params ++ given_names kind
 

@@ -24,6 +24,7 @@ pub use Rattle.grid_registers.specs.Sources.{SourceReady, source_known}
 use Rattle.grid_registers.specs.declared.frame.Frame.{Frame}
 use Rattle.grid_machine.specs.declared.machine.Machine.{Machine}
 
+-- the machine's state, as that of the code
 abbrev pub state_of : Machine → State
 state_of m =
     record (held_by m.registers) {
@@ -101,8 +102,10 @@ HasRegister m r = has m.registers.frame.now.varying.now m.registers.frame.now.un
 abbrev pub NearIn : Machine → State → State → Type 0
 NearIn m g h = Near m.registers.frame.now.places m.registers.frame.now.varying.now m.registers.frame.now.uniform.now g h
 
+-- a machine that performs a block over these lights
 abbrev pub Runs : Beside → ℕ → Block → Machine → Machine → Type 0
 Runs ls n x m k = Performs (lit_ground ls m.registers.frame.now) m.registers.frame.now.places m.registers.frame.now.varying.now m.registers.frame.now.uniform.now n x (state_of m) (state_of k)
 
+-- a machine that performs the turns of a loop
 abbrev pub RunsTurns : Beside → ℕ → Bool → Block → Register → Block → Block → Machine → Machine → Type 0
 RunsTurns ls n uniform ask test step body m k = PerformsTurns (lit_ground ls m.registers.frame.now) m.registers.frame.now.places m.registers.frame.now.varying.now m.registers.frame.now.uniform.now n uniform ask test step body (state_of m) (state_of k)

@@ -10,9 +10,11 @@ use Rattle.grid_code.specs.View.{block_of}
 use Rattle.grid_code.specs.declared.shader_code.Code.{Code}
 use Rattle.grid_registers.specs.declared.frame.Frame.{Frame}
 
+-- the grid's lines and steps, as a frame has them
 abbrev pub lines_of : Frame → Lines
 lines_of f = record { columns = f.columns; rows = f.rows; du = f.steps.du; dv = f.steps.dv }
 
+-- what nothing changes while a frame's code runs
 abbrev pub ground_of : Frame → Ground
 ground_of f = record { lines = lines_of f; spaces = f.setting.spaces.now; lights = []; images = λ k. None }
 

@@ -17,6 +17,7 @@ abbrev pub rank : List ℕ → ℕ → ℕ
 rank [] k = 0
 rank (x ∷ xs) k = cond (x == k) 0 (suc (rank xs k))
 
+-- the texts of a run
 abbrev pub texts_of : Registers → List (Bor (List ℕ))
 texts_of r = r.frame.now.setting.texts.now
 

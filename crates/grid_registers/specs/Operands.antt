@@ -22,10 +22,12 @@ use Rattle.place_rows.specs.Banks.{size, held}
 use Rattle.place_rows.specs.declared.bank.Bank.{Bank}
 use Rattle.grid_registers.specs.Held.{texts_of, HoldsEach}
 
+-- the cell of an operand at place i
 abbrev pub cell_at : Registers → Operand → ℕ → Cell
 cell_at r (Row s k) i = held r.rows s (k + i)
 cell_at r (Shared s k) i = held r.shared s k
 
+-- the value of an operand at place i
 abbrev pub operand_at : Registers → Operand → ℕ → Value
 operand_at r q i = value_of (texts_of r) (cell_at r q i)
 
@@ -74,6 +76,7 @@ abbrev pub OperandIn : Registers → Operand → Type 0
 OperandIn r (Row s k) = k + r.frame.now.places ≤ size r.rows s
 OperandIn r (Shared s k) = k < size r.shared s
 
+-- the value of an instruction's work at place i
 abbrev pub work_at : Registers → Work → ℕ → Value
 work_at r (Constant c) i = value_of (texts_of r) c
 work_at r (Copy q) i = operand_at r q i

@@ -46,6 +46,7 @@ param_rows l _ _ _ = []
 abbrev pub steady_values : Leaf → ParameterValues → List Value
 steady_values l ps = values_of true ps.slots (values_at l ps.locals ps.values 0)
 
+-- the uniform values of a surface: its parameters', and the steps of u and v
 abbrev pub surface_values : Leaf → ParameterValues → List Value
 surface_values l ps = steady_values l ps ++ Number (lines l).du ∷ Number (lines l).dv ∷ []
 

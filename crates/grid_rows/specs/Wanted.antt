@@ -36,6 +36,7 @@ optional kind = []
 abbrev pub is_optional : SlKind → ℕ → Bool
 is_optional kind k = list_any (λ p. place_of p == k) (optional kind)
 
+-- code names this varying register
 abbrev pub is_named : RegisterSet → Register → Bool
 is_named set (Uniform s k) = false
 is_named set (Varying s k) = is_in set s k

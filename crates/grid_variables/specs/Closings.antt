@@ -17,5 +17,6 @@ closing_at l points last i = closing_place (patch_point last (own_u l i) (own_v 
 abbrev pub closing_of : Leaf → List Vec3 → Option (List Vec3)
 closing_of l points = option_map (λ last. over (point_count l) (closing_at l points last)) l.prim.closing
 
+-- the closing places that a grid has, if it moves
 abbrev pub places_in : Option (Bor (List Vec3)) → Option (List Vec3)
 places_in places = option_map (λ q. q.now) places

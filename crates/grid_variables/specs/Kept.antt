@@ -8,6 +8,7 @@ use Rattle.builtins.specs.Triples.{each, each_two}
 abbrev pub kept_near : ℤ → ℤ → ℤ → ℤ
 kept_near bound old new = int_max (old -ℤ bound) (int_min new (old +ℤ bound))
 
+-- a point that displacement moves, with each coordinate within the bound of its old place
 abbrev pub moved : ℤ → Vec3 → Vec3 → Vec3
 moved bound old new = each_two (kept_near bound) old new
 
@@ -15,6 +16,7 @@ moved bound old new = each_two (kept_near bound) old new
 abbrev pub share : ℤ → ℤ
 share x = int_max (pos 0) (int_min x (pos 65536))
 
+-- an opacity with each part put into 0 to 1
 abbrev pub opacity : Vec3 → Vec3
 opacity o = each share o
 

@@ -9,6 +9,7 @@ use Rattle.grid_variables.specs.declared.leaf.Along.{Along}
 use Rattle.grid_variables.specs.declared.leaf.Along.TheVariants.{U, V}
 use Rattle.grid_variables.specs.declared.variables.Variables.{Variables}
 
+-- how many points a leaf's grid has
 abbrev pub point_count : Leaf → ℕ
 point_count l = columns l * rows l
 

@@ -21,9 +21,11 @@ pub record Leaf : Type 0 where
   pub p : ℕ
   pub q : ℕ
 
+-- how many columns of points
 abbrev pub columns : Leaf → ℕ
 columns l = line_count l.p
 
+-- how many rows of points
 abbrev pub rows : Leaf → ℕ
 rows l = line_count l.q
 
@@ -44,16 +46,20 @@ patch_rows prim = slice_index_or prim.place 3 0
 abbrev pub own_u : Leaf → ℕ → ℕ
 own_u l i = line_at l.part.a l.part.i l.p (i % columns l)
 
+-- the v of place i on its patch, as a numerator
 abbrev pub own_v : Leaf → ℕ → ℕ
 own_v l i = line_at l.part.b l.part.j l.q (i / columns l)
 
+-- the point of the patch at place i
 abbrev pub point_at : Leaf → ℕ → Vec3
 point_at l i = patch_point l.prim.patch (own_u l i) (own_v l i)
 
+-- the flat normal of a polygon, else the surface's own
 abbrev pub flat_or : Option Vec3 → Vec3 → Vec3
 flat_or (Some flat) n = flat
 flat_or None n = n
 
+-- a normal, turned over where it is flipped
 abbrev pub turned : Bool → Vec3 → Vec3
 turned flip n = cond flip (negated n) n
 
@@ -66,15 +72,19 @@ abbrev pub sight_by : Option ℤ → Vec3 → Vec3
 sight_by (Some fov) p = p
 sight_by None p = record { x = pos 0; y = pos 0; z = pos 65536 }
 
+-- the direction from the eye to a point; (0, 0, 1) without perspective
 abbrev pub sight : View → Vec3 → Vec3
 sight v p = sight_by v.fov p
 
+-- the shader's u at place i, which runs over the whole primitive
 abbrev pub u_at : Leaf → ℕ → ℤ
 u_at l i = parameter_of (patch_column l.prim) (patch_columns l.prim) (own_u l i)
 
+-- the shader's v there
 abbrev pub v_at : Leaf → ℕ → ℤ
 v_at l i = parameter_of (patch_row l.prim) (patch_rows l.prim) (own_v l i)
 
+-- the columns and rows of the grid with their steps of u and v, as differences between neighbours take them
 abbrev pub lines : Leaf → Lines
 lines l = record {
   columns = columns l;
@@ -83,9 +93,11 @@ lines l = record {
   dv = step_of (patch_rows l.prim) l.part.b l.q;
 }
 
+-- the derivative of the place by the shader's u
 abbrev pub dpdu : Leaf → ℕ → Vec3
 dpdu l i = derivative_of (patch_columns l.prim) (patch_du l.prim.patch (own_u l i) (own_v l i))
 
+-- that by the shader's v
 abbrev pub dpdv : Leaf → ℕ → Vec3
 dpdv l i = derivative_of (patch_rows l.prim) (patch_dv l.prim.patch (own_u l i) (own_v l i))
 

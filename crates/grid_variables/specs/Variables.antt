@@ -49,6 +49,7 @@ between true cs u v = bilinear_point cs u v
 abbrev pub spread_by : Bool → Leaf → VariableValue → ℕ → Vec3
 spread_by over l x i = between x.varying (corners_of over x.kind l.prim.object (numbers_of x.values)) (own_u l i) (own_v l i)
 
+-- the numbers of a variable at place i
 abbrev pub spread : Leaf → VariableValue → ℕ → Vec3
 spread l x i = spread_by false l x i
 
@@ -57,6 +58,7 @@ abbrev pub last_passing : (VariableValue → Bool) → List VariableValue → Op
 last_passing test [] = None
 last_passing test (x ∷ xs) = option_or (last_passing test xs) (cond (test x) (Some x) None)
 
+-- the last variable of a name
 abbrev pub variable_named : List ℕ → List VariableValue → Option VariableValue
 variable_named name xs = last_passing (λ x. bytes_eq x.name name) xs
 
@@ -64,6 +66,7 @@ variable_named name xs = last_passing (λ x. bytes_eq x.name name) xs
 abbrev pub is_pair : VariableValue → Bool
 is_pair x = bytes_eq x.name (codes "st")
 
+-- the last variable that sets s or t: of its name, or `st`
 abbrev pub setter : List ℕ → List VariableValue → Option VariableValue
 setter name xs = last_passing (λ x. bytes_eq x.name name || is_pair x) xs
 
@@ -73,9 +76,11 @@ abbrev pub triple_or : Leaf → ℕ → Option VariableValue → Vec3 → Vec3
 triple_or l i None t = t
 triple_or l i (Some x) t = spread l x i
 
+-- what Cs begins with at place i: the primitive's own, else the colour in force
 abbrev pub cs_at : Leaf → ℕ → Vec3
 cs_at l i = triple_or l i (variable_named (codes "Cs") l.prim.vars) l.prim.cs
 
+-- what Os begins with: the primitive's own, else the opacity in force
 abbrev pub os_at : Leaf → ℕ → Vec3
 os_at l i = triple_or l i (variable_named (codes "Os") l.prim.vars) l.prim.os
 
@@ -87,9 +92,11 @@ abbrev pub texture_or : Axis → Leaf → ℕ → Option VariableValue → ℤ �
 texture_or a l i None z = z
 texture_or a l i (Some x) z = texture_part a (is_pair x) (spread l x i)
 
+-- what s begins with: what the last variable that sets it gives, else u
 abbrev pub s_at : Leaf → ℕ → ℤ
 s_at l i = texture_or axes.X l i (setter (codes "s") l.prim.vars) (u_at l i)
 
+-- what t begins with, likewise, else v
 abbrev pub t_at : Leaf → ℕ → ℤ
 t_at l i = texture_or axes.Y l i (setter (codes "t") l.prim.vars) (v_at l i)
 
@@ -102,6 +109,7 @@ abbrev pub normal_or : Leaf → ℕ → Option VariableValue → Vec3
 normal_or l i None = normal_of l i
 normal_or l i (Some x) = given_normal l x i
 
+-- what N begins with: the primitive's own of unit length, else Ng
 abbrev pub n_at : Leaf → ℕ → Vec3
 n_at l i = normal_or l i (variable_named (codes "N") l.prim.vars)
 
@@ -116,6 +124,7 @@ value_by kinds.Pair w p = Number p.x
 value_by kinds.Str w p = Word w
 value_by kind w p = Triple p
 
+-- the value of a variable at place i
 abbrev pub value_at : Leaf → VariableValue → ℕ → Value
 value_at l x i = value_by x.kind (text_of x.values) (spread l x i)
 

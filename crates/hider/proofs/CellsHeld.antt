@@ -31,4 +31,4 @@ held_between v i lo hi moves inside a b c d k t l h =
     (four_held (IsBelow lo) (λ n. v.corner i n 65535) b k l)
     (four_held (λ q. IsBelow q hi) (λ n. v.corner i n 0) c k l)
     (four_held (λ q. IsBelow q hi) (λ n. v.corner i n 65535) d k l)
-    (λ x. moves i k 0 t 65535 x inside l (omega arith) h)
+    (λ x. moves i k t x inside l h)

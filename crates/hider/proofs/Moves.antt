@@ -26,7 +26,7 @@ use Rattle.hider.specs.Coverage.{covers}
 use Rattle.hider.specs.Extents.{HoldsRaster, IsBelow, IsNoNearer, IsSeenDepth, IsCornerBetween, Passed}
 use Rattle.hider.specs.Fragments.{covering, fragment_of}
 use Rattle.hider.specs.Outermost.{IsInOrder}
-use Rattle.hider.specs.Searching.{IsNear, LiesBeside, StaysIn, StaysInside, StaysInsideFrom}
+use Rattle.hider.specs.Searching.{IsNear, LiesBeside, StaysIn, StaysInside}
 use Rattle.hider.specs.Tiles.{IsSampleGrid, HavePut}
 use Rattle.hider.proofs.Boxes.{in_order}
 use Rattle.hider.proofs.Pixels.{near_stays}
@@ -60,13 +60,13 @@ seen_none w one_sided flip k f e =
     (λ t. rw (d, t) e))
     (λ d. rw d refl)
 
--- the corners at a time between two others lie between those at these
-corner_at : (v : CellValues) (i from t to k : ℕ) → MovesBetween v → i < v.count → k < 4 → from ≤ t → t ≤ to → IsCornerBetween (corners_when v i from) (corners_when v i to) k (v.corner i k t)
-corner_at v i from t to zero m h l a b x = m i 0 from t to x h l a b
-corner_at v i from t to (suc zero) m h l a b x = m i 1 from t to x h l a b
-corner_at v i from t to (suc (suc zero)) m h l a b x = m i 2 from t to x h l a b
-corner_at v i from t to (suc (suc (suc zero))) m h l a b x = m i 3 from t to x h l a b
-corner_at v i from t to (suc (suc (suc (suc k)))) m h l a b x = absurd (omega (arith, l))
+-- the corners at a time lie between those when the shutter opens and when it closes
+corner_at : (v : CellValues) (i t k : ℕ) → MovesBetween v → i < v.count → k < 4 → t ≤ 65535 → IsCornerBetween (corners_when v i 0) (corners_when v i 65535) k (v.corner i k t)
+corner_at v i t zero m h l b x = m i 0 t x h l b
+corner_at v i t (suc zero) m h l b x = m i 1 t x h l b
+corner_at v i t (suc (suc zero)) m h l b x = m i 2 t x h l b
+corner_at v i t (suc (suc (suc zero))) m h l b x = m i 3 t x h l b
+corner_at v i t (suc (suc (suc (suc k)))) m h l b x = absurd (omega (arith, l))
 
 depth_read : (w : View) (p : CellCorner) → is_in_depth w p ≡ true → IsSeenDepth w p.point
 depth_read w p e = (grind (arith, ints, e), grind (arith, ints, e))
@@ -95,15 +95,15 @@ corners_held w v i t b h =
       bottom = (p.3, q.3, r.3, s.3);
     }
 
--- so a micropolygon that passes within a box from one time to another shows nothing outside it at the times between
-pub stays_from : (w : View) (v : CellValues) (i from to : ℕ) (one_sided flip : Bool) (b : Bounds) → MovesBetween v → i < v.count → Passed w (corners_when v i from) (corners_when v i to) b →
-    StaysInsideFrom from to b (λ s. fragment_of w s (micropolygon_of v one_sided flip i))
+-- so a micropolygon that passes within a box while the shutter is open shows nothing outside it
+pub stays_passed : (w : View) (v : CellValues) (i : ℕ) (one_sided flip : Bool) (b : Bounds) → MovesBetween v → i < v.count → Passed w (corners_when v i 0) (corners_when v i 65535) b →
+    StaysInside b (λ s. fragment_of w s (micropolygon_of v one_sided flip i))
 unfolding fragment_of
-stays_from w v i from to one_sided flip b m h passed s low high outside =
+stays_passed w v i one_sided flip b m h passed s t outside =
     let k = cell_when v i s.time in
     by_bool (is_all_in_depth w k)
     (λ d. seen_none w one_sided flip k (λ q. covers q s.place)
-    (outside_none b (projected w k) s.place (corners_held w v i s.time b (passed (λ n. v.corner i n s.time) (λ n l. corner_at v i from s.time to n m h l low high) (depths_read w v i s.time d))) outside))
+    (outside_none b (projected w k) s.place (corners_held w v i s.time b (passed (λ n. v.corner i n s.time) (λ n l. corner_at v i s.time n m h l t) (depths_read w v i s.time d))) outside))
     (λ d. unseen_none w one_sided flip k (λ q. covers q s.place) d)
 
 -- ---- the depth of what shows

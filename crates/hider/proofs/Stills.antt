@@ -45,10 +45,10 @@ same_point p q r e h =
 pub same_cell : (v : CellValues) (i t : ℕ) → MovesBetween v → i < v.count → t ≤ 65535 → corners_when v i 0 ≡ corners_when v i 65535 → cell_when v i t ≡ cell_when v i 0
 unfolding cell_when
 same_cell v i t m h l s =
-    let a : v.corner i 0 t ≡ v.corner i 0 0 = same_point (v.corner i 0 t) (v.corner i 0 0) (v.corner i 0 65535) (ap (λ xs. slice_index_or xs 0 origin) s) (λ x. m i 0 0 t 65535 x h (omega arith) (omega arith) l) in
-    let b : v.corner i 1 t ≡ v.corner i 1 0 = same_point (v.corner i 1 t) (v.corner i 1 0) (v.corner i 1 65535) (ap (λ xs. slice_index_or xs 1 origin) s) (λ x. m i 1 0 t 65535 x h (omega arith) (omega arith) l) in
-    let c : v.corner i 2 t ≡ v.corner i 2 0 = same_point (v.corner i 2 t) (v.corner i 2 0) (v.corner i 2 65535) (ap (λ xs. slice_index_or xs 2 origin) s) (λ x. m i 2 0 t 65535 x h (omega arith) (omega arith) l) in
-    let d : v.corner i 3 t ≡ v.corner i 3 0 = same_point (v.corner i 3 t) (v.corner i 3 0) (v.corner i 3 65535) (ap (λ xs. slice_index_or xs 3 origin) s) (λ x. m i 3 0 t 65535 x h (omega arith) (omega arith) l) in
+    let a : v.corner i 0 t ≡ v.corner i 0 0 = same_point (v.corner i 0 t) (v.corner i 0 0) (v.corner i 0 65535) (ap (λ xs. slice_index_or xs 0 origin) s) (λ x. m i 0 t x h (omega arith) l) in
+    let b : v.corner i 1 t ≡ v.corner i 1 0 = same_point (v.corner i 1 t) (v.corner i 1 0) (v.corner i 1 65535) (ap (λ xs. slice_index_or xs 1 origin) s) (λ x. m i 1 t x h (omega arith) l) in
+    let c : v.corner i 2 t ≡ v.corner i 2 0 = same_point (v.corner i 2 t) (v.corner i 2 0) (v.corner i 2 65535) (ap (λ xs. slice_index_or xs 2 origin) s) (λ x. m i 2 t x h (omega arith) l) in
+    let d : v.corner i 3 t ≡ v.corner i 3 0 = same_point (v.corner i 3 t) (v.corner i 3 0) (v.corner i 3 65535) (ap (λ xs. slice_index_or xs 3 origin) s) (λ x. m i 3 t x h (omega arith) l) in
     rw (a, b, c, d) refl
 
 -- and shows what one that stays shows

@@ -10,6 +10,7 @@ use Rattle.hider.specs.CellValues.{CellValues}
 abbrev pub low_when : MovingBox → ℕ → Vec3
 low_when b t = place_on_way t b.low b.closing_low
 
+-- the greatest corner of a moving box at a time
 abbrev pub high_when : MovingBox → ℕ → Vec3
 high_when b t = place_on_way t b.high b.closing_high
 

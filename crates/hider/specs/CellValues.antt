@@ -19,6 +19,7 @@ pub record CellValues : Type 0 where
   pub colour : ℕ → ℕ → Vec3
   pub opacity : ℕ → ℕ → Vec3
 
+-- corner k of cell i at a time
 abbrev pub corner_when : CellValues → ℕ → ℕ → ℕ → CellCorner
 corner_when v i t k = record { point = v.corner i k t; colour = v.colour i k; opacity = v.opacity i k }
 
@@ -26,6 +27,7 @@ corner_when v i t k = record { point = v.corner i k t; colour = v.colour i k; op
 unfoldable pub cell_when : CellValues → ℕ → ℕ → Cell
 cell_when v i t = record { a = corner_when v i t 0; b = corner_when v i t 1; c = corner_when v i t 2; d = corner_when v i t 3 }
 
+-- cell i as a micropolygon
 abbrev pub micropolygon_of : CellValues → Bool → Bool → ℕ → Micropolygon
 micropolygon_of v one_sided flip i = record { corners = cell_when v i; one_sided = one_sided; flip = flip }
 
@@ -37,9 +39,9 @@ micropolygons_of v one_sided flip = map (micropolygon_of v one_sided flip) (rang
 abbrev pub LiesBetween : ℤ → ℤ → ℤ → Type 0
 LiesBetween x y z = (int_min x y ≤ℤ z) × (z ≤ℤ int_max x y)
 
--- each coordinate of a corner lies at any time between those at an earlier and at a later one
+-- each coordinate of a corner lies at any time between those when the shutter opens and when it closes
 abbrev pub MovesBetween : CellValues → Type 0
-MovesBetween v = (i k s t u : ℕ) (a : Axis) → i < v.count → k < 4 → s ≤ t → t ≤ u → LiesBetween (part_of a (v.corner i k s)) (part_of a (v.corner i k u)) (part_of a (v.corner i k t))
+MovesBetween v = (i k t : ℕ) (a : Axis) → i < v.count → k < 4 → t ≤ 65535 → LiesBetween (part_of a (v.corner i k 0)) (part_of a (v.corner i k 65535)) (part_of a (v.corner i k t))
 
 -- the four corners of cell i at a time
 abbrev pub corners_when : CellValues → ℕ → ℕ → List Vec3
@@ -65,6 +67,7 @@ grid_values smooth columns rows points colours opacities = record {
   opacity = λ i k. slice_index_or opacities (shade_number smooth columns i k) origin;
 }
 
+-- the cells of a grid that stays
 abbrev pub values_of : Bool → GridRef → CellValues
 values_of smooth g = grid_values smooth g.columns g.rows g.p.now g.ci.now g.oi.now
 

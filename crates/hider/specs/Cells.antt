@@ -67,6 +67,7 @@ corner_of v k = record {
   opacity = k.opacity;
 }
 
+-- four corners on the raster
 unfoldable pub projected : View → Cell → Quad
 projected v k = record { a = corner_of v k.a; b = corner_of v k.b; c = corner_of v k.c; d = corner_of v k.d }
 
@@ -74,6 +75,7 @@ projected v k = record { a = corner_of v k.a; b = corner_of v k.b; c = corner_of
 abbrev pub is_in_depth : View → CellCorner → Bool
 is_in_depth v k = int_le v.near k.point.z && int_le k.point.z v.far
 
+-- all four corners lie from near to far
 unfoldable pub is_all_in_depth : View → Cell → Bool
 is_all_in_depth v k = is_in_depth v k.a && (is_in_depth v k.b && (is_in_depth v k.c && is_in_depth v k.d))
 
@@ -87,6 +89,7 @@ is_turned_away false flip t = false
 is_turned_away true false t = int_lt t (pos 0)
 is_turned_away true true t = int_lt (pos 0) t
 
+-- what is seen of a quad: nothing where its one side is turned away
 abbrev pub seen : Bool → Bool → Quad → Option Quad
 seen one_sided flip q = cond (is_turned_away one_sided flip (turn q)) None (Some q)
 

@@ -23,6 +23,7 @@ areas_at a b c s = record { a = edge b c s; b = edge c a s; c = edge a b s; whol
 abbrev pub mean_at : Areas → ℤ → ℤ → ℤ → ℤ
 mean_at w a b c = floor_div (w.a *ℤ a +ℤ w.b *ℤ b +ℤ w.c *ℤ c) w.whole
 
+-- the mean of a colour of the corners
 abbrev pub mean_colour_at : Areas → Vec3 → Vec3 → Vec3 → Vec3
 mean_colour_at w a b c = by_axes (λ i. mean_at w (part_of i a) (part_of i b) (part_of i c))
 

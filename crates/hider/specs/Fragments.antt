@@ -31,6 +31,7 @@ put_in f (g ∷ gs) = cond (int_le g.depth f.depth) (g ∷ put_in f gs) (f ∷ g
 abbrev pub put_all : List Fragment → List Fragment → List Fragment
 put_all l fs = fold (λ k f. put_in f k) l fs
 
+-- fragments in order of depth, those of equal depth in the order that they had
 unfoldable pub by_depth : List Fragment → List Fragment
 by_depth fs = put_all [] fs
 

@@ -31,6 +31,7 @@ IsBeside b g = (b.right <ℤ pos (256 * g.left)) ⊎ (pos (256 * g.right) ≤ℤ
 abbrev pub column_of : SampleGrid → ℕ → ℕ
 column_of g n = pixel_x (rect_of g) (n / (g.xs * g.ys))
 
+-- the row of pixels in which sample n lies
 abbrev pub row_of : SampleGrid → ℕ → ℕ
 row_of g n = pixel_y (rect_of g) (n / (g.xs * g.ys))
 

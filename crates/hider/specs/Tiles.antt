@@ -17,9 +17,11 @@ use Rattle.hider.specs.Samples.{sample_in}
 abbrev pub rect_of : SampleGrid → PixelRect
 rect_of g = record { left = g.left; top = g.top; right = g.right; bottom = g.bottom }
 
+-- how many samples a tile has
 abbrev pub sample_count : SampleGrid → ℕ
 sample_count g = pixel_count (rect_of g) * (g.xs * g.ys)
 
+-- sample n of a tile, of which samples go pixel by pixel, by rows
 abbrev pub sample_of : SampleGrid → ℕ → Sample
 sample_of g n = sample_in g.xs g.ys (rect_of g) n
 

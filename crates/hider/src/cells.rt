@@ -9,7 +9,7 @@ use crate::moving_box::MovingBox;
 use fixed_math::Vec3;
 
 /// Micropolygons that may move: each is asked for its corners at a time, in 1/65536 of the shutter's interval, and for their
-/// colours and opacities. A coordinate of a corner lies at any time between those at any earlier and any later one.
+/// colours and opacities. A coordinate of a corner lies at any time between those at times 0 and 65535.
 pub trait Cells {
     ghost values: { Self → CellValues };
 
@@ -70,9 +70,13 @@ pub trait Cells {
         requires corner { k < 4 }
         ensures { result ≡ (values self.now).opacity cell k };
 
-    /// The cells of a grid that they are, where they stay where they are at all times; None where they may move.
+    /// The cells of a grid that they are, where they stay where they are at all times; None where they may move, and by default: it
+    /// is about speed alone.
     fn still_grid(&self) -> Option<GridCells<'_>>
-        ensures { IfSome result (λ c. values self.now ≡ values_of c.smooth c.grid) };
+        ensures { IfSome result (λ c. values self.now ≡ values_of c.smooth c.grid) }
+    {
+        None
+    }
 
     ghost between: { (c : Self) → MovesBetween (values c) };
 }

@@ -110,7 +110,7 @@ impl<'a> Cells for GridCells<'a> {
         Some(*self)
     }
 
-    ghost between = { λ c i k s t u a hi hk hs hu. stays_between _ };
+    ghost between = { λ c i k t a hi hk ht. stays_between _ };
 }
 
 /// The law of the cells of a grid: they are those between its points by rows, each of which stays where it is.

@@ -1,5 +1,5 @@
 // A tile of samples, in which cells are hidden.
-ghost use Rattle.std.specs.Prelude.{ℕ, ◌≡◌, ◌<◌, ◌≤◌, ◌↔◌, true, [], ◌∷◌, map, IsTrue, IfOk, OnOk, List, length, slice_index_or, vec_capacity};
+ghost use Rattle.std.specs.Prelude.{ℕ, ◌≡◌, ◌<◌, ◌≤◌, ◌↔◌, true, [], ◌∷◌, map, IsTrue, IfOk, OnErr, OnOk, List, length, slice_index_or, vec_capacity};
 ghost use Rattle.hider.specs.declared.fragment.Fragment.{Fragment};
 ghost use Rattle.hider.specs.declared.sample.Sample.{Sample};
 ghost use Rattle.hider.specs.CellValues.{micropolygons_of, values_of};
@@ -89,11 +89,12 @@ impl Tile {
     }
 
     /// Makes it a tile of other pixels, with as many samples a pixel, at which nothing shows, as `new` would: over the memory
-    /// that it has, where that is enough.
+    /// that it has, where that is enough. After `NoMemory` it is the tile that it was.
     pub fn renew(&mut self, rect: [u32; 4]) -> Result<(), NoMemory>
         requires { IsSampleGrid (grid_of rect self.old.grid.xs self.old.grid.ys) }
         ensures grid { OnOk result (self.new.grid ≡ grid_of rect self.old.grid.xs self.old.grid.ys) }
         ensures empty { OnOk result (Shows self.new (λ s. [])) }
+        ensures refused { OnErr result (self.new ≡ self.old) }
     {
         let grid = grid_of(rect, self.grid.xs, self.grid.ys);
         let count = grid.count();

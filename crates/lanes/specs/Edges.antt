@@ -24,5 +24,6 @@ value_at ax ay dx dy x y = dx *ℤ (y -ℤ ay) -ℤ dy *ℤ (x -ℤ ax)
 abbrev pub least_of : ℤ → ℤ → ℤ
 least_of dx dy = cond (owns dx dy) (pos 0) (pos 1)
 
+-- the edge test as one comparison, by where the edge begins and its step
 unfoldable pub from_step : ℤ → ℤ → ℤ → ℤ → ℤ → ℤ → ℤ
 from_step ax ay dx dy x y = mask_of (int_le (least_of dx dy) (value_at ax ay dx dy x y))

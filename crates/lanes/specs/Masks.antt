@@ -10,18 +10,23 @@ mask_of t = cond t (negsuc 0) (pos 0)
 abbrev pub is_set : ℤ → Bool
 is_set m = int_lt m (pos 0)
 
+-- the mask of where a is less than b
 abbrev pub less : ℤ → ℤ → ℤ
 less a b = mask_of (int_lt a b)
 
+-- the mask of where a is at most b
 abbrev pub less_equal : ℤ → ℤ → ℤ
 less_equal a b = mask_of (int_le a b)
 
+-- the mask of where both are the same
 abbrev pub equal : ℤ → ℤ → ℤ
 equal a b = mask_of (int_eq a b)
 
+-- the mask of where both are set
 abbrev pub both : ℤ → ℤ → ℤ
 both a b = mask_of (is_set a && is_set b)
 
+-- the mask of where one is set
 abbrev pub either : ℤ → ℤ → ℤ
 either a b = mask_of (is_set a || is_set b)
 

@@ -55,6 +55,7 @@ ambient_gain (lights.ambient cl) = Some cl
 ambient_gain lights.unlit = None
 ambient_gain (lights.lit l cl) = None
 
+-- what one light adds to a sum of this kind
 abbrev pub gain : LightSum → List Value → Light → Option Vec3
 gain sums.Ambient _ l = ambient_gain l
 gain sums.Diffuse (n ∷ []) l = option_bind (shown [] l) (λ x. Some (diffused (triple_of n) x))

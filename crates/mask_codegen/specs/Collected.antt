@@ -17,6 +17,7 @@ source_registers (Copy q) = q ∷ []
 source_registers (Into s q) = q ∷ []
 source_registers (Apply op qs) = qs
 
+-- the registers that a block names, in order
 abbrev pub registers_of : Block → List Register
 registers_of end = []
 registers_of (put r o x) = (r ∷ source_registers o) ++ registers_of x

@@ -18,6 +18,7 @@ use Rattle.sl_meaning.specs.Lowered.{slots, body_of}
 use Rattle.sl_meaning.specs.Runs.{lights_in_all}
 use Rattle.mask_codegen.specs.declared.fault.CodeFault.{CodeFault}
 use Rattle.mask_codegen.specs.declared.fault.CodeFault.TheVariants.{M9, NoMemory}
+use Rattle.core_codegen.specs.Compile.{shader_code}
 use Rattle.core_codegen.specs.Correct.{Means}
 use Rattle.core_codegen.specs.Slots.{slots_of}
 
@@ -25,11 +26,12 @@ use Rattle.core_codegen.specs.Slots.{slots_of}
 abbrev pub look_up_numbers : T.Tree → List ℕ
 look_up_numbers t = map (λ n. n.number) (texture_nodes t)
 
--- a code of a settled tree: of its kind, with its parameters, meaning its body, with a statement over lights where the tree has one, in at most
--- sixteen rows for each one counted, with the tree's look-ups
+-- a code of a settled tree: of its kind, with its parameters, the text that its body is emitted as, which means it, with a statement over lights
+-- where the tree has one, in at most sixteen rows for each one counted, with the tree's look-ups
 pub record IsCodeOf (t : T.Tree) (c : Code) : Type 0 where
   pub kind : c.kind ≡ t.kind
   pub params : slots_of c.params ≡ slots t.params
+  pub text : block_of c.nodes ≡ shader_code (body_of t) (slots t.params)
   pub means : Means (body_of t) (slots t.params) (block_of c.nodes)
   pub settled : IsSettled t
   pub lights : has_light_statement (block_of c.nodes) ≡ lights_in_all (body_of t)

@@ -113,9 +113,10 @@ impl Compiled {
         self.binding.as_slice()
     }
 
-    /// The code, which is one of the tree, a settled one: of its kind, with its parameters, meaning its body, with a
-    /// statement over lights where the tree has one, in at most sixteen rows for each that the tree counts. Its
-    /// look-ups are those of the tree, in the order of the text.
+    /// The code, which is one of the tree, a settled one: of its kind, with its parameters, the text that its body is
+    /// emitted as, which means it, with a statement over lights where the tree has one, in at most sixteen rows for each
+    /// that the tree counts. Its look-ups are those of the tree, in the order of the text. So the law of uniform
+    /// registers holds of it.
     pub fn code(&self) -> &Code
         ensures code { result.now ≡ self.now.code }
         ensures means { IsCodeOf (tree_of self.now.tree) self.now.code }

@@ -10,10 +10,12 @@ abbrev pub GivesFault : {A : Type 0} → MeshFault → Result A MeshFault → Ty
 GivesFault NoMemory found = Unit {0}
 GivesFault fault found = found ≡ Err fault
 
+-- what the code answers is the list of patches, or its fault
 abbrev pub GivesPatches : Result (Vec Patch Global) MeshFault → Result (List Patch) MeshFault → Type 0
 GivesPatches (Ok v) found = found ≡ Ok v.items
 GivesPatches (Err fault) found = GivesFault fault found
 
+-- what it answers of a polygon is its pieces and its normal, or its fault
 abbrev pub GivesPolygon : Result (Vec Patch Global × Vec3) MeshFault → Result (List Patch × Vec3) MeshFault → Type 0
 GivesPolygon (Ok p) found = found ≡ Ok (p.0.items, p.1)
 GivesPolygon (Err fault) found = GivesFault fault found

@@ -20,6 +20,7 @@ use Rattle.mesh_basis.specs.declared.fault.MeshFault.TheVariants.{G5, M7}
 abbrev pub place_in : Shape → ℕ → ℕ → ℕ
 place_in s x y = s.nu * (y % s.nv) + x % s.nu
 
+-- the point of a mesh in a column and a row
 abbrev pub point_in : List Vec3 → Shape → ℕ → ℕ → Vec3
 point_in ps s x y = slice_index_or ps (place_in s x y) origin
 
@@ -45,6 +46,7 @@ bezier_point bu bv net x y = by_axes (λ a. bezier bu bv (control 4 net a) x y)
 abbrev pub bezier_row : Basis → Basis → List Vec3 → ℕ → List Vec3
 bezier_row bu bv net y = bezier_point bu bv net 0 y ∷ bezier_point bu bv net 1 y ∷ bezier_point bu bv net 2 y ∷ bezier_point bu bv net 3 y ∷ []
 
+-- the sixteen Bezier points of a net in the bases of both directions
 abbrev pub bezier_points : Basis → Basis → List Vec3 → List Vec3
 bezier_points bu bv net = bezier_row bu bv net 0 ++ (bezier_row bu bv net 1 ++ (bezier_row bu bv net 2 ++ (bezier_row bu bv net 3 ++ [])))
 
@@ -65,6 +67,7 @@ all_from f k (suc n) = with_next (f k) (all_from f (k + 1) n)
 abbrev pub patch_at : List Vec3 → Shape → ℕ → ℕ → Option Patch
 patch_at ps s m k = patch_in ps s (k % m) (k / m)
 
+-- all patches of a mesh, by rows, u fastest, or none where a point is out of range
 abbrev pub patches_in : List Vec3 → Shape → Counts → Option (List Patch)
 patches_in ps s c = if are_in_range ps then all_from (patch_at ps s c.along_u) 0 (c.along_u * c.along_v) else None
 

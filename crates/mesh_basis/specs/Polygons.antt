@@ -25,9 +25,11 @@ piece_corners n i = 0 ∷ (2 * i + 1) ∷ (if nat_lt (2 * i + 3) n then 2 * i + 
 abbrev pub point : List Vec3 → ℕ → Vec3
 point ps k = slice_index_or ps k origin
 
+-- piece i of a polygon
 abbrev pub piece_of : List Vec3 → ℕ → Patch
 piece_of ps i = Bilinear (map (point ps) (piece_corners (length ps) i))
 
+-- the bilinear pieces of a polygon about its first point
 abbrev pub pieces_of : List Vec3 → List Patch
 pieces_of ps = map (piece_of ps) (range_with_len 0 (piece_count (length ps)))
 
@@ -61,6 +63,7 @@ sum_from f k (suc n) = f k +ℤ sum_from f (k + 1) n
 abbrev pub turns : List Vec3 → Axis → ℤ
 turns ps a = sum_from (turn ps a) 1 (length ps - 2)
 
+-- the unit vector of an exact direction
 unfoldable pub direction : ℤ → ℤ → ℤ → Vec3
 direction x y z = record { x = unit_part x x y z; y = unit_part y x y z; z = unit_part z x y z }
 

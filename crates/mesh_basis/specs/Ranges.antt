@@ -3,6 +3,7 @@ use Rattle.std.specs.Prelude.{nat_le, ℤ, pos, neg_ℤ, unsigned_abs, Bool, is_
 use Rattle.std.specs.List.{list_all}
 use Rattle.fixed_math.specs.declared.vec3.Vec3.{Vec3}
 
+-- a raw of a magnitude of at most 2 ^ 30
 abbrev pub number_in_range : ℤ → Option ℤ
 number_in_range x = if nat_le (unsigned_abs x) 1073741824 then Some x else None
 

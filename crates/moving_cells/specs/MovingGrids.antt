@@ -1,5 +1,6 @@
 -- The micropolygons of a grid whose points move, each on the straight way from its place to its closing place.
 use Rattle.std.specs.Prelude.{ℕ, ◌≤◌, Bool, Option, Some, None, option_map, List, slice_index_or}
+use Rattle.std.proofs.Common.{arith}
 use Rattle.fixed_math.specs.declared.vec3.Vec3.{Vec3}
 use Rattle.fixed_math.specs.declared.vec3.Axis.{Axis}
 use Rattle.fixed_math.specs.Axes.{part_of, origin}
@@ -19,6 +20,7 @@ abbrev pub moving_values : Bool → ℕ → ℕ → List Vec3 → List Vec3 → 
 moving_values smooth columns rows points colours opacities closing =
     record (grid_values smooth columns rows points colours opacities) { corner = λ i k t. point_when closing points (corner_number columns (first_corner columns i) k) t }
 
+-- the cells of a grid in an arena
 abbrev pub values_when : Bool → GridRef → CellValues
 values_when smooth g = moving_values smooth g.columns g.rows g.p.now g.ci.now g.oi.now (option_map (λ q. q.now) g.closing)
 
@@ -29,4 +31,4 @@ point-between None points n s t u a h k = stays_between _
 point-between (Some closing) points n s t u a h k = place-between s t u (slice_index_or points n origin) (slice_index_or closing n origin) a h k
 
 pub moving-between : (smooth : Bool) (g : GridRef) → MovesBetween (values_when smooth g)
-moving-between smooth g i k s t u a hi hk hs hu = point-between (option_map (λ q. q.now) g.closing) g.p.now (corner_number g.columns (first_corner g.columns i) k) s t u a hs hu
+moving-between smooth g i k t a hi hk ht = point-between (option_map (λ q. q.now) g.closing) g.p.now (corner_number g.columns (first_corner g.columns i) k) 0 t 65535 a (omega arith) ht

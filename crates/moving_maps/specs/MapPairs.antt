@@ -21,6 +21,7 @@ pub record MapPair : Type 0 where
 abbrev pub IsMapPair : MapPair → Type 0
 IsMapPair p = p.times ≡ Still → p.first ≡ p.last
 
+-- the pair of what doesn't move
 abbrev pub still : Map → MapPair
 still m = record { first = m; last = m; times = Still }
 
@@ -38,11 +39,13 @@ is_first Always = true
 is_first (First from to) = true
 is_first (Last from to) = false
 
+-- a request changes the map of the last time
 abbrev pub is_last : When → Bool
 is_last Always = true
 is_last (First from to) = false
 is_last (Last from to) = true
 
+-- the map of one time after a change that is of that time or isn't
 abbrev pub map_behind : Bool → Change → Map → Result Map FormFault
 map_behind true k c = changed k c
 map_behind false k c = Ok c

@@ -6,10 +6,12 @@ use Rattle.number_rows.specs.declared.plane.Plane.TheVariants.{Row, Value}
 use Rattle.number_rows.specs.declared.plane.Planes.{Planes}
 use Rattle.number_rows.specs.declared.plane.TripleRows.{TripleRows}
 
+-- the number at a place of what is a row, or one value for all places
 abbrev pub plane_at : Plane → ℕ → ℤ
 plane_at (Row r) i = get_or r.now i (pos 0)
 plane_at (Value x) i = x
 
+-- the triple at a place of three such
 abbrev pub triple_at : Planes → ℕ → Vec3
 triple_at p i = record { x = plane_at p.x i; y = plane_at p.y i; z = plane_at p.z i }
 
@@ -18,6 +20,7 @@ abbrev pub IsPlane : ℕ → Plane → Type 0
 IsPlane n (Row r) = n ≤ length r.now
 IsPlane n (Value x) = Unit {0}
 
+-- three planes for so many places
 pub record ArePlanes (n : ℕ) (p : Planes) : Type 0 where
   pub x : IsPlane n p.x
   pub y : IsPlane n p.y

@@ -35,14 +35,17 @@ taken_of piece h = min (min (length piece) h.most) h.room
 abbrev pub after_failure : HeldFrames → HeldFrames
 after_failure h = record { written = h.written; is_open = h.is_open; room = h.room; most = h.most; log = called false h.log }
 
+-- the sink after a begin: with one entry more, or with one failure more
 abbrev pub after_begin : {T E : Type 0} → List ℕ → Result T E → HeldFrames → HeldFrames
 after_begin name (Ok x) h = record { written = h.written ++ begun name ∷ []; is_open = true; room = h.room - (length name + 1); most = h.most; log = called true h.log }
 after_begin name (Err e) h = after_failure h
 
+-- the sink after a put: with a front of the piece at the last entry
 abbrev pub after_put : {E : Type 0} → List ℕ → Result ℕ E → HeldFrames → HeldFrames
 after_put piece (Ok n) h = record { written = with_bytes (take n piece) h.written; is_open = true; room = h.room - n; most = h.most; log = called true h.log }
 after_put piece (Err e) h = after_failure h
 
+-- the sink after an end: the last entry is ended
 abbrev pub after_end : {T E : Type 0} → Result T E → HeldFrames → HeldFrames
 after_end (Ok x) h = record { written = with_end h.written; is_open = false; room = h.room; most = h.most; log = called true h.log }
 after_end (Err e) h = after_failure h

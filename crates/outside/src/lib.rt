@@ -17,8 +17,6 @@ mod roles;
 mod say;
 mod sink;
 mod stderr_notes;
-#[cfg(test)]
-mod tests;
 
 pub use file_library::FileLibrary;
 pub use file_sink::FileSink;

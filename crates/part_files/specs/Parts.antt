@@ -46,6 +46,7 @@ abbrev pub asked_behind : List ℕ → Result (List (List ℕ)) JoinCause → Li
 asked_behind file (Ok texts) names = names ++ file ∷ []
 asked_behind file (Err cause) names = names
 
+-- the names of the parts' files, in order, up to the first that is missing or too long
 abbrev pub asked_parts : Files → List ℕ → ℕ → List (List ℕ)
 asked_parts files name zero = []
 asked_parts files name (suc n) = asked_behind (part_name name n) (first_parts files name n) (asked_parts files name n)
@@ -68,6 +69,7 @@ abbrev pub MakeNone : Result (List (List ℕ)) JoinCause → JoinCause → Type 
 MakeNone (Ok texts) cause = (fault : JoinFault) × (cause_of_fault fault ≡ Some cause) × IsFault texts fault
 MakeNone (Err first) cause = cause ≡ first
 
+-- the text of a code of joining
 abbrev pub join_code_text : JoinCode → List ℕ
 join_code_text J1 = codes "J1"
 join_code_text J2 = codes "J2"
@@ -75,6 +77,7 @@ join_code_text J3 = codes "J3"
 join_code_text J4 = codes "J4"
 join_code_text M10 = codes "M10"
 
+-- the status of a fault of joining
 abbrev pub status_of_join_code : JoinCode → ℕ
 status_of_join_code J1 = 3
 status_of_join_code J2 = 3
@@ -82,6 +85,7 @@ status_of_join_code J3 = 3
 status_of_join_code J4 = 3
 status_of_join_code M10 = 5
 
+-- the status of a command whose parts can't be joined
 abbrev pub status_of_join : JoinCause → ℕ
 status_of_join (Missing part) = 6
 status_of_join (At part code) = status_of_join_code code

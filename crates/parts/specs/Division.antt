@@ -11,6 +11,7 @@ pub record Table : Type 0 where
   pub header : Header
   pub level : ℕ → ℕ → ℕ → ℕ
 
+-- a table of numbers within the limits of its header
 pub record IsTable (t : Table) : Type 0 where
   pub header : IsHeader t.header
   pub levels : (x y k : ℕ) → x < t.header.width → y < t.header.height → k < 3 → t.level x y k ≤ t.header.one
@@ -22,6 +23,7 @@ level_bytes one level = if nat_le one 255 then level ∷ [] else level / 256 ∷
 abbrev pub pixel_bytes : ℕ → (ℕ → ℕ) → List ℕ
 pixel_bytes one level = level_bytes one (level 0) ++ (level_bytes one (level 1) ++ level_bytes one (level 2))
 
+-- the bytes of a pixel of a table
 abbrev pub table_pixel : Table → ℕ → ℕ → List ℕ
 table_pixel t x y = pixel_bytes t.header.one (t.level x y)
 
@@ -33,6 +35,7 @@ bucket_pixels t n = run (area t.header n) (λ p. table_pixel t (pixel_x (bucket 
 abbrev pub bucket_of : Table → ℕ → Bucket
 bucket_of t n = record { number = n; pixels = bucket_pixels t n }
 
+-- the part of a table's picture that has the buckets of these numbers
 abbrev pub part_of : Table → List ℕ → Part
 part_of t ns = record { header = t.header; buckets = map (bucket_of t) ns }
 

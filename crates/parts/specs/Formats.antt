@@ -11,6 +11,7 @@ pub record Bucket : Type 0 where
   pub number : ℕ
   pub pixels : List ℕ
 
+-- a part of a picture: its header, and some buckets
 pub record Part : Type 0 where
   pub header : Header
   pub buckets : List Bucket
@@ -19,6 +20,7 @@ pub record Part : Type 0 where
 abbrev pub no_bucket : Bucket
 no_bucket = record { number = 0; pixels = [] }
 
+-- what stands for a part past the end of a list
 abbrev pub no_part : Part
 no_part = record { header = record { width = 0; height = 0; one = 0; side = 0; tag = 0 }; buckets = [] }
 
@@ -26,6 +28,7 @@ no_part = record { header = record { width = 0; height = 0; one = 0; side = 0; t
 abbrev pub IsIn : ℕ → List ℕ → Type 0
 IsIn n ns = (k : ℕ) × (k < length ns) × (get_or ns k 0 ≡ n)
 
+-- the numbers of buckets
 abbrev pub bucket_numbers : List Bucket → List ℕ
 bucket_numbers bs = map (λ (b : Bucket). b.number) bs
 
@@ -45,9 +48,11 @@ with_header h count bytes = magic ++ (word h.width ++ (word h.height ++ (word h.
 abbrev pub bucket_text : Bucket → List ℕ
 bucket_text b = word b.number ++ b.pixels
 
+-- the bytes of buckets, one after another
 abbrev pub buckets_text : List Bucket → List ℕ
 buckets_text bs = flat_map bucket_text bs
 
+-- the bytes of a part
 abbrev pub part_text : Part → List ℕ
 part_text p = with_header p.header (length p.buckets) (buckets_text p.buckets)
 
@@ -63,6 +68,7 @@ channel one bytes k = if nat_le one 255 then get_or bytes k 0 else get_or bytes 
 abbrev pub frame : Header → PixelRect
 frame h = whole_frame h.width h.height
 
+-- how many buckets the whole picture has
 abbrev pub bucket_total : Header → ℕ
 bucket_total h = bucket_count h.side (frame h)
 
@@ -126,12 +132,15 @@ pub record IsParsed (bytes : List ℕ) (p : Part) : Type 0 where
 abbrev pub HasNoBucket : Header → ℕ → List ℕ → Type 0
 HasNoBucket h least bytes = (b : Bucket) (rest : List ℕ) → IsFirst h least bytes b rest → ⊥
 
+-- the bytes are no buckets of this picture
 abbrev pub AreNotBuckets : Header → ℕ → List ℕ → Type 0
 AreNotBuckets h n bytes = (bs : List Bucket) → AreAll h n bytes bs → ⊥
 
+-- the bytes begin with no header
 abbrev pub HasNoHead : List ℕ → Type 0
 HasNoHead bytes = (h : Header) (n : ℕ) (rest : List ℕ) → IsHead bytes h n rest → ⊥
 
+-- bytes that are no part
 abbrev pub IsNoPart : List ℕ → Type 0
 IsNoPart bytes = (p : Part) → IsParsed bytes p → ⊥
 

@@ -34,9 +34,11 @@ pub record IsForeign (ps : List Part) (i : ℕ) : Type 0 where
 abbrev pub Has : List Part → ℕ → ℕ → Type 0
 Has ps i n = IsIn n (bucket_numbers (get_or ps i no_part).buckets)
 
+-- some part has bucket n
 abbrev pub SomeHas : List Part → ℕ → Type 0
 SomeHas ps n = (i : ℕ) × Has ps i n
 
+-- a part before part i has bucket n
 abbrev pub EarlierHas : List Part → ℕ → ℕ → Type 0
 EarlierHas ps i n = (j : ℕ) × (j < i) × Has ps j n
 
@@ -62,10 +64,12 @@ pub record AreOfOne (texts : List (List ℕ)) (ps : List Part) : Type 0 where
   pub parsed : AreParsed texts ps
   pub alike : AreAlike ps (length ps)
 
+-- the texts are parts of one picture, and this bucket stands in two of them
 pub record IsDoubledIn (texts : List (List ℕ)) (ps : List Part) (part bucket : ℕ) : Type 0 where
   pub of_one : AreOfOne texts ps
   pub doubled : IsDoubled ps part bucket
 
+-- the texts are parts of one picture, and this bucket stands in none
 pub record IsMissingIn (texts : List (List ℕ)) (ps : List Part) (bucket : ℕ) : Type 0 where
   pub of_one : AreOfOne texts ps
   pub disjoint : AreDisjoint ps

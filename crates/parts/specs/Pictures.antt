@@ -43,6 +43,7 @@ run (suc n) f = run n f ++ f n
 unfoldable pub ppm_header : Header → List ℕ
 ppm_header h = 80 ∷ 54 ∷ 10 ∷ [] ++ decimal h.width ++ 32 ∷ [] ++ decimal h.height ++ 10 ∷ [] ++ decimal h.one ++ 10 ∷ []
 
+-- a picture whose pixels are given, in the format PPM
 abbrev pub picture : Header → (ℕ → ℕ → List ℕ) → List ℕ
 picture h pixel = ppm_header h ++ run (h.width * h.height) (λ p. pixel (p % h.width) (p / h.width))
 

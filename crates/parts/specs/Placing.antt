@@ -23,6 +23,7 @@ abbrev pub placed_from : ℕ → List Part → List Placed
 placed_from part [] = []
 placed_from part (p ∷ ps) = placed_in part p.buckets ++ placed_from (part + 1) ps
 
+-- the number of bucket k of all parts
 abbrev pub number_of : List Placed → ℕ → ℕ
 number_of all k = (get_or all k not_placed).bucket.number
 

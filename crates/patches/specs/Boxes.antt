@@ -10,6 +10,7 @@ pub record Box : Type 0 where
   pub low : Vec3
   pub high : Vec3
 
+-- the least and the greatest corner of a box
 abbrev pub corners : Box → List Vec3
 corners b = b.low ∷ b.high ∷ []
 
@@ -43,5 +44,6 @@ pub record HasRows (width : ℕ) (net : List Vec3) : Type 0 where
   pub some : 0 < length net
   pub rows : length net % width ≡ 0
 
+-- a law: each net has as many points as its width says
 abbrev pub NetsHaveRows : {S : Type 0} → (S → ℕ) → (S → Rect → List Vec3) → Type 0
 NetsHaveRows {S} width net = (s : S) (r : Rect) → HasRows (width s) (net s r)

@@ -17,6 +17,7 @@ use Rattle.patches.specs.Slopes.{triple, AreBelow}
 unfoldable pub value_at : Cubic → ℕ → ℤ
 value_at c u = c.constant +ℤ (pos u *ℤ c.linear +ℤ (pos (u * u) *ℤ c.square +ℤ pos (u * u * u) *ℤ c.cube))
 
+-- the derivative of a polynomial of u
 unfoldable pub slope_at : Cubic → ℕ → ℤ
 slope_at c u = c.linear +ℤ (pos (2 * u) *ℤ c.square +ℤ pos (3 * (u * u)) *ℤ c.cube)
 
@@ -24,9 +25,11 @@ slope_at c u = c.linear +ℤ (pos (2 * u) *ℤ c.square +ℤ pos (3 * (u * u)) *
 abbrev pub place_at : Coordinate → ℕ → ℤ
 place_at c u = sat (floor_by (value_at c.place u) (denominator ^ 6))
 
+-- a coordinate of the derivative along u, rounded down once
 abbrev pub across_at : Coordinate → ℕ → ℤ
 across_at c u = floor_by (slope_at c.place u) (denominator ^ 5)
 
+-- a coordinate of the derivative along v, rounded down once
 abbrev pub up_at : Coordinate → ℕ → ℤ
 up_at c u = floor_by (value_at c.rise u) (denominator ^ 5)
 
@@ -35,12 +38,15 @@ along X c = c.x
 along Y c = c.y
 along Z c = c.z
 
+-- the point of a curve at u
 abbrev pub curve_point : Curve → ℕ → Vec3
 curve_point c u = by_axes (λ a. place_at (along a c) u)
 
+-- the derivative along u there
 abbrev pub curve_du : Curve → ℕ → List ℤ
 curve_du c u = triple (λ a. across_at (along a c) u)
 
+-- the derivative along v there
 abbrev pub curve_dv : Curve → ℕ → List ℤ
 curve_dv c u = triple (λ a. up_at (along a c) u)
 

@@ -35,9 +35,11 @@ all_ends (suc a) b l h = ends (suc a) b l h ∷ all_ends a (suc b) l h
 abbrev pub net_points : ℕ → ℕ → ℕ → List Vec3 → Rect → List Vec3
 net_points n w d ps r = grid (blossom_point w d ps) (all_ends n 0 r.left r.right) (all_ends n 0 r.bottom r.top)
 
+-- the control net of a bilinear patch over a rectangle: two by two points
 abbrev pub bilinear_net : List Vec3 → Rect → List Vec3
 bilinear_net ps r = net_points 1 2 (denominator ^ 2) ps r
 
+-- that of a bicubic patch: four by four
 abbrev pub bicubic_net : List Vec3 → Rect → List Vec3
 bicubic_net ps r = net_points 3 4 (denominator ^ 6) ps r
 

@@ -10,6 +10,7 @@ pub record Part : Type 0 where
   pub b : ℕ
   pub j : ℕ
 
+-- a part that at most eight halvings each way have made
 pub record IsPart (p : Part) : Type 0 where
   pub depth_u : p.a ≤ 8
   pub depth_v : p.b ≤ 8
@@ -28,12 +29,15 @@ whole_of prim = record { prim = prim; a = 0; i = 0; b = 0; j = 0 }
 abbrev pub low_u : Part → Part
 low_u p = record { prim = p.prim; a = p.a + 1; i = 2 * p.i; b = p.b; j = p.j }
 
+-- the upper half along u
 abbrev pub high_u : Part → Part
 high_u p = record { prim = p.prim; a = p.a + 1; i = 2 * p.i + 1; b = p.b; j = p.j }
 
+-- the lower half along v
 abbrev pub low_v : Part → Part
 low_v p = record { prim = p.prim; a = p.a; i = p.i; b = p.b + 1; j = 2 * p.j }
 
+-- the upper half along v
 abbrev pub high_v : Part → Part
 high_v p = record { prim = p.prim; a = p.a; i = p.i; b = p.b + 1; j = 2 * p.j + 1 }
 

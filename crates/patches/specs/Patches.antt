@@ -11,18 +11,22 @@ use Rattle.patches.specs.Nets.{bilinear_point, bilinear_net, bicubic_point, bicu
 use Rattle.patches.specs.Slopes.{bilinear_du, bilinear_dv, bicubic_du, bicubic_dv}
 use Rattle.patches.specs.BoxLaws.{blossom_point-within, bilinear_point-blossom, bilinear_box, bilinear_inside, bilinear_parts, bilinear_rows, bicubic_point-blossom, bicubic_box, bicubic_inside, bicubic_parts, bicubic_rows}
 
+-- the point of a patch at u, v
 abbrev pub patch_point : Patch → ℕ → ℕ → Vec3
 patch_point (Bilinear ps) u v = bilinear_point ps u v
 patch_point (Bicubic ps) u v = bicubic_point ps u v
 
+-- its derivative along u
 abbrev pub patch_du : Patch → ℕ → ℕ → List ℤ
 patch_du (Bilinear ps) u v = bilinear_du ps u v
 patch_du (Bicubic ps) u v = bicubic_du ps u v
 
+-- its derivative along v
 abbrev pub patch_dv : Patch → ℕ → ℕ → List ℤ
 patch_dv (Bilinear ps) u v = bilinear_dv ps u v
 patch_dv (Bicubic ps) u v = bicubic_dv ps u v
 
+-- its control net over a rectangle
 abbrev pub patch_net : Patch → Rect → List Vec3
 patch_net (Bilinear ps) r = bilinear_net ps r
 patch_net (Bicubic ps) r = bicubic_net ps r
@@ -32,6 +36,7 @@ abbrev pub patch_width : Patch → ℕ
 patch_width (Bilinear ps) = 2
 patch_width (Bicubic ps) = 4
 
+-- the least box of that net
 abbrev pub patch_box : Patch → Rect → Box
 patch_box (Bilinear ps) r = bilinear_box ps r
 patch_box (Bicubic ps) r = bicubic_box ps r

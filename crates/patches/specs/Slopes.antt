@@ -14,6 +14,7 @@ use Rattle.patches.specs.Nets.{control}
 abbrev pub steps_u : (ℕ → ℕ → ℤ) → ℕ → ℕ → ℤ
 steps_u c x y = c (x + 1) y -ℤ c x y
 
+-- the difference of neighbours along v
 abbrev pub steps_v : (ℕ → ℕ → ℤ) → ℕ → ℕ → ℤ
 steps_v c x y = c x (y + 1) -ℤ c x y
 
@@ -29,15 +30,19 @@ weights_2 u = (denominator - u) * (denominator - u) ∷ 2 * ((denominator - u) *
 abbrev pub triple : (Axis → ℤ) → List ℤ
 triple f = f X ∷ f Y ∷ f Z ∷ []
 
+-- the derivative of a bilinear patch along u
 abbrev pub bilinear_du : List Vec3 → ℕ → ℕ → List ℤ
 bilinear_du ps u v = triple (λ a. floor_by (weighted_net weights_0 (weights_1 v) (steps_u (control 2 ps a))) denominator)
 
+-- that along v
 abbrev pub bilinear_dv : List Vec3 → ℕ → ℕ → List ℤ
 bilinear_dv ps u v = triple (λ a. floor_by (weighted_net (weights_1 u) weights_0 (steps_v (control 2 ps a))) denominator)
 
+-- the derivative of a bicubic patch along u
 abbrev pub bicubic_du : List Vec3 → ℕ → ℕ → List ℤ
 bicubic_du ps u v = triple (λ a. floor_by (pos 3 *ℤ weighted_net (weights_2 u) (weights_3 v) (steps_u (control 4 ps a))) (denominator ^ 5))
 
+-- that along v
 abbrev pub bicubic_dv : List Vec3 → ℕ → ℕ → List ℤ
 bicubic_dv ps u v = triple (λ a. floor_by (pos 3 *ℤ weighted_net (weights_3 u) (weights_2 v) (steps_v (control 4 ps a))) (denominator ^ 5))
 

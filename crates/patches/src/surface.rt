@@ -45,9 +45,12 @@ pub trait Surface {
         ensures small { AreBelow (2 ^ 40) result };
 
     /// The curve at `v`, by which many points and derivatives are had at a small part of the cost of single ones; none where
-    /// the surface isn't polynomial along u.
+    /// the surface isn't polynomial along u, and by default: it is about speed alone.
     fn curve_at(&self, v: Dyadic) -> Option<Curve>
-        ensures { IfSome result (λ curve. IsCurve curve (λ u. point_of self.now u v) (λ u. du_of self.now u v) (λ u. dv_of self.now u v)) };
+        ensures { IfSome result (λ curve. IsCurve curve (λ u. point_of self.now u v) (λ u. du_of self.now u v) (λ u. dv_of self.now u v)) }
+    {
+        None
+    }
 
     /// The control points of the surface over a piece, by rows of `net_width` points, u fastest.
     fn net(&self, piece: &Piece) -> ArrayVec<Vec3, 16>

@@ -31,6 +31,7 @@ size b shapes.Number = length b.numbers.items
 size b shapes.Triple = length b.xs.items
 size b shapes.Word = length b.words.items
 
+-- the value of a shape that a bank has at a place
 abbrev pub held : Bank → Shape → ℕ → Cell
 held b shapes.Number k = Number (get_or b.numbers.items k (pos 0))
 held b shapes.Triple k = Triple (triple_in b.xs.items b.ys.items b.zs.items k)

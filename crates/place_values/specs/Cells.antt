@@ -18,6 +18,7 @@ abbrev pub text_at : List (Bor (List ℕ)) → ℕ → List ℕ
 text_at ts zero = []
 text_at ts (suc k) = text_or_empty (slice_get ts k)
 
+-- the value that a cell stands for: a text is its place in a list
 abbrev pub value_of : List (Bor (List ℕ)) → Cell → Value
 value_of ts (Number x) = values.Number x
 value_of ts (Triple t) = values.Triple t

@@ -35,11 +35,13 @@ plain_on_way n (plain.Bilinear p) (plain.Bilinear q) = Some (plain.Bilinear (poi
 plain_on_way n (plain.Bicubic p) (plain.Bicubic q) = Some (plain.Bicubic (points_on_way n p q))
 plain_on_way n _ _ = None
 
+-- a patch of a quadric that has made n steps from one to another of its kind
 abbrev pub quadric_on_way : ℕ → Quadric → Quadric → Option Quadric
 quadric_on_way n (round.Round p) (round.Round q) = Some (round.Round (points_on_way n p q))
 quadric_on_way n (round.Ruled p) (round.Ruled q) = Some (round.Ruled (points_on_way n p q))
 quadric_on_way n _ _ = None
 
+-- a patch of any kind that has made n steps
 abbrev pub patch_on_way : ℕ → AnyPatch → AnyPatch → Option AnyPatch
 patch_on_way n (kinds.Plain p) (kinds.Plain q) = option_map (λ k. kinds.Plain k) (plain_on_way n p q)
 patch_on_way n (kinds.Quadric p) (kinds.Quadric q) = option_map (λ k. kinds.Quadric k) (quadric_on_way n p q)
@@ -77,6 +79,7 @@ of_both (Err e) last go = Err e
 of_both (Ok ps) (Err e) go = Err e
 of_both (Ok ps) (Ok qs) go = go ps qs
 
+-- what the patches of both times give together, or the first fault
 abbrev pub both_moved : ShiftValue → Made → Made → Made
 both_moved s first last = of_both first last (λ ps qs. Ok (moved s ps qs))
 

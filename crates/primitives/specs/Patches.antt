@@ -70,6 +70,7 @@ mesh_counted params shape room ps (Some c) =
     else if nat_lt room (c.along_u * c.along_v) then Err M3
     else all_seated Plain params (mesh_seat shape c) (patches_in ps shape c)
 
+-- the patches of a mesh of these points, or what is refused first
 abbrev pub mesh_patches : List Param → Shape → ℕ → List Vec3 → Made
 mesh_patches params shape room ps = mesh_counted params shape room ps (counts_of shape (length ps))
 

@@ -14,6 +14,7 @@ item xs k = slice_index_or xs k (pos 0)
 abbrev pub saturated : List ℤ → Vec3
 saturated xs = record { x = sat (item xs 0); y = sat (item xs 1); z = sat (item xs 2) }
 
+-- a point in camera space, kept within the range of numbers
 abbrev pub camera_point : Map → Vec3 → Vec3
 camera_point m p = saturated (point_of m p)
 

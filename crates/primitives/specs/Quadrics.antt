@@ -53,9 +53,11 @@ round_in_range ps = if are_in_range ps then Some (Round ps) else None
 abbrev ruled_in_range : List Vec3 → Option Quadric
 ruled_in_range ps = if are_in_range ps then Some (Ruled ps) else None
 
+-- a patch of a sphere, between quarters of three circles in camera space
 unfoldable pub round_at : Map → ℕ → Circle → Circle → Circle → Option Quadric
 round_at m quarter a b c = round_in_range (placed_arc m quarter a ++ (placed_arc m quarter b ++ placed_arc m quarter c))
 
+-- a patch of straight lines, between quarters of two circles
 unfoldable pub ruled_at : Map → ℕ → Circle → Circle → Option Quadric
 ruled_at m quarter a b = ruled_in_range (placed_arc m quarter a ++ placed_arc m quarter b)
 

@@ -6,6 +6,7 @@ pub record ShiftValue : Type 0 where
   pub opening : ℕ
   pub closing : Option ℕ
 
+-- both numbers of steps are at most 65,536
 pub record IsShift (s : ShiftValue) : Type 0 where
   pub opens : s.opening ≤ 65536
   pub closes : IfSome s.closing (λ n. n ≤ 65536)

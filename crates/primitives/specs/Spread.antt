@@ -35,6 +35,7 @@ abbrev pub corner_texts : ℕ → List (List ℕ) → List (List ℕ)
 corner_texts halves [] = []
 corner_texts halves (t ∷ ts) = map (λ _. t) (range_with_len 0 (corners_in halves))
 
+-- the values of a variable at all corners of a quadric's patches
 abbrev pub corner_values : ℕ → Kind → Values → Values
 corner_values halves k (Numbers xs) = Numbers (corner_numbers halves (width k) xs)
 corner_values halves k (Strings ts) = Strings (corner_texts halves ts)
@@ -48,6 +49,7 @@ spread_param halves p = record {
   values = if varies p.class then corner_values halves p.kind p.values else p.values;
 }
 
+-- the variables of a quadric with a value at each corner of its patches
 abbrev pub spread : ℕ → List Param → List Param
 spread halves ps = map (spread_param halves) ps
 

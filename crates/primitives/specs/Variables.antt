@@ -35,6 +35,7 @@ values_in FaceVarying e = e.corners
 abbrev pub is_counted : Extent → Param → Bool
 is_counted e p = count p.values == width p.kind * values_in p.class e
 
+-- each variable has as many values as its class asks for
 abbrev pub are_counted : Extent → List Param → Bool
 are_counted e ps = list_all (is_counted e) ps
 
@@ -96,6 +97,7 @@ quadric_extent = record { faces = 1; points = 4; corners = 4 }
 abbrev pub quadric_corners : ℕ → ℕ → List ℕ
 quadric_corners halves k = patch_corners 5 (halves + 1) (k % 4) (k / 4)
 
+-- where patch k of a quadric stands among its corners
 abbrev pub quadric_seat : ℕ → ℕ → Seat
 quadric_seat halves k = record { place = (k % 4) ∷ 4 ∷ (k / 4) ∷ halves ∷ []; face = 0; points = quadric_corners halves k; corners = quadric_corners halves k }
 

@@ -8,18 +8,22 @@ use Rattle.quadrics.specs.declared.any_patch.AnyPatch.{AnyPatch}
 use Rattle.quadrics.specs.declared.any_patch.AnyPatch.TheVariants.{Plain, Quadric}
 use Rattle.quadrics.specs.Quadrics.{quadric_point, quadric_du, quadric_dv, quadric_net, quadric_box, quadric_inside, quadric_parts, quadric_rows, IsSmallQuadric, quadric_point-within}
 
+-- the point of any patch of a scene, a plain one or one of a quadric
 abbrev pub patch_point : AnyPatch → ℕ → ℕ → Vec3
 patch_point (Plain p) u v = plain_point p u v
 patch_point (Quadric q) u v = quadric_point q u v
 
+-- its derivative along u
 abbrev pub patch_du : AnyPatch → ℕ → ℕ → List ℤ
 patch_du (Plain p) u v = plain_du p u v
 patch_du (Quadric q) u v = quadric_du q u v
 
+-- its derivative along v
 abbrev pub patch_dv : AnyPatch → ℕ → ℕ → List ℤ
 patch_dv (Plain p) u v = plain_dv p u v
 patch_dv (Quadric q) u v = quadric_dv q u v
 
+-- its control net over a rectangle
 abbrev pub patch_net : AnyPatch → Rect → List Vec3
 patch_net (Plain p) r = plain_net p r
 patch_net (Quadric q) r = quadric_net q r
@@ -29,6 +33,7 @@ abbrev pub patch_width : AnyPatch → ℕ
 patch_width (Plain p) = plain_width p
 patch_width (Quadric q) = 3
 
+-- the least box of that net
 abbrev pub patch_box : AnyPatch → Rect → Box
 patch_box (Plain p) r = plain_box p r
 patch_box (Quadric q) r = quadric_box q r

@@ -19,7 +19,7 @@ use Rattle.command_line.specs.Command.{SceneTask, Command, OnScene, Join, comman
 use Rattle.buckets.specs.declared.limits.DrawFault.{DrawFault}
 use Rattle.buckets.specs.declared.limits.DrawFault.TheVariants as drawing
 use Rattle.acceptance.specs.Causes as causes
-use Rattle.acceptance.specs.Causes.{Cause}
+use Rattle.acceptance.specs.Causes.{Cause, Reads}
 use Rattle.acceptance.specs.Answers.{Because}
 use Rattle.acceptance.specs.Codes.{status_of_code}
 use Rattle.acceptance.specs.declared.refusal.Refusal.{Refusal}
@@ -32,8 +32,9 @@ use Rattle.render.specs.Summary.{summary_of}
 use Rattle.part_files.specs.Parts.{status_of_join_code, first_parts, MakePicture}
 use Rattle.part_files.specs.declared.cause.JoinCause.{JoinCause}
 use Rattle.part_files.specs.declared.cause.JoinCause.TheVariants as joins
-use Rattle.render.specs.Verdict.{Verdict, Usage, Refused, Unjoined, Accepted, Entries, verdict_of_accepted, verdict_of_scene, IsVerdict, IsNone, status_of, pictures_of}
-use Rattle.render.specs.Run.{is_accepted}
+use Rattle.acceptance.specs.Accepting.{accepted}
+use Rattle.render.specs.Verdict.{Verdict, Usage, Refused, Unjoined, Accepted, Entries, text_of_source, verdict_of_accepted, verdict_of_text, verdict_of_scene, IsVerdict, IsOfKind, IsNone, status_of, pictures_of}
+use Rattle.render.specs.Run.{is_accepted, joins_parts}
 use Rattle.render.specs.Lines.{first_summaries, summaries_of, scene_of, status_lines, refusal_lines, failure_lines}
 use Rattle.render.specs.Course.{Ends, Course}
 use Rattle.render.specs.declared.load.Loaded.{Loaded}
@@ -43,10 +44,33 @@ use Rattle.render.proofs.Courses.{ends-none, ends-all, ends-part, ends-next-part
 
 -- the verdict where it is told, whichever otherwise; on parts, that there is none
 abbrev verdict_told : Option Command → Option Files → Verdict
-verdict_told command None = Usage
-verdict_told None (Some files) = Usage
+verdict_told None held = Usage
+verdict_told (Some (OnScene t)) None = Refused (causes.Missing [])
 verdict_told (Some (OnScene t)) (Some files) = verdict_of_scene t files
-verdict_told (Some (Join name count)) (Some files) = Entries []
+verdict_told (Some (Join name count)) held = Entries []
+
+-- it is one that the command can have
+abbrev IsOwn : Option Command → Answer → Verdict → Type 0
+IsOwn command a v = IsOfKind command v ⊎ (IsNone command v × Fails a)
+
+refused-own : (t : SceneTask) (a : Answer) (cause : Cause) → IsOwn (Some (OnScene t)) a (Refused cause)
+refused-own t a cause = inl ([], Err cause, refl)
+
+pub accepted-kind : (t : SceneTask) (wanted : Action) (text : List ℕ) (s : AcceptedValue) → t.action ≡ wanted → IsOfKind (Some (OnScene t)) (verdict_of_accepted wanted t.options text s)
+accepted-kind t wanted text s is = (text, Ok s, ap (λ w. verdict_of_accepted w t.options text s) (sym is))
+
+accepted-own : (t : SceneTask) (a : Answer) (wanted : Action) (text : List ℕ) (s : AcceptedValue) → t.action ≡ wanted → IsOwn (Some (OnScene t)) a (verdict_of_accepted wanted t.options text s)
+accepted-own t a wanted text s is = inl (accepted-kind t wanted text s is)
+
+text-own : (t : SceneTask) (a : Answer) (files : Files) (read : Reads (List ℕ)) → IsOwn (Some (OnScene t)) a (verdict_of_text t.action t.options files read)
+text-own t a files (Ok text) = inl (text, accepted files text, refl)
+text-own t a files (Err cause) = refused-own t a cause
+
+told-own : (command : Option Command) (held : Option Files) (a : Answer) → Fails a → IsOwn command a (verdict_told command held)
+told-own None held a fails = inl refl
+told-own (Some (OnScene t)) None a fails = refused-own t a (causes.Missing [])
+told-own (Some (OnScene t)) (Some files) a fails = text-own t a files (text_of_source files t.source)
+told-own (Some (Join name count)) held a fails = inr (refl, fails)
 
 told_itself : (command : Option Command) (held : Option Files) (a : Answer) → Fails a → Told held (λ files. Knows command a files (verdict_told command held))
 told_itself command None a fails = tt
@@ -88,15 +112,17 @@ summaries-none (Some (OnScene t)) (Accepted (Part part count) a) = refl
 
 -- nothing was drawn, and nothing said
 begins : (command : Option Command) (held : Option Files) (a : Answer) (v : Verdict) (x : Option (List Written)) (lines : Option (List (List ℕ))) (n : ℕ)
-    → Told held (λ files. Knows command a files v) → IsOf (scene_of command) a v → (a ≡ answers.Done → 0 ≡ length (pictures_of v)) → Obeys command held a x x lines lines n n
-begins command held a v x lines n knows is_of all = record {
+    → Told held (λ files. Knows command a files v) → IsOwn command a v → IsOf (scene_of command) a v → (a ≡ answers.Done → 0 ≡ length (pictures_of v)) → Obeys command held a x x lines lines n n
+begins command held a v x lines n knows own is_of all = record {
   verdict = v;
   known = knows;
+  own = own;
   is_of = is_of;
   ended = 0;
   ends = ends-none (pictures_of v) x;
   all = all;
   none = λ before. refl;
+  unjoined = λ joins undone. refl;
   told = 0;
   behind = inl refl;
   says = subst (λ ls. Says ls lines lines n n) (sym (summaries-none command v)) (says-none lines n);
@@ -104,35 +130,43 @@ begins command held a v x lines n knows is_of all = record {
 
 -- memory ran out before there was a verdict, or the library failed
 pub obeys-nothing : (command : Option Command) (held : Option Files) (x : Option (List Written)) (lines : Option (List (List ℕ))) (n : ℕ) → Obeys command held answers.NoMemory x x lines lines n n
-obeys-nothing command held x lines n = begins command held answers.NoMemory (verdict_told command held) x lines n (told_itself command held answers.NoMemory tt) tt (λ e. absurd (cc e))
+obeys-nothing command held x lines n = begins command held answers.NoMemory (verdict_told command held) x lines n (told_itself command held answers.NoMemory tt) (told-own command held answers.NoMemory tt) tt (λ e. absurd (cc e))
 
 pub obeys-unread : (command : Option Command) (held : Option Files) (x : Option (List Written)) (lines : Option (List (List ℕ))) (n : ℕ) → Obeys command held (answers.Refused refusals.ReadFault) x x lines lines n n
 obeys-unread command held x lines n =
-    begins command held (answers.Refused refusals.ReadFault) (verdict_told command held) x lines n (told_itself command held (answers.Refused refusals.ReadFault) tt) tt (λ e. absurd (cc e))
+    begins command held (answers.Refused refusals.ReadFault) (verdict_told command held) x lines n (told_itself command held (answers.Refused refusals.ReadFault) tt) (told-own command held (answers.Refused refusals.ReadFault) tt) tt (λ e. absurd (cc e))
 
 -- a scene that is refused
 pub obeys-refused : (t : SceneTask) (held : Option Files) (r : Refusal) (x : Option (List Written)) (lines : Option (List (List ℕ))) (n : ℕ)
     → Told held (λ files. Because r (cause_of (verdict_of_scene t files))) → Obeys (Some (OnScene t)) held (answers.Refused r) x x lines lines n n
 obeys-refused t held (refusals.Missing file) x lines n because =
     begins (Some (OnScene t)) held (answers.Refused (refusals.Missing file)) (Refused (causes.Missing file)) x lines n
-    (known (Some (OnScene t)) held (answers.Refused (refusals.Missing file)) (Refused (causes.Missing file)) (flipped t held (Refused (causes.Missing file)) (refused-told t held (causes.Missing file) because))) refl (λ e. absurd (cc e))
+    (known (Some (OnScene t)) held (answers.Refused (refusals.Missing file)) (Refused (causes.Missing file)) (flipped t held (Refused (causes.Missing file)) (refused-told t held (causes.Missing file) because))) (refused-own t (answers.Refused (refusals.Missing file)) (causes.Missing file)) refl (λ e. absurd (cc e))
 obeys-refused t held (refusals.At file line code) x lines n because =
     begins (Some (OnScene t)) held (answers.Refused (refusals.At file line code)) (Refused (causes.At file line code)) x lines n
-    (known (Some (OnScene t)) held (answers.Refused (refusals.At file line code)) (Refused (causes.At file line code)) (flipped t held (Refused (causes.At file line code)) (refused-told t held (causes.At file line code) because))) refl (λ e. absurd (cc e))
+    (known (Some (OnScene t)) held (answers.Refused (refusals.At file line code)) (Refused (causes.At file line code)) (flipped t held (Refused (causes.At file line code)) (refused-told t held (causes.At file line code) because))) (refused-own t (answers.Refused (refusals.At file line code)) (causes.At file line code)) refl (λ e. absurd (cc e))
 obeys-refused t held refusals.ReadFault x lines n because = obeys-unread (Some (OnScene t)) held x lines n
 obeys-refused t held refusals.NoMemory x lines n because =
-    begins (Some (OnScene t)) held (answers.Refused refusals.NoMemory) (verdict_told (Some (OnScene t)) held) x lines n (told_itself (Some (OnScene t)) held (answers.Refused refusals.NoMemory) tt) tt (λ e. absurd (cc e))
+    begins (Some (OnScene t)) held (answers.Refused refusals.NoMemory) (verdict_told (Some (OnScene t)) held) x lines n (told_itself (Some (OnScene t)) held (answers.Refused refusals.NoMemory) tt)
+    (told-own (Some (OnScene t)) held (answers.Refused refusals.NoMemory) tt) tt (λ e. absurd (cc e))
 
 -- a scene that isn't there, words that are no command
-pub obeys-missing : (t : SceneTask) (held : Option Files) (name : List ℕ) (x : Option (List Written)) (lines : Option (List (List ℕ))) (n : ℕ) → scene_name t.source ≡ name
-    → Told held (λ files. verdict_of_scene t files ≡ Refused (causes.Missing name)) → Obeys (Some (OnScene t)) held answers.NoScene x x lines lines n n
-obeys-missing t held name x lines n named h =
-    begins (Some (OnScene t)) held answers.NoScene (Refused (causes.Missing name)) x lines n (known (Some (OnScene t)) held answers.NoScene (Refused (causes.Missing name)) (flipped t held (Refused (causes.Missing name)) h))
-    (ap (λ s. Refused (causes.Missing s)) (sym named)) (λ e. absurd (cc e))
+pub obeys-missing : (t : SceneTask) (held : Option Files) (o : Option Loaded) (x : Option (List Written)) (lines : Option (List (List ℕ))) (n : ℕ) → o ≡ None
+    → Told held (λ files. LoadsNamed (scene_name t.source) t (Ok o) (verdict_of_scene t files)) → Obeys (Some (OnScene t)) held answers.NoScene x x lines lines n n
+obeys-missing t held o x lines n is h =
+    let missing : Verdict = Refused (causes.Missing (scene_name t.source)) in
+    begins (Some (OnScene t)) held answers.NoScene missing x lines n
+    (known (Some (OnScene t)) held answers.NoScene missing (flipped t held missing (missing-told held h)))
+    (refused-own t answers.NoScene (causes.Missing (scene_name t.source))) refl (λ e. absurd (cc e))
+  where
+    missing-told : (held : Option Files) → Told held (λ files. LoadsNamed (scene_name t.source) t (Ok o) (verdict_of_scene t files))
+        → Told held (λ files. verdict_of_scene t files ≡ Refused (causes.Missing (scene_name t.source)))
+    missing-told None h = tt
+    missing-told (Some files) h = subst (λ (p : Option Loaded). LoadsNamed (scene_name t.source) t (Ok p) (verdict_of_scene t files)) is h
 
 pub obeys-usage : (command : Option Command) (held : Option Files) (x : Option (List Written)) (lines : Option (List (List ℕ))) (n : ℕ) → command ≡ None → Obeys command held answers.Usage x x lines lines n n
 obeys-usage command held x lines n is =
-    subst (λ c. Obeys c held answers.Usage x x lines lines n n) (sym is) (begins None held answers.Usage Usage x lines n (known None held answers.Usage Usage (usage-told held)) refl (λ e. absurd (cc e)))
+    subst (λ c. Obeys c held answers.Usage x x lines lines n n) (sym is) (begins None held answers.Usage Usage x lines n (known None held answers.Usage Usage (usage-told held)) (inl refl) refl (λ e. absurd (cc e)))
   where
     usage-told : (held : Option Files) → Told held (λ files. Usage ≡ Usage)
     usage-told None = tt
@@ -149,8 +183,10 @@ loaded t (Some files) wanted o l is same h =
 
 -- an accepted scene that is checked
 pub obeys-check : (t : SceneTask) (held : Option Files) (a : AcceptedValue) (x : Option (List Written)) (lines : Option (List (List ℕ))) (n : ℕ)
-    → Told held (λ files. verdict_of_scene t files ≡ Accepted Check a) → Obeys (Some (OnScene t)) held answers.Done x x lines lines n n
-obeys-check t held a x lines n h = begins (Some (OnScene t)) held answers.Done (Accepted Check a) x lines n (known (Some (OnScene t)) held answers.Done (Accepted Check a) (flipped t held (Accepted Check a) h)) refl (λ e. refl)
+    → t.action ≡ Check → Told held (λ files. verdict_of_scene t files ≡ Accepted Check a) → Obeys (Some (OnScene t)) held answers.Done x x lines lines n n
+obeys-check t held a x lines n is h =
+    begins (Some (OnScene t)) held answers.Done (Accepted Check a) x lines n (known (Some (OnScene t)) held answers.Done (Accepted Check a) (flipped t held (Accepted Check a) h))
+    (accepted-own t answers.Done Check [] a is) refl (λ e. refl)
 
 -- entries that are to be written: all of them, or some first ones
 summaries-entries : (command : Option Command) (es : List Picture) (told : ℕ) → summaries_of command (Entries es) told ≡ []
@@ -158,49 +194,61 @@ summaries-entries None es told = refl
 summaries-entries (Some (Join name count)) es told = refl
 summaries-entries (Some (OnScene t)) es told = refl
 
-pub obeys-entries : (command : Option Command) (held : Option Files) (es : List Picture) (x y : Option (List Written)) (lines : Option (List (List ℕ))) (n : ℕ)
-    → Told held (λ files. IsVerdict command files (Entries es)) → Adds (map whole es) x y → Obeys command held answers.Done x y lines lines n n
-obeys-entries command held es x y lines n h added = record {
+pub obeys-whole : (command : Option Command) (held : Option Files) (a : Answer) (es : List Picture) (x y : Option (List Written)) (lines : Option (List (List ℕ))) (n : ℕ)
+    → IsOf (scene_of command) a (Entries es) → (ComesBefore a → ⊥) → (joins_parts command ≡ true → a ≢ answers.Done → length es ≡ 0)
+    → Told held (λ files. IsVerdict command files (Entries es)) → IsOfKind command (Entries es) → Adds (map whole es) x y → Obeys command held a x y lines lines n n
+obeys-whole command held a es x y lines n is begun joined h own added = record {
   verdict = Entries es;
-  known = known command held answers.Done (Entries es) h;
-  is_of = refl;
+  known = known command held a (Entries es) h;
+  own = inl own;
+  is_of = is;
   ended = length es;
   ends = ends-all es x y added;
   all = λ e. refl;
-  none = λ before. absurd before;
+  none = λ before. absurd (begun before);
+  unjoined = joined;
   told = length es;
   behind = inl refl;
   says = subst (λ ls. Says ls lines lines n n) (sym (summaries-entries command es (length es))) (says-none lines n);
 }
 
-pub obeys-entries-unwritten : (command : Option Command) (held : Option Files) (es : List Picture) (x y : Option (List Written)) (lines : Option (List (List ℕ))) (n : ℕ)
-    → Told held (λ files. IsVerdict command files (Entries es)) → EndsSome es x y → Obeys command held answers.WriteFault x y lines lines n n
-obeys-entries-unwritten command held es x y lines n h some = record {
+pub obeys-entries : (command : Option Command) (held : Option Files) (es : List Picture) (x y : Option (List Written)) (lines : Option (List (List ℕ))) (n : ℕ)
+    → Told held (λ files. IsVerdict command files (Entries es)) → IsOfKind command (Entries es) → Adds (map whole es) x y → Obeys command held answers.Done x y lines lines n n
+obeys-entries command held es x y lines n h own added = obeys-whole command held answers.Done es x y lines n refl (λ begun. begun) (λ joins undone. absurd (undone refl)) h own added
+
+-- some first ones of a scene
+pub obeys-entries-unwritten : (t : SceneTask) (held : Option Files) (es : List Picture) (x y : Option (List Written)) (lines : Option (List (List ℕ))) (n : ℕ)
+    → Told held (λ files. IsVerdict (Some (OnScene t)) files (Entries es)) → IsOfKind (Some (OnScene t)) (Entries es) → EndsSome es x y → Obeys (Some (OnScene t)) held answers.WriteFault x y lines lines n n
+obeys-entries-unwritten t held es x y lines n h own some = record {
   verdict = Entries es;
-  known = known command held answers.WriteFault (Entries es) h;
+  known = known (Some (OnScene t)) held answers.WriteFault (Entries es) h;
+  own = inl own;
   is_of = refl;
   ended = some.ended;
   ends = some.ends;
   all = λ e. absurd (cc e);
   none = λ before. absurd before;
+  unjoined = λ joins undone. absurd (cc joins);
   told = some.ended;
   behind = inl refl;
-  says = subst (λ ls. Says ls lines lines n n) (sym (summaries-entries command es some.ended)) (says-none lines n);
+  says = says-none lines n;
 }
 
-pub obeys-entries-out-of-memory : (command : Option Command) (held : Option Files) (es : List Picture) (x y : Option (List Written)) (lines : Option (List (List ℕ))) (n : ℕ)
-    → Told held (λ files. IsVerdict command files (Entries es)) → EndsSome es x y → Obeys command held answers.NoMemory x y lines lines n n
-obeys-entries-out-of-memory command held es x y lines n h some = record {
+pub obeys-entries-out-of-memory : (t : SceneTask) (held : Option Files) (es : List Picture) (x y : Option (List Written)) (lines : Option (List (List ℕ))) (n : ℕ)
+    → Told held (λ files. IsVerdict (Some (OnScene t)) files (Entries es)) → IsOfKind (Some (OnScene t)) (Entries es) → EndsSome es x y → Obeys (Some (OnScene t)) held answers.NoMemory x y lines lines n n
+obeys-entries-out-of-memory t held es x y lines n h own some = record {
   verdict = Entries es;
-  known = known command held answers.NoMemory (Entries es) h;
+  known = known (Some (OnScene t)) held answers.NoMemory (Entries es) h;
+  own = inl own;
   is_of = tt;
   ended = some.ended;
   ends = some.ends;
   all = λ e. absurd (cc e);
   none = λ before. absurd before;
+  unjoined = λ joins undone. absurd (cc joins);
   told = some.ended;
   behind = inl refl;
-  says = subst (λ ls. Says ls lines lines n n) (sym (summaries-entries command es some.ended)) (says-none lines n);
+  says = says-none lines n;
 }
 
 -- parts of the frames of a scene
@@ -213,15 +261,31 @@ pub joins-told : (held : Option Files) (name : List ℕ) (count : ℕ) (bytes : 
 joins-told None name count bytes h = tt
 joins-told (Some files) name count bytes h = (bytes, refl, h)
 
--- a part of an entry was added
-pub some-part : (p : Picture) (x y : Option (List Written)) → AddsPart p x y → EndsSome (p ∷ []) x y
-some-part p x y h = record { ended = 0; ends = ends-part p x y h }
+-- of which a part was put
+pub obeys-picture-unwritten : (held : Option Files) (name : List ℕ) (count : ℕ) (bytes : List ℕ) (x y : Option (List Written)) (lines : Option (List (List ℕ))) (n : ℕ)
+    → Told held (λ files. MakePicture (first_parts files name count) bytes) → AddsPart (record { name = name; bytes = bytes }) x y → Obeys (Some (Join name count)) held answers.WriteFault x y lines lines n n
+obeys-picture-unwritten held name count bytes x y lines n h part =
+    let p : Picture = record { name = name; bytes = bytes } in
+    record {
+      verdict = Entries (p ∷ []);
+      known = known (Some (Join name count)) held answers.WriteFault (Entries (p ∷ [])) (joins-told held name count bytes h);
+      own = inl (bytes, refl);
+      is_of = refl;
+      ended = 0;
+      ends = ends-part p x y part;
+      all = λ e. absurd (cc e);
+      none = λ before. refl;
+      unjoined = λ joins undone. refl;
+      told = 0;
+      behind = inl refl;
+      says = says-none lines n;
+    }
 
 -- parts that aren't joined
-pub obeys-unjoined : (command : Option Command) (held : Option Files) (cause : JoinCause) (x : Option (List Written)) (lines : Option (List (List ℕ))) (n : ℕ)
-    → Told held (λ files. IsVerdict command files (Unjoined cause)) → Obeys command held (answers.Unjoined cause) x x lines lines n n
-obeys-unjoined command held cause x lines n h =
-    begins command held (answers.Unjoined cause) (Unjoined cause) x lines n (known command held (answers.Unjoined cause) (Unjoined cause) h) refl (λ e. absurd (cc e))
+pub obeys-unjoined : (name : List ℕ) (count : ℕ) (held : Option Files) (cause : JoinCause) (x : Option (List Written)) (lines : Option (List (List ℕ))) (n : ℕ)
+    → Told held (λ files. IsVerdict (Some (Join name count)) files (Unjoined cause)) → Obeys (Some (Join name count)) held (answers.Unjoined cause) x x lines lines n n
+obeys-unjoined name count held cause x lines n h =
+    begins (Some (Join name count)) held (answers.Unjoined cause) (Unjoined cause) x lines n (known (Some (Join name count)) held (answers.Unjoined cause) (Unjoined cause) h) (inl tt) refl (λ e. absurd (cc e))
 
 length-frames : (a : AcceptedValue) → length (frames_of a) ≡ length a.scene.frames
 length-frames a = by a.scene.frames
@@ -232,16 +296,18 @@ length-frames a = by a.scene.frames
 
 -- one whose frames are drawn: all of them
 pub obeys-drawn : (t : SceneTask) (held : Option Files) (a : AcceptedValue) (x y : Option (List Written)) (lines lines_then : Option (List (List ℕ))) (m n : ℕ)
-    → Told held (λ files. verdict_of_scene t files ≡ Accepted Render a) → Adds (map whole (frames_of a)) x y
+    → t.action ≡ Render → Told held (λ files. verdict_of_scene t files ≡ Accepted Render a) → Adds (map whole (frames_of a)) x y
     → Says (first_summaries t.options a (length a.scene.frames)) lines lines_then m n → Obeys (Some (OnScene t)) held answers.Done x y lines lines_then m n
-obeys-drawn t held a x y lines lines_then m n h drawn said = record {
+obeys-drawn t held a x y lines lines_then m n wanted h drawn said = record {
   verdict = Accepted Render a;
   known = known (Some (OnScene t)) held answers.Done (Accepted Render a) (flipped t held (Accepted Render a) h);
+  own = accepted-own t answers.Done Render [] a wanted;
   is_of = refl;
   ended = length (frames_of a);
   ends = ends-all (frames_of a) x y drawn;
   all = λ e. refl;
   none = λ before. absurd before;
+  unjoined = λ joins undone. absurd (cc joins);
   told = length a.scene.frames;
   behind = inl (sym (length-frames a));
   says = said;
@@ -249,32 +315,36 @@ obeys-drawn t held a x y lines lines_then m n h drawn said = record {
 
 -- some first ones
 pub obeys-unwritten : (t : SceneTask) (held : Option Files) (a : AcceptedValue) (fault : DrawFault) (x y : Option (List Written)) (lines lines_then : Option (List (List ℕ))) (m n : ℕ)
-    → fault ≡ drawing.WriteFault → Told held (λ files. verdict_of_scene t files ≡ Accepted Render a) → DrawsInPart t.options a fault x y lines lines_then m n
+    → t.action ≡ Render → fault ≡ drawing.WriteFault → Told held (λ files. verdict_of_scene t files ≡ Accepted Render a) → DrawsInPart t.options a fault x y lines lines_then m n
     → Obeys (Some (OnScene t)) held answers.WriteFault x y lines lines_then m n
-obeys-unwritten t held a fault x y lines lines_then m n is h d = record {
+obeys-unwritten t held a fault x y lines lines_then m n wanted is h d = record {
   verdict = Accepted Render a;
   known = known (Some (OnScene t)) held answers.WriteFault (Accepted Render a) (flipped t held (Accepted Render a) h);
+  own = accepted-own t answers.WriteFault Render [] a wanted;
   is_of = refl;
   ended = d.ended;
   ends = d.draws.ends;
   all = λ e. absurd (cc e);
   none = λ before. absurd before;
+  unjoined = λ joins undone. absurd (cc joins);
   told = d.told;
   behind = ⊎_elim (λ (e : d.told ≡ d.ended). inl e) (λ (w : (fault ≡ drawing.NoMemory) × (d.told + 1 ≡ d.ended)). absurd (cc (is, w.0))) d.behind;
   says = d.draws.says;
 }
 
 pub obeys-out-of-memory : (t : SceneTask) (held : Option Files) (a : AcceptedValue) (fault : DrawFault) (x y : Option (List Written)) (lines lines_then : Option (List (List ℕ))) (m n : ℕ)
-    → Told held (λ files. verdict_of_scene t files ≡ Accepted Render a) → DrawsInPart t.options a fault x y lines lines_then m n
+    → t.action ≡ Render → Told held (λ files. verdict_of_scene t files ≡ Accepted Render a) → DrawsInPart t.options a fault x y lines lines_then m n
     → Obeys (Some (OnScene t)) held answers.NoMemory x y lines lines_then m n
-obeys-out-of-memory t held a fault x y lines lines_then m n h d = record {
+obeys-out-of-memory t held a fault x y lines lines_then m n wanted h d = record {
   verdict = Accepted Render a;
   known = known (Some (OnScene t)) held answers.NoMemory (Accepted Render a) (flipped t held (Accepted Render a) h);
+  own = accepted-own t answers.NoMemory Render [] a wanted;
   is_of = tt;
   ended = d.ended;
   ends = d.draws.ends;
   all = λ e. absurd (cc e);
   none = λ before. absurd before;
+  unjoined = λ joins undone. absurd (cc joins);
   told = d.told;
   behind = ⊎_elim (λ (e : d.told ≡ d.ended). inl e) (λ (w : (fault ≡ drawing.NoMemory) × (d.told + 1 ≡ d.ended)). inr (refl, w.1)) d.behind;
   says = d.draws.says;
@@ -438,6 +508,18 @@ known-nine command None a v h = tt
 known-nine command (Some files) a v (inl is) = inl is
 known-nine command (Some files) a v (inr none) = inr (none.0, inr refl)
 
+-- so is what its command can have
+abbrev OwnBy : Option Command → ℕ → Verdict → Type 0
+OwnBy command status v = IsOfKind command v ⊎ (IsNone command v × ((status ≡ 7) ⊎ (status ≡ 9)))
+
+own-by : (command : Option Command) (a : Answer) (v : Verdict) → IsOwn command a v → OwnBy command (number_of a) v
+own-by command a v (inl is) = inl is
+own-by command a v (inr none) = inr (none.0, failed-number a none.1)
+
+own-nine : (command : Option Command) (a : Answer) (v : Verdict) → IsOwn command a v → OwnBy command 9 v
+own-nine command a v (inl is) = inl is
+own-nine command a v (inr none) = inr (none.0, inr refl)
+
 -- the course of a run, its line of the status told too
 course-told : (words : List (List ℕ)) (held : Option Files) (a : Answer) (x y : Option (List Written)) (lines mid after : Option (List (List ℕ))) (m k n : ℕ)
     → Between a → Obeys (command_of words) held a x y lines mid m k → Says (answer_lines (scene_of (command_of words)) a) mid after k n
@@ -445,12 +527,14 @@ course-told : (words : List (List ℕ)) (held : Option Files) (a : Answer) (x y 
 course-told words held a x y lines mid after m k n between o said = record {
   verdict_of_run = o.verdict;
   known = known-by (command_of words) held a o.verdict o.known;
+  own = own-by (command_of words) a o.verdict o.own;
   answers = λ few. caused (scene_of (command_of words)) a o.verdict o.is_of few;
   accepted = λ eight. accepted-by (scene_of (command_of words)) a o.verdict o.is_of between eight;
   ended = o.ended;
   ends = o.ends;
   all = λ zero. o.all (done-by a between zero);
   none = λ low high. o.none (before-by a low high);
+  unjoined = λ joins some. o.unjoined joins (λ done. some (ap number_of done));
   told = o.told;
   behind = ⊎_elim (λ (e : o.told ≡ o.ended). inl e) (λ (w : (a ≡ answers.NoMemory) × (o.told + 1 ≡ o.ended)). inr (ap number_of w.0, w.1)) o.behind;
   says = says-more (summaries_of (command_of words) o.verdict o.told) (status_lines (scene_of (command_of words)) o.verdict (number_of a)) lines mid after m k n o.says
@@ -459,16 +543,18 @@ course-told words held a x y lines mid after m k n between o said = record {
 
 -- memory ran out for that line
 course-untold : (words : List (List ℕ)) (held : Option Files) (a : Answer) (x y : Option (List Written)) (lines mid after : Option (List (List ℕ))) (m k n : ℕ)
-    → Obeys (command_of words) held a x y lines mid m k → Says (codes "no memory\n" ∷ []) mid after k n → Course words held 9 x y lines after m n
-course-untold words held a x y lines mid after m k n o said = record {
+    → Obeys (command_of words) held a x y lines mid m k → a ≢ answers.Done → Says (codes "no memory\n" ∷ []) mid after k n → Course words held 9 x y lines after m n
+course-untold words held a x y lines mid after m k n o undone said = record {
   verdict_of_run = o.verdict;
   known = known-nine (command_of words) held a o.verdict o.known;
+  own = own-nine (command_of words) a o.verdict o.own;
   answers = λ few. absurd (omega (arith, few));
   accepted = λ eight. absurd (omega (arith, eight));
   ended = o.ended;
   ends = o.ends;
   all = λ zero. absurd (omega (arith, zero));
   none = λ low high. absurd (omega (arith, high));
+  unjoined = λ joins some. o.unjoined joins undone;
   told = o.told;
   behind = ⊎_elim (λ (e : o.told ≡ o.ended). inl e) (λ (w : (a ≡ answers.NoMemory) × (o.told + 1 ≡ o.ended)). inr (refl, w.1)) o.behind;
   says = says-more (summaries_of (command_of words) o.verdict o.told) (codes "no memory\n" ∷ []) lines mid after m k n o.says said;
@@ -487,16 +573,16 @@ named-lines scene name (answers.Refused r) named = ap (λ s. answer_lines s (ans
 pub course : (words : List (List ℕ)) (held : Option Files) (a : Answer) (name : List ℕ) (note : Result (Option (String Global)) NoMemoryError) (status : ℕ)
     (x y : Option (List Written)) (lines mid after : Option (List (List ℕ))) (m k n : ℕ)
     → Obeys (command_of words) held a x y lines mid m k → (a ≢ answers.NoMemory → name ≡ scene_of (command_of words))
-    → IfOk note (λ t. lines_in (option_map string_bytes t) ≡ answer_lines name a) → OnOk note (status ≡ number_of a) → OnErr note (status ≡ 9)
+    → IfOk note (λ t. lines_in (option_map string_bytes t) ≡ answer_lines name a) → OnErr note (a ≢ answers.Done) → OnOk note (status ≡ number_of a) → OnErr note (status ≡ 9)
     → (IsFaultAt a → OnOk note ((3 ≤ status) × (status ≤ 5))) → Says (note_lines note) mid after k n → Course words held status x y lines after m n
-course words held a name (Ok t) status x y lines mid after m k n o named made told untold fault said =
+course words held a name (Ok t) status x y lines mid after m k n o named made unmade told untold fault said =
     let scene = scene_of (command_of words) in
     let between : Between a = λ at. subst (λ s. (3 ≤ s) × (s ≤ 5)) told (fault at) in
     subst (λ s. Course words held s x y lines after m n) (sym told)
     (course-told words held a x y lines mid after m k n between o
     (subst (λ ls. Says ls mid after k n) (made ∙ named-lines scene name a named) said))
-course words held a name (Err e) status x y lines mid after m k n o named made told untold fault said =
-    subst (λ s. Course words held s x y lines after m n) (sym untold) (course-untold words held a x y lines mid after m k n o said)
+course words held a name (Err e) status x y lines mid after m k n o named made unmade told untold fault said =
+    subst (λ s. Course words held s x y lines after m n) (sym untold) (course-untold words held a x y lines mid after m k n o unmade said)
 
 -- a run that answers 0 or 8 has an accepted verdict
 abbrev AcceptedIs : Option Command → Files → Type 0

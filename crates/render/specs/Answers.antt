@@ -1,5 +1,5 @@
 -- What the code's answers say of the verdict and the sink.
-use Rattle.std.specs.Prelude.{◌≡◌, ◌+◌, ◌⊎◌, ℕ, List, [], ◌∷◌, length, codes, Option, Some, None, option_map, String, string_bytes, Vec, true, Result, Ok, Err}
+use Rattle.std.specs.Prelude.{◌≡◌, ◌≢◌, ◌+◌, ◌⊎◌, ℕ, List, [], ◌∷◌, length, codes, Option, Some, None, option_map, String, string_bytes, Vec, true, Result, Ok, Err}
 use Rattle.std.specs.declared.alloc.Global.{Global}
 use Rattle.fixed_math.specs.declared.memory.NoMemory.{NoMemory as NoMemoryError}
 use Rattle.outside.specs.Causes.{Told}
@@ -14,7 +14,7 @@ use Rattle.acceptance.specs.Causes as causes
 use Rattle.acceptance.specs.Causes.{Cause, Reads}
 use Rattle.render.specs.Verdict as verdicts
 use Rattle.render.specs.Verdict.{pictures_of}
-use Rattle.render.specs.Run.{is_accepted}
+use Rattle.render.specs.Run.{is_accepted, joins_parts}
 use Rattle.render.specs.Pictures.{frames_of}
 use Rattle.render.specs.Notes.{note_of, join_note}
 use Rattle.render.specs.Lines.{first_summaries, summaries_of, scene_of}
@@ -128,11 +128,13 @@ Knows command answer files v = verdicts.IsVerdict command files v ⊎ (verdicts.
 pub record Obeys (command : Option Command) (held : Option Files) (answer : Answer) (old new : Option (List Written)) (lines lines_then : Option (List (List ℕ))) (faults faults_then : ℕ) : Type 0 where
   pub verdict : verdicts.Verdict
   pub known : Told held (λ files. Knows command answer files verdict)
+  pub own : verdicts.IsOfKind command verdict ⊎ (verdicts.IsNone command verdict × Fails answer)
   pub is_of : IsOf (scene_of command) answer verdict
   pub ended : ℕ
   pub ends : Ends ended (pictures_of verdict) old new
   pub all : answer ≡ Done → ended ≡ length (pictures_of verdict)
   pub none : ComesBefore answer → ended ≡ 0
+  pub unjoined : joins_parts command ≡ true → answer ≢ Done → ended ≡ 0
   pub told : ℕ
   pub behind : (told ≡ ended) ⊎ ((answer ≡ NoMemory) × (told + 1 ≡ ended))
   pub says : Says (summaries_of command verdict told) lines lines_then faults faults_then

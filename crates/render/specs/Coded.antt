@@ -10,6 +10,7 @@ use Rattle.displace_shade.specs.declared.set.ShaderSet.{ShaderSet}
 use Rattle.acceptance.specs.declared.shaders.UsedShaders.{UsedShaders}
 use Rattle.acceptance.specs.Reading.{tree_read}
 
+-- the tree of a compiled shader
 abbrev pub tree_compiled : Seen → Tree
 tree_compiled c = tree_of c.tree
 

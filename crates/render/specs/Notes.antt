@@ -16,6 +16,7 @@ name_in_notes scene Scene = scene
 name_in_notes scene (Shader name) = file_of name
 name_in_notes scene (Texture name) = name
 
+-- a fault as a line: the file, the line and the code
 abbrev pub fault_line : List ℕ → ℕ → List ℕ → List ℕ
 fault_line file line code = file ++ (codes ":" ++ (decimal line ++ (codes ": " ++ (code ++ codes "\n"))))
 

@@ -18,6 +18,7 @@ with_last : (h place : ℕ) (text : List ℕ) → fold with_word h (text ++ plac
 with_last h place [] = refl
 with_last h place (b ∷ text) = with_last (with_word h b) place text
 
+-- the tag of a frame is the hash of the scene's text with the frame's place after it
 pub tag_is : (text : List ℕ) (place : ℕ) → hash32 (text ++ place ∷ []) ≡ tag_of (hash32 text) place
 tag_is text place = with_last 0 place text
 

@@ -24,8 +24,15 @@ draws_command None = false
 draws_command (Some (OnScene t)) = draws_action t.action
 draws_command (Some (Join name count)) = true
 
+-- whether words are a command that writes frames
 abbrev pub draws : List (List ℕ) → Bool
 draws words = draws_command (command_of words)
+
+-- the words are a command that joins parts
+abbrev pub joins_parts : Option Command → Bool
+joins_parts None = false
+joins_parts (Some (OnScene t)) = false
+joins_parts (Some (Join name count)) = true
 
 -- the verdict is an accepted scene, or parts that make a picture
 abbrev pub is_accepted : Verdict → Bool
@@ -35,6 +42,7 @@ is_accepted (Unjoined cause) = false
 is_accepted (Accepted action accepted) = true
 is_accepted (Entries entries) = true
 
+-- the verdict on these words over these files is an accepted scene
 abbrev pub IsAccepted : List (List ℕ) → Files → Type 0
 IsAccepted words files = HasVerdict words files (λ v. is_accepted v ≡ true)
 

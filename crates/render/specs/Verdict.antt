@@ -41,10 +41,12 @@ verdict_of_accepted Render options text accepted = Accepted Render accepted
 verdict_of_accepted Check options text accepted = Accepted Check accepted
 verdict_of_accepted (Part part count) options text accepted = Entries (parts_of_frames (task_of part count options text) accepted)
 
+-- the verdict on a text that was accepted or refused
 abbrev pub verdict_of_read : Action → RunOptions → List ℕ → Reads AcceptedValue → Verdict
 verdict_of_read action options text (Ok accepted) = verdict_of_accepted action options text accepted
 verdict_of_read action options text (Err cause) = Refused cause
 
+-- the verdict on a text that is held, or on its being missing or too long
 abbrev pub verdict_of_text : Action → RunOptions → Files → Reads (List ℕ) → Verdict
 verdict_of_text action options files (Ok text) = verdict_of_read action options text (accepted files text)
 verdict_of_text action options files (Err cause) = Refused cause
@@ -54,6 +56,7 @@ abbrev pub text_of_source : Files → Source → Reads (List ℕ)
 text_of_source files (File name) = text_of_held name (held_as files name)
 text_of_source files (Demo count) = Ok (demo count)
 
+-- the verdict on a command on a scene
 abbrev pub verdict_of_scene : SceneTask → Files → Verdict
 verdict_of_scene t files = verdict_of_text t.action t.options files (text_of_source files t.source)
 
@@ -69,8 +72,20 @@ IsVerdict None files v = v ≡ Usage
 IsVerdict (Some (OnScene t)) files v = v ≡ verdict_of_scene t files
 IsVerdict (Some (Join name count)) files v = IsJoinVerdict name (first_parts files name count) v
 
+-- the verdict on these words over these files
 abbrev pub IsVerdictOf : List (List ℕ) → Files → Verdict → Type 0
 IsVerdictOf words files v = IsVerdict (command_of words) files v
+
+-- a verdict that this command can have, whatever files are held: on some scene, or why there is none; some picture of its name, or why there is none
+abbrev pub IsJoinKind : List ℕ → Verdict → Type 0
+IsJoinKind name (Entries entries) = (bytes : List ℕ) × (entries ≡ record { name = name; bytes = bytes } ∷ [])
+IsJoinKind name (Unjoined cause) = Unit {0}
+IsJoinKind name _ = ⊥
+
+abbrev pub IsOfKind : Option Command → Verdict → Type 0
+IsOfKind None v = v ≡ Usage
+IsOfKind (Some (OnScene t)) v = (text : List ℕ) × (read : Reads AcceptedValue) × (v ≡ verdict_of_read t.action t.options text read)
+IsOfKind (Some (Join name count)) v = IsJoinKind name v
 
 -- there is no verdict on parts
 abbrev pub IsNone : Option Command → Verdict → Type 0
@@ -81,10 +96,12 @@ IsNone _ v = ⊥
 abbrev pub HasVerdict : List (List ℕ) → Files → (Verdict → Type 0) → Type 0
 HasVerdict words files P = (v : Verdict) × IsVerdictOf words files v × P v
 
+-- the status of a cause
 abbrev pub status_of_cause : Cause → ℕ
 status_of_cause (Missing file) = 6
 status_of_cause (At file line code) = status_of_code code
 
+-- the status that a verdict has
 abbrev pub status_of : Verdict → ℕ
 status_of Usage = 2
 status_of (Refused cause) = status_of_cause cause
@@ -109,10 +126,12 @@ abbrev pub names_of_source : Source → List (List ℕ)
 names_of_source (File name) = name ∷ []
 names_of_source (Demo count) = []
 
+-- the names that are asked for a command
 abbrev pub asked_for_command : Option Command → Files → List (List ℕ)
 asked_for_command None files = []
 asked_for_command (Some (OnScene t)) files = names_of_source t.source ++ asked_for_text files (text_of_source files t.source)
 asked_for_command (Some (Join name count)) files = asked_parts files name count
 
+-- the names that are asked of the library for these words
 abbrev pub asked_of : List (List ℕ) → Files → List (List ℕ)
 asked_of words files = asked_for_command (command_of words) files

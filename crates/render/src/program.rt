@@ -12,7 +12,7 @@ ghost use Rattle.render.specs.Notes.{name_in_notes, fault_line, join_note};
 ghost use Rattle.render.specs.Answers.{ComesBefore, Obeys, ObeysTask, IsFaultAt, number_of, answer_lines, lines_in, note_lines};
 ghost use Rattle.render.specs.Lines.{scene_of};
 ghost use Rattle.render.specs.Course.{Course};
-ghost use Rattle.render.specs.declared.program.Answer.TheVariants.{Usage, Refused, WriteFault, NoMemory as OutOfMemory};
+ghost use Rattle.render.specs.declared.program.Answer.TheVariants.{Done, Usage, Refused, WriteFault, NoMemory as OutOfMemory};
 ghost use Rattle.acceptance.specs.declared.refusal.Refusal.TheVariants.{ReadFault};
 
 use crate::load::{Loaded, load};
@@ -113,7 +113,7 @@ fn joined<L: Library, O: FrameSink>(
 {
     match joined_parts(alloc, library, command.name, command.count) {
         Ok(picture) => match put_picture(frames, command.name, &picture) {
-            Ok(()) => Answer::Done,
+            Ok(_) => Answer::Done,
             Err(_) => Answer::WriteFault,
         },
         Err(JoinStop::Cause(cause)) => Answer::Unjoined(cause),
@@ -260,7 +260,8 @@ fn join_note(alloc: Global, name: &str, cause: JoinCause) -> Result<String, NoMe
 
 // The note of an answer, where the scene has this name. There is none of want of memory, whose note takes no memory.
 fn note(alloc: Global, scene: &str, answer: &Answer) -> Result<Option<String>, NoMemory>
-    ensures { IfOk result (λ n. lines_in (option_map string_bytes n) ≡ answer_lines scene.now answer.now) }
+    ensures line { IfOk result (λ n. lines_in (option_map string_bytes n) ≡ answer_lines scene.now answer.now) }
+    ensures done { OnErr result (answer.now ≢ Done) }
 {
     let text = match answer {
         Answer::Done => return Ok(None),
@@ -313,21 +314,27 @@ fn status(answer: &Answer, note: &Result<Option<String>, NoMemory>) -> u8
     }
 }
 
-/// Runs a command: its words are `reyes ACTION NAME [--bucket B] [--grid-points G] [--stats]` as `clap` reads them, where the
-/// action is `render` or `check` and NAME names a scene file, or it is `demo` and NAME is a row of digits, the number of patches
-/// of the demonstration scene, 1 to 1,000. B, 4 to 64, is the side in pixels of the buckets in which frames are drawn; G, 289 to
-/// 1,000,000, is the most points of shaded grids that are kept at one time; neither changes a byte of a picture. The scene's
-/// file is asked of the library and read to its end, and then each shader x that a primitive of it uses, once, by first use: the
-/// file `x.sl`, or the stock text of x where there is no such file; and then each texture that a look-up of these names, once, by
-/// first use. With `render` and `demo` the frames then go to the sink, each a row of buckets at a time; with `check` nothing is
-/// written. No frame of the sink may be open. With `--stats`, and always with `demo`, a line of the notes tells of each frame behind
-/// its end how many grids were shaded for it, and in how many epochs.
+/// Runs a command: its words are `reyes ACTION NAME [--bucket B] [--grid-points G] [--stats] [--part K] [--of N]` as `clap` reads
+/// them. The action is `render`, `check` or `part`, and NAME names a scene file; or it is `demo`, and NAME is a row of digits, the
+/// number of patches of the demonstration scene, 1 to 1,000; or it is `join`, and NAME is that of a picture whose parts are files. B, 4
+/// to 64, is the side in pixels of the buckets in which frames are drawn; G, 289 to 1,000,000, is the most points of shaded grids that
+/// are kept at one time; neither changes a byte of a picture. N, 1 to 256, is the number of parts of a picture, and K, below N, is one of
+/// them: `part` needs both, `join` needs N alone, and the other actions take neither.
 ///
-/// The answer is a status: 0 done; 2 the words are no command, or they ask for help; 3 the scene or a shader has a fault of syntax,
-/// the scene one of nesting, or a texture's file is none; 4 a shader has a fault of types, or a shader request or a primitive's
-/// variables don't fit a shader; 5 the scene has a fault of geometry, or it, a shader or the textures pass a limit; 6 the library
-/// lacks the scene, a texture, or a shader that the stock lacks too; 7 the library failed; 8 the sink failed; 9 want of memory. With
-/// each but 0 a line goes to the notes, which changes no status.
+/// The scene's file is asked of the library and read to its end, and then each shader x that a primitive of it uses, once, by first use:
+/// the file `x.sl`, or the stock text of x where there is no such file; and then each texture that a look-up of these names, once, by
+/// first use. With `render` and `demo` the frames then go to the sink, each a row of buckets at a time; with `part` the buckets of each
+/// frame whose numbers are K modulo N do, as an entry whose name has `.K.part` behind the frame's; with `check` nothing is written.
+/// `join` asks for the files NAME.0.part, NAME.1.part and so on instead, and the picture that they make goes to the sink, under NAME. No
+/// frame of the sink may be open. With `render --stats`, and always with `demo`, a line of the notes tells of each frame behind its end
+/// how many grids were shaded for it, and in how many epochs.
+///
+/// The answer is a status: 0 done; 2 the words are no command, or they ask for help; 3 the scene or a shader has a fault of syntax, the
+/// scene one of nesting, a texture's file is none, or the files of parts aren't the parts of one picture with each bucket once; 4 a
+/// shader has a fault of types, or a shader request or a primitive's variables don't fit a shader; 5 the scene has a fault of geometry,
+/// or it, a shader, the textures or the parts pass a limit; 6 the library lacks the scene, a part, a texture, or a shader that the stock
+/// lacks too; 7 the library failed; 8 the sink failed; 9 want of memory. With each but 0 a line goes to the notes, which changes no
+/// status.
 pub fn run<'a, L: Library, O: FrameSink, N: Notes>(
     alloc: Global,
     words: &'a [&'a str],

@@ -5,6 +5,7 @@ use Rattle.scene.specs.declared.params.Kind.{Kind}
 use Rattle.rib_reader.specs.declared.declared.Declared.{Declared}
 use Rattle.rib_reader.specs.Words.{with_type}
 
+-- declarations as names and types one by one
 abbrev pub declared_in : List (List ℕ) → List (Class × Kind) → List Declared
 declared_in (n ∷ ns) (t ∷ ts) = with_type n t ∷ declared_in ns ts
 declared_in _ _ = []

@@ -27,6 +27,7 @@ abbrev pub followed : Result (List Read) Placed → List Token → Result (List 
 followed (Ok rs) back = with_front rs (requests_from 0 (dict_behind [] rs) back)
 followed (Err e) back = Err e
 
+-- the requests of a text and of another after it are those of both, with declarations carried over
 abbrev pub JoinLaw : Type 0
 JoinLaw = (front back : List Token) → begins_request back ≡ true → requests_of (front ++ back) ≡ followed (requests_of front) back
 

@@ -54,6 +54,7 @@ pairs_of (Str t ∷ []) = Of t None ∷ []
 pairs_of (Str t ∷ v ∷ vs) = Of t (Some v) ∷ pairs_of vs
 pairs_of _ = NoToken ∷ []
 
+-- the name of the points
 abbrev pub is_points : List ℕ → Bool
 is_points name = bytes_eq name (codes "P")
 
@@ -80,6 +81,7 @@ abbrev pub is_vertex : Class → Bool
 is_vertex classes.Vertex = true
 is_vertex _ = false
 
+-- a value of the wrong kind is S3
 abbrev pub kind_code : List ℕ → Kind → Option RibCode
 kind_code name k = when (not (is_as_needed (needed name) k)) S3
 
@@ -132,6 +134,7 @@ abbrev pub value_code : Follows → Kind → Option Arg → Option RibCode
 value_code follows k None = Some S3
 value_code follows k (Some v) = values_code follows k (values_of k v)
 
+-- a token without its value is S3
 abbrev pub missing_code : Option Arg → Option RibCode
 missing_code v = when (is_none v) S3
 
@@ -179,6 +182,7 @@ list_of follows dict vs = of_pairs follows dict (pairs_of vs)
 abbrev pub own_code : Follows → Param → Option RibCode
 own_code follows p = lower (name_code follows p.name p.class p.kind) (count_code follows p.kind p.values)
 
+-- the code of a variable: by its kind, and by its own rules
 abbrev pub param_code : Follows → Param → Option RibCode
 param_code follows p = lower (when (not (is_of_kind p.kind p.values)) S3) (own_code follows p)
 
@@ -191,6 +195,7 @@ whole_code Parameters ps = None
 whole_code Quadric ps = None
 whole_code _ ps = when (not (length ps == 0)) S3
 
+-- the lowest code of a list of variables
 abbrev pub params_code : Follows → List Param → Option RibCode
 params_code follows ps = lower (whole_code follows ps) (lowest (param_code follows) ps)
 

@@ -113,9 +113,11 @@ request_names =
 abbrev pub is_make : List ℕ → Bool
 is_make name = starts_with nat_eq name (codes "Make") && nat_lt 4 (length name)
 
+-- the request of a name, or that it is left out
 abbrev pub named : List ℕ → Option Named
 named name = if is_make name then Some LeftOut else entry_of request_names name
 
+-- the storage classes by name
 abbrev pub class_names : List (List ℕ × Class)
 class_names =
     (codes "constant", Constant)
@@ -125,6 +127,7 @@ class_names =
     ∷ (codes "facevarying", FaceVarying)
     ∷ []
 
+-- the kinds of variables by name
 abbrev pub kind_names : List (List ℕ × Kind)
 kind_names =
     (codes "float", Float)

@@ -46,9 +46,11 @@ plain r = record { name = r.name; args = r.args; params = r.params; line = r.lin
 abbrev pub Placed : Type 0
 Placed = RibCode × ℕ
 
+-- the arguments of a request: as many values as its row has
 abbrev pub args_in : Req → List Arg → List Arg
 args_in name values = take (length (shapes_of name)) values
 
+-- the list of a request: what stands after its arguments
 abbrev pub list_in : List Declared → Req → List Arg → Listing
 list_in dict name values = list_of (follows_of name (args_in name values)) dict (drop (length (shapes_of name)) values)
 
@@ -82,6 +84,7 @@ is_number t = number_in t.kind
     number_in (kinds.Number d) = true
     number_in _ = false
 
+-- how many numbers stand among the tokens of an array
 abbrev pub numbers_inside : List Token → ℕ
 numbers_inside items = length (filter is_number (take (prefix_len is_inside items) items))
 
@@ -101,6 +104,7 @@ counted_code _ body = None
 abbrev pub of_scan : List Declared → Req → Option RibCode → Scan → ℕ → Result Read Placed
 of_scan dict name counted s line = of_values dict name (lower (when s.broken S3) counted) (joined name s.values) line
 
+-- the request of a name with the values after it, or its fault
 abbrev pub of_name : List Declared → Option Named → List Token → ℕ → Result Read Placed
 of_name dict (Some (Known name)) body line = of_scan dict name (counted_code name body) (scan_of body) line
 of_name dict (Some LeftOut) body line = Err (S2, line)

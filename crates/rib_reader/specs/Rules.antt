@@ -40,6 +40,7 @@ lower None b = b
 lower (Some a) None = Some a
 lower (Some a) (Some b) = if nat_le (rank a) (rank b) then Some a else Some b
 
+-- a code, where it applies
 abbrev pub when : Bool → RibCode → Option RibCode
 when true code = Some code
 when false code = None
@@ -123,6 +124,7 @@ abbrev pub is_not_less : Option ℤ → Option ℤ → Bool
 is_not_less (Some a) (Some b) = not (int_lt a b)
 is_not_less _ _ = false
 
+-- a word is one of these
 abbrev pub is_among : List (List ℕ) → List ℕ → Bool
 is_among words text = list_any (bytes_eq text) words
 
@@ -214,6 +216,7 @@ abbrev pub as_numbers : ℕ → List Arg → List Arg
 as_numbers n (Numbers ds ∷ rest) = if length ds == n then map (λ d. Number d) ds ++ rest else Numbers ds ∷ rest
 as_numbers n values = values
 
+-- the numbers of a colour as one array, and those of a quadric one by one, however they are written
 abbrev pub joined : Req → List Arg → List Arg
 joined reqs.Color values = three_as_one values
 joined reqs.Opacity values = three_as_one values
@@ -232,6 +235,7 @@ abbrev pub with_words : List Declared → Option (List ℕ) → Option (List ℕ
 with_words dict (Some name) (Some text) = with_declared dict name (declared_type text)
 with_words dict _ _ = dict
 
+-- the declarations in force after a request
 abbrev pub dict_after : List Declared → Req → List Arg → List Declared
 dict_after dict reqs.Declare args = with_words dict (word_at args 0) (word_at args 1)
 dict_after dict _ args = dict

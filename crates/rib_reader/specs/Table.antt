@@ -52,6 +52,7 @@ greatest = pos 2147483647
 abbrev pub full_turn : ℤ
 full_turn = pos 23592960
 
+-- the row of a request: the kinds of its arguments, the rules on their values, and what follows
 abbrev pub row_of : Req → TableRow
 row_of reqs.FrameBegin = plain_row (Whole ∷ [])
 row_of reqs.FrameEnd = plain_row []

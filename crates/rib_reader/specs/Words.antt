@@ -38,6 +38,7 @@ type_of _ = Err S3
 abbrev pub declared_type : List ℕ → Result (Class × Kind) RibCode
 declared_type text = type_of (words_of text)
 
+-- a name with its class and kind
 abbrev pub with_type : List ℕ → Class × Kind → Declared
 with_type name type = record { name = name; class = type.0; kind = type.1 }
 

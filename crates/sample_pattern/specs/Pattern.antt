@@ -14,9 +14,11 @@ along p s n j = 256 * p + (256 * s + j) / n
 abbrev pub place_x : ℕ → ℕ → ℕ → ℕ → ℕ
 place_x x y c xs = along x (c % xs) xs (hash_at x y c 0 % 256)
 
+-- the same from above
 abbrev pub place_y : ℕ → ℕ → ℕ → ℕ → ℕ → ℕ
 place_y x y c xs ys = along y (c / xs) ys (hash_at x y c 1 % 256)
 
+-- both coordinates of a sample's place
 abbrev pub position : ℕ → ℕ → ℕ → ℕ → ℕ → List ℤ
 position x y c xs ys = pos (place_x x y c xs) ∷ pos (place_y x y c xs ys) ∷ []
 

@@ -5,6 +5,7 @@ use Rattle.scene.specs.declared.params.Kind.TheVariants as kinds
 use Rattle.scene.specs.declared.params.Values.{Values}
 use Rattle.scene.specs.declared.params.Values.TheVariants as held
 
+-- values of this kind are strings
 abbrev pub is_string : Kind → Bool
 is_string kinds.Str = true
 is_string _ = false
@@ -16,6 +17,7 @@ width kinds.Str = 1
 width kinds.Pair = 2
 width _ = 3
 
+-- how many numbers or strings are given
 abbrev pub count : Values → ℕ
 count (held.Numbers xs) = length xs
 count (held.Strings ts) = length ts

@@ -20,6 +20,7 @@ value_places Varying seat = seat.points
 value_places Vertex seat = seat.points
 value_places FaceVarying seat = seat.corners
 
+-- whether a variable of a class has a value at each corner
 abbrev pub varies : Class → Bool
 varies Constant = false
 varies Uniform = false
@@ -34,9 +35,11 @@ abbrev pub taken : Kind → Values → List ℕ → Values
 taken k (Numbers xs) ns = Numbers (items_at (width k) xs ns)
 taken k (Strings ts) ns = Strings (items_at (width k) ts ns)
 
+-- a variable as a patch has it, by its seat
 abbrev pub variable_of : Seat → Param → VariableValue
 variable_of seat p = record { name = p.name; kind = p.kind; varying = varies p.class; values = taken p.kind p.values (value_places p.class seat) }
 
+-- the variables of a patch by its seat in its primitive
 abbrev pub variables_of : Seat → List Param → List VariableValue
 variables_of seat ps = map (variable_of seat) ps
 

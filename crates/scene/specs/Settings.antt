@@ -18,6 +18,7 @@ pub record OptionValues : Type 0 where
   pub max : ℕ
   pub crop : List ℕ
 
+-- options within their ranges
 pub record AreOptions (o : OptionValues) : Type 0 where
   pub some_across : 1 ≤ o.xs
   pub most_across : o.xs ≤ 16

@@ -19,9 +19,11 @@ pub record AreBases (b : BasisValues) : Type 0 where
   pub some_u : 1 ≤ b.step_u
   pub some_v : 1 ≤ b.step_v
 
+-- the bases at the start
 abbrev pub first_bases : BasisValues
 first_bases = record { basis_u = Bezier; basis_v = Bezier; step_u = 3; step_v = 3 }
 
+-- the basis of a name
 abbrev pub basis_named : List ℕ → Basis
 basis_named name =
     if bytes_eq name (codes "b-spline") then BSpline

@@ -70,6 +70,7 @@ pub record AreChoices (c : ChoiceValues) : Type 0 where
   pub window : IsSomeWindow c.window
   pub crop : IsCropWindow c.crop
 
+-- the number 1
 abbrev pub one : ℤ
 one = pos 65536
 
@@ -104,22 +105,27 @@ with_format (Some w) (Some h) c =
     if int_lt (pos 4096) w || int_lt (pos 4096) h then Err M5 else Ok (record c { width = unsigned_abs w; height = unsigned_abs h })
 with_format _ _ c = Ok c
 
+-- the options after `FrameAspectRatio`
 abbrev pub with_ratio : Option ℤ → ChoiceValues → ChoiceValues
 with_ratio (Some f) c = record c { ratio = Some f }
 with_ratio None c = c
 
+-- the options after `ScreenWindow`
 abbrev pub with_window : Option ℤ → Option ℤ → Option ℤ → Option ℤ → ChoiceValues → ChoiceValues
 with_window (Some l) (Some r) (Some b) (Some t) c = record c { window = Some (l ∷ r ∷ b ∷ t ∷ []) }
 with_window _ _ _ _ c = c
 
+-- the options after `Clipping`
 abbrev pub with_depths : Option ℤ → Option ℤ → ChoiceValues → ChoiceValues
 with_depths (Some near) (Some far) c = record c { near = near; far = far }
 with_depths _ _ c = c
 
+-- the options after `CropWindow`
 abbrev pub with_crop : Option ℤ → Option ℤ → Option ℤ → Option ℤ → ChoiceValues → ChoiceValues
 with_crop (Some left) (Some right) (Some top) (Some bottom) c = record c { crop = left ∷ right ∷ top ∷ bottom ∷ [] }
 with_crop _ _ _ _ c = c
 
+-- the options after `Shutter`
 abbrev pub with_shutter : Option ℤ → Option ℤ → ChoiceValues → ChoiceValues
 with_shutter (Some opens) (Some closes) c = record c { shutter = opens ∷ closes ∷ [] }
 with_shutter _ _ c = c
@@ -163,10 +169,12 @@ with_filter (Some name) (Some x) (Some y) c =
     else Ok (record c { picture = record c.picture { filter = filter_named name; wx = unsigned_abs (floor_by x 256); wy = unsigned_abs (floor_by y 256) } })
 with_filter _ _ _ c = Ok c
 
+-- the options after `Exposure`
 abbrev pub with_exposure : Option ℤ → Option ℤ → ChoiceValues → ChoiceValues
 with_exposure (Some gain) (Some gamma) c = record c { picture = record c.picture { gain = gain; gamma = gamma } }
 with_exposure _ _ c = c
 
+-- the options after `Quantize`
 abbrev pub with_levels : Option ℤ → Option ℤ → Option ℤ → ChoiceValues → ChoiceValues
 with_levels (Some one) (Some low) (Some high) c = record c { picture = record c.picture { one = unsigned_abs one; min = unsigned_abs low; max = unsigned_abs high } }
 with_levels _ _ _ c = c
@@ -175,6 +183,7 @@ with_levels _ _ _ c = c
 abbrev pub with_quantize : List Arg → ChoiceValues → ChoiceValues
 with_quantize args c = if is_one Modes (word_at args 0) then with_levels (whole_at args 1) (whole_at args 2) (whole_at args 3) c else c
 
+-- the options after a request for one of them, by its name
 abbrev pub chosen_by : Req → List Arg → List Param → ChoiceValues → Result ChoiceValues StateCode
 chosen_by reqs.Format args params c = with_format (whole_at args 0) (whole_at args 1) c
 chosen_by reqs.FrameAspectRatio args params c = Ok (with_ratio (raw_at args 0) c)
@@ -203,6 +212,7 @@ edge_of pixels part = (pixels * unsigned_abs part + 65535) / 65536
 abbrev pub first_pixel : ℕ → ℤ → ℕ
 first_pixel pixels from = min (edge_of pixels from) (pixels - 1)
 
+-- the end of the pixels between two parts of a side, one at least
 abbrev pub end_pixel : ℕ → ℤ → ℤ → ℕ
 end_pixel pixels from to = max (edge_of pixels to) (first_pixel pixels from + 1)
 

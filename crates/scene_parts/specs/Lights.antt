@@ -2,6 +2,7 @@
 use Rattle.std.specs.Prelude.{ℕ, ◌==◌, nat_lt, Bool, not, List, [], ◌∷◌, ◌++◌, filter, Option, Some, None, if◌then◌else◌}
 use Rattle.std.specs.List.{list_any}
 
+-- a light is in force
 abbrev pub is_among : ℕ → List ℕ → Bool
 is_among k lights = list_any (λ n. n == k) lights
 
@@ -9,6 +10,7 @@ is_among k lights = list_any (λ n. n == k) lights
 abbrev pub with_light : ℕ → List ℕ → List ℕ
 with_light k lights = if is_among k lights then lights else lights ++ k ∷ []
 
+-- lights without one of them
 abbrev pub without_light : ℕ → List ℕ → List ℕ
 without_light k lights = filter (λ n. not (n == k)) lights
 

@@ -31,9 +31,11 @@ pub record IsLook (l : LookValues) : Type 0 where
   pub bound_low : pos 0 ≤ℤ l.bound
   pub bound_high : l.bound ≤ℤ most_bound
 
+-- the colour 1, 1, 1
 abbrev pub white : Vec3
 white = record { x = one; y = one; z = one }
 
+-- how primitives look at the start
 abbrev pub first_look : LookValues
 first_look = record { cs = white; os = white; rate = one; one_sided = false; flip = false; smooth = false; bound = pos 0 }
 
@@ -44,6 +46,7 @@ abbrev pub colour_or : Option (List Decimal) → Vec3 → Vec3
 colour_or (Some (r ∷ g ∷ b ∷ [])) c = record { x = num r; y = num g; z = num b }
 colour_or _ c = c
 
+-- the look after `ShadingRate`
 abbrev pub with_rate : Option ℤ → LookValues → LookValues
 with_rate (Some rate) l = record l { rate = rate }
 with_rate None l = l
@@ -52,6 +55,7 @@ abbrev pub is_single : Option ℤ → Bool
 is_single (Some (pos n)) = n == 1
 is_single _ = false
 
+-- the look after a displacement bound
 abbrev pub with_bound : Option ℤ → LookValues → LookValues
 with_bound (Some bound) l = record l { bound = clamp (pos 0) most_bound bound }
 with_bound None l = l

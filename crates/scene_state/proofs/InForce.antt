@@ -1,4 +1,4 @@
--- The use at the surface of a primitive that is placed is the request in force.
+-- The shaders of a primitive that is placed are the requests in force.
 use Rattle.std.proofs.Common.{◌≡◌, ◌∙◌, ap, sym, refl, subst, ℕ, zero, suc, List, [], ◌∷◌, ◌++◌, length, map, set, drop, Option, Some, None, All}
 use Rattle.std.specs.List.{slice_get}
 use Rattle.transforms.specs.Map.{Map}
@@ -9,7 +9,7 @@ use Rattle.primitives.specs.Patches.{PatchValue}
 use Rattle.primitives.proofs.Lists.{all_none}
 use Rattle.scene_state.specs.Shaders.{placed_in, placed, some_placed, all_placed, worn_by}
 use Rattle.scene_state.specs.State.{prim_of, with_patches}
-use Rattle.scene_state.specs.Laws.{request_in, request_at}
+use Rattle.scene_state.specs.Laws.{request_in, request_at, IsHad, IsSomeHad, AreHad, Wears, ShadersLaw}
 use Rattle.scene_state.specs.declared.attributes.Attributes.{Attributes}
 use Rattle.scene_state.specs.declared.shaders.Slot.{Slot}
 use Rattle.scene_state.specs.declared.shaders.Slot.TheVariants.{Waiting, Used}
@@ -80,6 +80,30 @@ all_stays s (k ∷ ks) =
     let p = placed s k in
     stays_both s p.0 (all_placed p.0 ks).0 (placed_stays s k) (all_stays p.0 ks)
 
+-- one that is had is had later too
+later : (s t v : Shaders) → Stays t v → (k n : ℕ) → IsHad s t.uses k n → IsHad s v.uses k n
+later s t v stays k n h = λ u at. stays.uses n u (h u at)
+
+some_later : (s t v : Shaders) → Stays t v → (k n : Option ℕ) → IsSomeHad s t.uses k n → IsSomeHad s v.uses k n
+some_later s t v stays None None h = tt
+some_later s t v stays (Some k) (Some n) h = later s t v stays k n h
+some_later s t v stays None (Some n) h = absurd h
+some_later s t v stays (Some k) None h = absurd h
+
+-- what is had, of requests of before
+had : (s t : Shaders) → Stays s t → (k : ℕ) → IsHad s (placed t k).0.uses k (placed t k).1
+had s t stays k = λ u at. placed_is_in t k (slice_get t.slots k) u (stays.requests k u at)
+
+some_had : (s t : Shaders) → Stays s t → (o : Option ℕ) → IsSomeHad s (some_placed t o).0.uses o (some_placed t o).1
+some_had s t stays None = tt
+some_had s t stays (Some k) = had s t stays k
+
+all_had : (s t : Shaders) → Stays s t → (ks : List ℕ) → AreHad s (all_placed t ks).0.uses ks (all_placed t ks).1
+all_had s t stays [] = tt
+all_had s t stays (k ∷ ks) =
+    let p = placed t k in
+    (later s p.0 (all_placed p.0 ks).0 (all_stays p.0 ks) k p.1 (had s t stays k), all_had s p.0 (stays_both s t p.0 stays (placed_stays t k)) ks)
+
 worn_surface : (s : Shaders) (a : Attributes) (u : ShaderUse) → request_at s a.surface ≡ Some u → slice_get (worn_by s a).0.uses (worn_by s a).1.surface ≡ Some u
 worn_surface s a u h =
     let d = some_placed s a.displacement in
@@ -107,3 +131,33 @@ surface_in_force r object (p ∷ ps) s u h =
     let P = λ (q : PrimValue). slice_get had.0.uses q.surface ≡ Some u in
     let made = prim_of r object s.attributes.look had.1 in
     subst (λ qs. All P qs) (sym (those_more s.prims (map made (p ∷ ps)))) (all_mapped P made (p ∷ ps) (λ q. worn_surface s.shaders s.attributes u h))
+
+worn_wears : (s : Shaders) (a : Attributes) (q : PrimValue) → q.surface ≡ (worn_by s a).1.surface → q.displacement ≡ (worn_by s a).1.displacement → q.atmosphere ≡ (worn_by s a).1.atmosphere
+    → q.lights ≡ (worn_by s a).1.lights → Wears s a (worn_by s a).0.uses q
+worn_wears s a q es ed ev el =
+    let d = some_placed s a.displacement in
+    let f = placed d.0 a.surface in
+    let v = some_placed f.0 a.atmosphere in
+    let l = all_placed v.0 a.lights in
+    let to_d = some_stays s a.displacement in
+    let to_f = stays_both s d.0 f.0 to_d (placed_stays d.0 a.surface) in
+    let to_v = stays_both s f.0 v.0 to_f (some_stays f.0 a.atmosphere) in
+    let to_l = all_stays v.0 a.lights in
+    let from_f = stays_both f.0 v.0 l.0 (some_stays f.0 a.atmosphere) to_l in
+    let from_d = stays_both d.0 f.0 l.0 (placed_stays d.0 a.surface) from_f in
+    record {
+      surface = subst (IsHad s l.0.uses a.surface) (sym es) (later s f.0 l.0 from_f a.surface f.1 (had s d.0 to_d a.surface));
+      displacement = subst (IsSomeHad s l.0.uses a.displacement) (sym ed) (some_later s d.0 l.0 from_d a.displacement d.1 (some_had s s (stays_same s) a.displacement));
+      atmosphere = subst (IsSomeHad s l.0.uses a.atmosphere) (sym ev) (some_later s v.0 l.0 to_l a.atmosphere v.1 (some_had s f.0 to_f a.atmosphere));
+      lights = subst (AreHad s l.0.uses a.lights) (sym el) (all_had s v.0 to_v a.lights);
+    }
+
+pub shaders_in_force : ShadersLaw
+shaders_in_force r object [] s =
+    let P = Wears s.shaders s.attributes s.shaders.uses in
+    subst (λ qs. All P qs) (sym (none_more s.prims)) (all_none P)
+shaders_in_force r object (p ∷ ps) s =
+    let had = worn_by s.shaders s.attributes in
+    let P = Wears s.shaders s.attributes had.0.uses in
+    let made = prim_of r object s.attributes.look had.1 in
+    subst (λ qs. All P qs) (sym (those_more s.prims (map made (p ∷ ps)))) (all_mapped P made (p ∷ ps) (λ q. worn_wears s.shaders s.attributes (made q) refl refl refl refl))

@@ -69,6 +69,7 @@ abbrev pub times_in : Option (List Decimal) → ℤ × ℤ
 times_in (Some (from ∷ to ∷ [])) = (num from, num to)
 times_in _ = (pos 0, pos 0)
 
+-- the two times of a block's begin
 abbrev pub times_of : Read → ℤ × ℤ
 times_of begin = times_in (numbers_at begin.args 0)
 
@@ -112,6 +113,7 @@ closes (Some (Alone r)) = true
 closes (Some (Ends r)) = true
 closes (Some _) = false
 
+-- no motion block is open at the end
 abbrev pub are_closed : List Step → Bool
 are_closed steps = closes (slice_get steps (length steps - 1))
 

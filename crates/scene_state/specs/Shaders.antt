@@ -19,6 +19,7 @@ use Rattle.scene_state.specs.declared.shaders.Handle.{Handle}
 abbrev pub first_surface : ShaderUse
 first_surface = record { name = codes "constant"; kind = Surface; params = []; space = identity; line = 1 }
 
+-- the attributes at the start
 abbrev pub first_attributes : Attributes
 first_attributes = record { look = first_look; bases = first_bases; surface = 0; displacement = None; atmosphere = None; lights = [] }
 
@@ -26,6 +27,7 @@ first_attributes = record { look = first_look; bases = first_bases; surface = 0;
 abbrev pub first_shaders : Shaders
 first_shaders = record { slots = Waiting first_surface ∷ []; uses = [] }
 
+-- one more shader request, which waits until a primitive has it
 abbrev pub with_request : Shaders → ShaderUse → Shaders
 with_request s u = record { slots = s.slots ++ Waiting u ∷ []; uses = s.uses }
 
@@ -40,6 +42,7 @@ placed_in s k (Some (Waiting u)) = (record { slots = set s.slots k (Used (length
 placed_in s k (Some (Used n)) = (s, n)
 placed_in s k None = (s, 0)
 
+-- the use of a request: the next one where it waited, else the one that it had
 abbrev pub placed : Shaders → ℕ → Shaders × ℕ
 placed s k = placed_in s k (slice_get s.slots k)
 

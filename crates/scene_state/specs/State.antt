@@ -46,6 +46,7 @@ use Rattle.scene_state.specs.declared.state.Block.TheVariants.{InFrame, InWorld,
 use Rattle.scene_state.specs.declared.state.World.{World}
 use Rattle.scene_state.specs.declared.state.State.{State}
 
+-- the state at the start
 abbrev pub first_state : State
 first_state = record {
   choices = first_choices;
@@ -60,6 +61,7 @@ first_state = record {
   frames = [];
 }
 
+-- the state after a request, or the request's fault
 abbrev pub Stepped : Type 0
 Stepped = Result State StateCode
 
@@ -89,18 +91,22 @@ outer bs = take (length bs - 1) bs
 abbrev pub closed : State → State
 closed s = record s { blocks = outer s.blocks }
 
+-- after `FrameBegin`, which stands where no block is open
 abbrev pub frame_begun : State → Stepped
 frame_begun s = if length s.blocks == 0 then opened (InFrame s.attributes s.current s.choices s.name) s else Err N1
 
+-- after `FrameEnd`: options, attributes and transformation as they were
 abbrev pub frame_ended : Option Block → State → Stepped
 frame_ended (Some (InFrame attributes current choices name)) s =
     Ok (record (closed s) { choices = choices; name = name; attributes = attributes; current = current })
 frame_ended _ s = Err N1
 
+-- after `AttributeEnd`
 abbrev pub attributes_ended : Option Block → State → Stepped
 attributes_ended (Some (InAttributes attributes current)) s = Ok (record (closed s) { attributes = attributes; current = current })
 attributes_ended _ s = Err N1
 
+-- after `TransformEnd`
 abbrev pub transform_ended : Option Block → State → Stepped
 transform_ended (Some (InTransform current)) s = Ok (record (closed s) { current = current })
 transform_ended _ s = Err N1
@@ -117,6 +123,7 @@ world_with (Err e) s = Err (code_of e)
 world_with (Ok camera) s =
     opened (InWorld s.attributes s.current) (record s { world = Some (record { camera = camera; to_camera = s.current }); current = still identity })
 
+-- after `WorldBegin`: the current transformation becomes that from world to camera, and the world begins with the identity
 abbrev pub world_begun : State → Stepped
 world_begun s = if is_some s.world then Err N1 else world_with (camera_of (view_of s.choices)) s
 
@@ -124,6 +131,7 @@ world_begun s = if is_some s.world then Err N1 else world_with (camera_of (view_
 abbrev pub most_frames : ℕ
 most_frames = 1000
 
+-- the frame of a world, with the options in force
 abbrev pub frame_of : World → State → FrameValue
 frame_of w s = record { name = s.name; options = picture_of s.choices w.camera.width w.camera.height; camera = w.camera; world = w.to_camera.first; prims = s.prims }
 
@@ -138,10 +146,12 @@ with_frame w attributes current s = record s {
   frames = s.frames ++ frame_of w s ∷ [];
 }
 
+-- the scene with one frame more, and the state as it was before the world
 abbrev pub frame_made : Option World → Attributes → MapPair → State → Stepped
 frame_made None attributes current s = Err N1
 frame_made (Some w) attributes current s = if nat_le most_frames (length s.frames) then Err M2 else Ok (with_frame w attributes current s)
 
+-- after `WorldEnd`, which makes a frame
 abbrev pub world_ended : Option Block → State → Stepped
 world_ended (Some (InWorld attributes current)) s = frame_made s.world attributes current (closed s)
 world_ended _ s = Err N1
@@ -162,6 +172,7 @@ name_or None name = name
 abbrev pub option_set : Read → State → Stepped
 option_set r s = if is_some s.world then Err N2 else with_choices (chosen r s.choices) s
 
+-- after `Display`
 abbrev pub display_set : Read → State → Stepped
 display_set r s = if is_some s.world then Err N2 else Ok (record s { name = name_or (word_at r.args 0) s.name })
 
@@ -201,6 +212,7 @@ change_by reqs.Scale args = before_by (scaled_by (raw_at args 0) (raw_at args 1)
 change_by reqs.Rotate args = before_by (rotated_by (raw_at args 0) (raw_at args 1) (raw_at args 2) (raw_at args 3))
 change_by _ args = Ok (Before identity)
 
+-- what a request for a transformation does to a map
 abbrev pub change_of : Read → Result Change FormFault
 change_of r = change_by r.name r.args
 
@@ -213,6 +225,7 @@ abbrev pub with_change : When → Result Change FormFault → State → Stepped
 with_change when (Ok change) s = with_current (behind when change s.current) s
 with_change when (Err e) s = Err (code_of e)
 
+-- after a request for a transformation, which is of both times or of one
 abbrev pub turned : When → Read → State → Stepped
 turned when r s = with_change when (change_of r) s
 
@@ -227,6 +240,7 @@ space_in at (Some w) current = before_of (at w.to_camera) (at current)
 abbrev pub space_of : State → Result Map FormFault
 space_of s = space_in (λ p. p.first) s.world s.current
 
+-- the map from the current space to camera space at the time when motions end
 abbrev pub last_space_of : State → Result Map FormFault
 last_space_of s = space_in (λ p. p.last) s.world s.current
 
@@ -235,6 +249,7 @@ abbrev pub times_in : Option World → MapPair → Times
 times_in None current = current.times
 times_in (Some w) current = joined w.to_camera.times current.times
 
+-- the times of the motions in force, the world's among them
 abbrev pub times_of : State → Times
 times_of s = times_in s.world s.current
 
@@ -244,6 +259,7 @@ abbrev pub text_or : Option (List ℕ) → List ℕ
 text_or (Some t) = t
 text_or None = []
 
+-- a shader request as a use, with the space in force
 abbrev pub use_of : ShaderKind → Read → Map → ShaderUse
 use_of kind r space = record { name = text_or (word_at r.args 0); kind = kind; params = r.params; space = space; line = r.line }
 
@@ -255,6 +271,7 @@ abbrev pub with_shader : ShaderKind → Read → (ℕ → Attributes → Attribu
 with_shader kind r wear (Err e) s = Err (code_of e)
 with_shader kind r wear (Ok space) s = Ok (record s { shaders = with_request s.shaders (use_of kind r space); attributes = wear (next_shader s) s.attributes })
 
+-- after a shader request, which keeps the space in force
 abbrev pub shader_set : ShaderKind → Read → (ℕ → Attributes → Attributes) → State → Stepped
 shader_set kind r wear s = with_shader kind r wear (space_of s) s
 
@@ -270,6 +287,7 @@ handle_for (Some number) light = record { number = number; light = light } ∷ [
 abbrev pub light_added : ℕ → Option ℤ → State → State
 light_added light number s = record s { attributes = record s.attributes { lights = s.attributes.lights ++ light ∷ [] }; handles = s.handles ++ handle_for number light }
 
+-- after `LightSource`: its number stands for the new light, which is on
 abbrev pub light_made : Read → Result Map FormFault → State → Stepped
 light_made r (Err e) s = Err (code_of e)
 light_made r (Ok space) s =
@@ -281,6 +299,7 @@ abbrev pub illuminated_by : Option ℕ → Option ℤ → State → Stepped
 illuminated_by None on s = Err N3
 illuminated_by (Some k) on s = Ok (record s { attributes = record s.attributes { lights = if is_single on then with_light k s.attributes.lights else without_light k s.attributes.lights } })
 
+-- the light that a number stands for, the last one of it
 abbrev pub light_named : Option ℤ → List Handle → Option ℕ
 light_named (Some number) handles = light_of handles number
 light_named None handles = None
@@ -333,6 +352,7 @@ primitive_under r (Ok object) s = patches_placed r object (patches_of r s.attrib
 abbrev pub shift_by : ℤ → ℤ → ℤ → ℤ → ShiftValue
 shift_by from to opens closes = record { opening = steps_at from to opens; closing = if int_eq opens closes then None else Some (steps_at from to closes) }
 
+-- how far something that moves is on its way while the shutter is open
 abbrev pub shift_of : ChoiceValues → ℤ → ℤ → ShiftValue
 shift_of c from to = shift_by from to (slice_index_or c.shutter 0 (pos 0)) (slice_index_or c.shutter 1 (pos 0))
 
@@ -345,9 +365,11 @@ moving_under r last shift (Err e) end s = Err (code_of e)
 moving_under r last shift (Ok object) (Err e) s = Err (code_of e)
 moving_under r last shift (Ok object) (Ok end) s = placed_between r object last end shift s
 
+-- a primitive that moves, under the maps of both times
 abbrev pub moving_set : Read → Read → ℤ → ℤ → State → Stepped
 moving_set r last from to s = moving_under r last (shift_of s.choices from to) (space_of s) (last_space_of s) s
 
+-- a primitive by its times: one that stays, one that moves, or motions of different times
 abbrev pub primitive_by : Times → Read → State → Stepped
 primitive_by Still r s = primitive_under r (space_of s) s
 primitive_by (Between from to) r s = moving_set r r from to s
@@ -376,6 +398,7 @@ abbrev pub first_by : Times → Read → State → Stepped
 first_by Mixed r s = Err N7
 first_by _ r s = first_under r (space_of s) s
 
+-- in a motion block the first of two primitives is looked at by itself
 abbrev pub first_looked_at : ℤ → ℤ → Read → State → Stepped
 first_looked_at from to r s = in_world (first_by (joined (times_of s) (Between from to)) r s) s
 

@@ -28,9 +28,11 @@ with_displacement k a = record a { displacement = Some k }
 abbrev pub with_atmosphere : ℕ → Attributes → Attributes
 with_atmosphere k a = record a { atmosphere = Some k }
 
+-- after a request for the look of primitives
 abbrev pub look_set : Read → State → Stepped
 look_set r s = Ok (record s { attributes = record s.attributes { look = look_after r.name r.args r.params s.attributes.look } })
 
+-- after `Basis`
 abbrev pub bases_set : Read → State → Stepped
 bases_set r s = Ok (record s { attributes = record s.attributes { bases = bases_after r.args s.attributes.bases } })
 
@@ -86,6 +88,7 @@ step reqs.Cone r s = primitive_set r s
 step reqs.Disk r s = primitive_set r s
 step _ r s = Ok s
 
+-- the state after a request
 abbrev pub after : Read → State → Stepped
 after r s = step r.name r s
 
@@ -93,6 +96,7 @@ after r s = step r.name r s
 abbrev pub first_after : ℤ → ℤ → Read → State → Stepped
 first_after from to r s = if is_patch r.name then first_looked_at from to r s else turned (First from to) r s
 
+-- the state after both requests of a motion block
 abbrev pub both_after : ℤ → ℤ → Read → Read → State → Stepped
 both_after from to first last s = if is_patch first.name then both_placed from to first last s else turned (Last from to) last s
 

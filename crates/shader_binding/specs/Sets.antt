@@ -73,13 +73,16 @@ pub record Bound : Type 0 where
   pub textures : List Image
   pub space : Map
 
+-- a shader with its values, look-ups and space, where all are there
 abbrev pub bound_with : List Image → Option Tree → Option (List Value) → Option (List (Option ℕ)) → Option ShaderUse → Option Bound
 bound_with ps (Some t) (Some vs) (Some ls) (Some u) = Some record { tree = t; values = vs; look_ups = ls; textures = ps; space = u.space }
 bound_with ps _ _ _ _ = None
 
+-- the shader of use n with its values, its look-ups and the textures
 abbrev pub bound_at : SetValue → List ShaderUse → ℕ → Option Bound
 bound_at s uses n = bound_with s.textures (slice_get s.trees (slice_index_or s.of_use n 0)) (slice_get s.bound n) (slice_get s.look_ups n) (slice_get uses n)
 
+-- that of a use that may be missing
 abbrev pub bound_for : SetValue → List ShaderUse → Option ℕ → Option Bound
 bound_for s uses None = None
 bound_for s uses (Some n) = bound_at s uses n

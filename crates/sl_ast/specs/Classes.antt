@@ -11,13 +11,15 @@ use Rattle.sl_ast.specs.declared.typed.Variable.TheVariants as variables
 use Rattle.sl_ast.specs.declared.typed.TreeFormal.{TreeFormal}
 use Rattle.sl_ast.specs.Typed.{Expr, number, word, variable, apply, call, Exprs, none, more, Stmt, empty, leave, again, block, group, declare, start, assign, test, test_else, repeat, steps, lights, Stmts, done, first, Default, Local, Tree}
 
--- operations whose value is varying whatever they are given: they read a varying variable, neighbours or lights
+-- operations whose value is uniform where all that they are given is; that of any other is varying, since it reads a varying variable,
+-- neighbours or lights
 abbrev pub is_plain : Operation → Bool
 is_plain (operations.Value operation) = true
 is_plain (operations.Look looks.At) = true
 is_plain (operations.Look looks.First) = true
 is_plain _ = false
 
+-- whether a predefined variable is uniform
 abbrev pub is_uniform_name : Predefined → Bool
 is_uniform_name names.E = true
 is_uniform_name names.Du = true
@@ -25,6 +27,7 @@ is_uniform_name names.Dv = true
 is_uniform_name names.Pi = true
 is_uniform_name _ = false
 
+-- whether a variable is uniform
 abbrev pub class_of : Variable → List Bool → Bool
 class_of (variables.Predefined name) us = is_uniform_name name
 class_of (variables.Level level) us = get_or us level false
@@ -47,6 +50,7 @@ after (declare uniform kind e p) us = us ++ uniform ∷ []
 after (start uniform kind p) us = us ++ uniform ∷ []
 after _ us = us
 
+-- the classes of the variables in scope after statements
 abbrev pub after_all : Stmts → List Bool → List Bool
 after_all done us = us
 after_all (first s rest) us = after_all rest (after s us)

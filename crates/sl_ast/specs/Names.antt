@@ -15,6 +15,7 @@ use Rattle.sl_ast.specs.declared.operations.ValueOperation.TheVariants as ops
 use Rattle.sl_ast.specs.declared.kinds.LightStmt.{LightStmt}
 use Rattle.sl_ast.specs.declared.kinds.LightStmt.TheVariants.{Illuminance, Illuminate, Solar}
 
+-- the type of a predefined variable
 abbrev pub name_type : Predefined → SlType
 name_type names.P = types.Point
 name_type names.N = types.Normal
@@ -71,6 +72,7 @@ volume_reads names.Oi = true
 volume_reads names.Pi = true
 volume_reads _ = false
 
+-- whether a kind of shader reads a predefined variable, in the body of a statement over lights or outside
 abbrev pub reads : SlKind → Bool → Predefined → Bool
 reads Surface lit name = surface_reads lit name
 reads Displacement lit name = displacement_reads name
@@ -91,6 +93,7 @@ abbrev pub writes_light : Predefined → Bool
 writes_light names.Cl = true
 writes_light _ = false
 
+-- whether a kind of shader sets it
 abbrev pub writes : SlKind → Predefined → Bool
 writes Surface name = writes_colors name
 writes Displacement name = writes_place name
@@ -130,6 +133,7 @@ is_constant (operations.Value ops.Depth) = false
 is_constant (operations.Look look) = false
 is_constant _ = true
 
+-- whether a kind of shader has a statement over lights
 abbrev pub has_lights : SlKind → LightStmt → Bool
 has_lights kind Illuminance = is_surface kind
 has_lights kind Illuminate = is_light kind

@@ -13,6 +13,7 @@ use Rattle.sl_ast.specs.Classes.{is_uniform_name, formal_classes, local_classes,
 abbrev pub row_unless : Bool → ℕ
 row_unless uniform = cond uniform 0 1
 
+-- a row for each variable that varies
 abbrev pub rows_of_classes : List Bool → ℕ
 rows_of_classes [] = 0
 rows_of_classes (u ∷ us) = row_unless u + rows_of_classes us
@@ -79,5 +80,6 @@ abbrev pub rows_defaults : List Default → ℕ
 rows_defaults [] = 0
 rows_defaults (d ∷ ds) = rows d.value [] + rows_defaults ds
 
+-- the rows that a whole tree counts
 abbrev pub rows_of : Tree → ℕ
 rows_of t = predefined_rows t.kind + (rows_of_classes (local_classes t.params) + (rows_defaults t.defaults + rows_stmts t.body (local_classes t.params)))

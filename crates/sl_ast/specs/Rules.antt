@@ -297,6 +297,7 @@ look_rule looks.At operands = looked_up operands
 look_rule looks.Here operands = one_string Color operands
 look_rule looks.First operands = first_part operands
 
+-- the type of an operation's value where it takes operands of these types
 abbrev pub rule : Operation → Operands → Option NodeType
 rule (operations.Value operation) operands = value_rule operation operands
 rule operations.FaceForwardNg operands = two_triples Vector operands

@@ -160,6 +160,7 @@ settled_defaults [] ls lit = Ok lit
 settled_defaults (d ∷ ds) [] lit = Ok lit
 settled_defaults (d ∷ ds) (l ∷ ls) lit = settled_default l d lit then settled_defaults ds ls
 
+-- the outcome for a whole tree: of its defaults, and then of its body
 abbrev pub settles : Tree → Settles
 settles t = settled_defaults t.defaults t.params false then settled_stmts t.body (local_classes t.params) outermost
 

@@ -32,6 +32,7 @@ mutual
     end : Links
     link : Operator → ℕ → Expr → Links → Links
 
+-- an operator with its line, and the operand after it
 pub record Link : Type 0 where
   pub operator : Operator
   pub line : ℕ
@@ -46,6 +47,7 @@ abbrev pub links : List Link → Links
 links [] = end
 links (l ∷ ls) = link l.operator l.line l.operand (links ls)
 
+-- an assignment: a name, an operator, a value
 pub record Assignment : Type 0 where
   pub name : List ℕ
   pub operator : SetOperator
@@ -53,6 +55,7 @@ pub record Assignment : Type 0 where
   pub line : ℕ
   pub set_line : ℕ
 
+-- a name that is declared, with its value if it has one
 pub record Declared : Type 0 where
   pub name : List ℕ
   pub value : Option Expr
@@ -96,6 +99,7 @@ pub record Function : Type 0 where
   pub body : Stmts
   pub line : ℕ
 
+-- a file: functions, and the shader
 pub record Shader : Type 0 where
   pub functions : List Function
   pub kind : SlKind

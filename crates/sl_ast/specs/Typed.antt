@@ -49,6 +49,7 @@ abbrev pub stmts : List Stmt → Stmts
 stmts [] = done
 stmts (x ∷ xs) = first x (stmts xs)
 
+-- a parameter's default
 pub record Default : Type 0 where
   pub value : Expr
   pub place : Place
@@ -59,6 +60,7 @@ pub record Local : Type 0 where
   pub kind : SlType
   pub uniform : Bool
 
+-- the typed tree of a shader
 pub record Tree : Type 0 where
   pub kind : SlKind
   pub params : List Local
@@ -147,5 +149,6 @@ abbrev pub depth_defaults : List Default → ℕ
 depth_defaults [] = 0
 depth_defaults (d ∷ ds) = max (1 + depth d.value) (depth_defaults ds)
 
+-- how many nodes of a tree stand in one another at most
 abbrev pub depth_tree : Tree → ℕ
 depth_tree t = 1 + max (depth_defaults t.defaults) (depth_stmts t.body)

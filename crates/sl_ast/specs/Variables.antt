@@ -11,6 +11,7 @@ pub data Start : Type 0 where
   given zero : Start
   copied : Predefined → Start
 
+-- a predefined variable of a kind of shader
 pub record Row : Type 0 where
   pub name : Predefined
   pub lit : Bool
@@ -33,6 +34,7 @@ of_a_point =
     read names.Ng ∷ read names.I ∷ read names.E ∷ read names.U ∷ read names.V ∷ read names.Du ∷ read names.Dv ∷ read names.S ∷ read names.T ∷
     read names.Cs ∷ read names.Os ∷ read names.DPdu ∷ read names.DPdv ∷ []
 
+-- the predefined variables of each kind of shader
 abbrev pub variables : SlKind → List Row
 variables Surface =
     read names.P ∷ read names.N ∷

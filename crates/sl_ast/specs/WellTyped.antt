@@ -189,9 +189,11 @@ abbrev mutual
   typed_stmts g ks done = true
   typed_stmts g ks (first s rest) = typed_stmt g ks s && typed_stmts g (types_after s ks) rest
 
+-- what surrounds a parameter's default
 abbrev pub in_default : SlKind → Around
 in_default kind = record { kind = kind; default = true; bare = true; lit = false; looped = false }
 
+-- what surrounds a shader's body
 abbrev pub in_shader : SlKind → Around
 in_shader kind = record { kind = kind; default = false; bare = false; lit = false; looped = false }
 

@@ -104,6 +104,7 @@ chain_of row first (l ∷ ls) = S.chain row first (S.links (l ∷ ls))
 abbrev pub links_in : Row → (List Token → Reads S.Expr) → List Token → Reads (List S.Link)
 links_in row operand ts = many (next_link row operand) (most_links row (length ts)) ts
 
+-- operands of a row with its operators between them
 abbrev pub chain : Row → (List Token → Reads S.Expr) → List Token → Reads S.Expr
 chain row operand ts = operand ts >>= λ first. links_in row operand first.1 >>= λ links. Ok (chain_of row first.0 links.0, links.1)
 
@@ -116,6 +117,7 @@ choice_then expr test ts None = Ok (test, ts)
 choice_then expr test ts (Some q) =
     expr q.1 >>= λ first. past Colon first.1 λ rest. expr rest >>= λ second. Ok (S.choice test first.0 second.0 q.0, second.1)
 
+-- an expression: a chain, and a choice after it where a question mark stands
 abbrev pub expr_with : (List Token → Reads S.Expr) → (List Token → Reads S.Expr) → List Token → Reads S.Expr
 expr_with unary expr ts = chains unary ts >>= λ test. choice_then expr test.0 test.1 (line_behind Question test.1)
 

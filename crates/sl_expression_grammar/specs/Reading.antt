@@ -48,6 +48,7 @@ abbrev pub many_then : {A : Type 0} → (List Token → Reads (List A)) → List
 many_then go ts None = Ok ([], ts)
 many_then go ts (Some r) = r >>= λ x. with_front (x.0 ∷ []) (go x.1)
 
+-- as many things as there are, one after another
 abbrev pub many : {A : Type 0} → (List Token → Option (Reads A)) → ℕ → List Token → Reads (List A)
 many step zero ts = Ok ([], ts)
 many step (suc turns) ts = many_then (many step turns) ts (step ts)
@@ -89,5 +90,6 @@ line_behind mark (t ∷ ts) = if is_mark mark t.kind then Some (t.line, ts) else
 abbrev pub after_comma : {A : Type 0} → (List Token → Reads A) → List Token → Option (Reads A)
 after_comma item ts = option_map item (behind (is_mark marks.Comma) ts)
 
+-- one thing or several with commas between
 abbrev pub commas : {A : Type 0} → (List Token → Reads A) → List Token → Reads (List A)
 commas item ts = item ts >>= λ x. with_front (x.0 ∷ []) (many (after_comma item) (length x.1) x.1)

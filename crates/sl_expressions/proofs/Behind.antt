@@ -9,13 +9,9 @@ use Rattle.sl_expressions.specs.Typed as T
 use Rattle.sl_expressions.specs.Scope.{Local, Around}
 use Rattle.sl_expressions.specs.Exprs.{typed_expr, typed_args}
 use Rattle.sl_expressions.specs.TypedView.{typed_of}
-use Rattle.sl_expressions.specs.Views.{Gives, GivesAll}
+use Rattle.sl_expressions.specs.Views.{Gives, GivesAll, args_behind}
 use Rattle.sl_expressions.specs.declared.faults.TypeFault.{TypeFault}
 use Rattle.sl_expressions.specs.declared.faults.TypeFault.TheVariants.{At, NoMemory}
-
--- arguments behind others
-abbrev pub args_behind : List T.Expr → Found (List T.Expr) → Found (List T.Expr)
-args_behind before found = found >>= λ ts. Ok (before ++ ts)
 
 args_push : (before : List T.Expr) (r : Found T.Expr) (rest : Found (List T.Expr))
     → args_behind before (r >>= λ t. rest >>= λ ts. Ok (t ∷ ts)) ≡ r >>= λ t. args_behind (before ++ t ∷ []) rest

@@ -14,6 +14,7 @@ use Rattle.sl_ast.specs.declared.operands.Operands.TheVariants.{Nothing, One, Tw
 use Rattle.sl_ast.specs.declared.kinds.SlType.{SlType}
 use Rattle.sl_ast.specs.declared.kinds.SlType.TheVariants as types
 use Rattle.sl_ast.specs.declared.kinds.NodeType.{NodeType}
+use Rattle.sl_ast.specs.declared.kinds.NodeType.TheVariants as nodes
 use Rattle.sl_ast.specs.declared.operations.Operation.{Operation}
 use Rattle.sl_ast.specs.declared.operations.Operation.TheVariants as operations
 use Rattle.sl_ast.specs.declared.operations.ValueOperation.TheVariants as ops
@@ -41,6 +42,7 @@ abbrev pub value_read : Option (Decimal × List ℕ) → ℤ
 value_read None = pos 0
 value_read (Some n) = num n.0
 
+-- the value of a number's text
 abbrev pub number_value : List ℕ → ℤ
 number_value text = value_read (decimal_at text)
 
@@ -169,8 +171,8 @@ spaces_of g line (into ∷ e ∷ []) = space_in g line into >>= λ s. Ok (Curren
 spaces_of g line (from ∷ into ∷ e ∷ []) = both_spaces g line from into
 spaces_of g line _ = Ok (Current, Current)
 
--- what names a texture: a string that is written out, or a parameter that nothing assigns; parentheses don't count. A name that isn't known, or
--- that is no string, has another fault.
+-- what names a texture: a string that is written out, or a parameter that nothing assigns; parentheses don't count. A name that isn't known has
+-- another fault, and so has what has a type other than a string's: the call's, or one of another argument.
 abbrev pub is_movable : SlType → Bool → Bool
 is_movable types.Str fixed = not fixed
 is_movable kind fixed = false
@@ -179,23 +181,31 @@ abbrev pub named_by : ℕ → Option (ℕ × Local) → Found Bool
 named_by line None = Ok true
 named_by line (Some at) = if is_movable at.1.kind at.1.fixed then Err (T11, line) else Ok true
 
-abbrev pub texture_named : List Local → ℕ → U.Expr → Found Bool
-texture_named ls line (U.string text at) = Ok true
-texture_named ls line (U.name name at) = named_by at (level_of name ls)
-texture_named ls line (U.paren e at) = texture_named ls line e
-texture_named ls line _ = Err (T11, line)
+-- `other`: whether it has a type other than a string's
+abbrev pub texture_named : List Local → ℕ → Bool → U.Expr → Found Bool
+texture_named ls line other (U.string text at) = Ok true
+texture_named ls line other (U.name name at) = named_by at (level_of name ls)
+texture_named ls line other (U.paren e at) = texture_named ls line other e
+texture_named ls line other _ = if other then Ok true else Err (T11, line)
 
-abbrev pub first_named : List Local → ℕ → List U.Expr → Found Bool
-first_named ls line [] = Ok true
-first_named ls line (e ∷ es) = texture_named ls line e
+abbrev pub first_named : List Local → ℕ → Bool → List U.Expr → Found Bool
+first_named ls line other [] = Ok true
+first_named ls line other (e ∷ es) = texture_named ls line other e
+
+abbrev pub is_string : NodeType → Bool
+is_string nodes.Str = true
+is_string kind = false
+
+abbrev pub is_other : Found T.Expr → Bool
+is_other found = refuses found (λ t. not (is_string (kind_of t)))
 
 -- an operation with the spaces that its arguments name, or the texture; `faceforward` of two arguments reads Ng, and `texture` of one s and t
-abbrev pub operation_in : W.Around → List Local → Operation → ℕ → List U.Expr → Found Operation
-operation_in g ls (operations.Value (ops.Transform a b)) line es = spaces_of g line es >>= λ s. Ok (operations.Value (ops.Transform s.0 s.1))
-operation_in g ls (operations.Value (ops.VTransform a b)) line es = spaces_of g line es >>= λ s. Ok (operations.Value (ops.VTransform s.0 s.1))
-operation_in g ls (operations.Value (ops.NTransform a b)) line es = spaces_of g line es >>= λ s. Ok (operations.Value (ops.NTransform s.0 s.1))
-operation_in g ls (operations.Look look) line es = first_named ls line es >>= λ _. Ok (operations.Look look)
-operation_in g ls op line es = Ok op
+abbrev pub operation_in : W.Around → List Local → Operation → ℕ → List U.Expr → Bool → Found Operation
+operation_in g ls (operations.Value (ops.Transform a b)) line es other = spaces_of g line es >>= λ s. Ok (operations.Value (ops.Transform s.0 s.1))
+operation_in g ls (operations.Value (ops.VTransform a b)) line es other = spaces_of g line es >>= λ s. Ok (operations.Value (ops.VTransform s.0 s.1))
+operation_in g ls (operations.Value (ops.NTransform a b)) line es other = spaces_of g line es >>= λ s. Ok (operations.Value (ops.NTransform s.0 s.1))
+operation_in g ls (operations.Look look) line es other = first_named ls line other es >>= λ _. Ok (operations.Look look)
+operation_in g ls op line es other = Ok op
 
 abbrev pub facing : List T.Expr → Operation
 facing (a ∷ b ∷ []) = operations.FaceForwardNg
@@ -233,31 +243,32 @@ abbrev pub is_amiss : W.Around → Operation → List T.Expr → Bool
 is_amiss g op args = misfits (by_count op args) args || lacks g (by_count op args)
 
 -- a call of a built-in: its own faults, the lower code first, then those of the spaces, then those of the arguments
-abbrev pub operated : W.Around → Bool → List Local → ℕ → List U.Expr → Found (List T.Expr) → Operation → Found T.Expr
-operated g behind ls line es args op =
+abbrev pub operated : W.Around → Bool → List Local → ℕ → List U.Expr → Bool → Found (List T.Expr) → Operation → Found T.Expr
+operated g behind ls line es other args op =
     if refuses args (is_amiss g op) then Err (T2, line) else
-    (allowed g behind op line >>= λ _. operation_in g ls op line es >>= λ o. args >>= λ ts. applied (by_count o ts) line ts)
+    (allowed g behind op line >>= λ _. operation_in g ls op line es other >>= λ o. args >>= λ ts. applied (by_count o ts) line ts)
 
-abbrev pub built : W.Around → Bool → List Local → ℕ → List U.Expr → Found (List T.Expr) → Option Builtin → Found T.Expr
-built g behind ls line es args None = Err (T1, line)
-built g behind ls line es args (Some LeftOut) = Err (T11, line)
-built g behind ls line es args (Some (Plain op)) = operated g behind ls line es args op
+abbrev pub built : W.Around → Bool → List Local → ℕ → List U.Expr → Bool → Found (List T.Expr) → Option Builtin → Found T.Expr
+built g behind ls line es other args None = Err (T1, line)
+built g behind ls line es other args (Some LeftOut) = Err (T11, line)
+built g behind ls line es other args (Some (Plain op)) = operated g behind ls line es other args op
 
 -- a function that calls itself
 abbrev pub calls_itself : List Local → ℕ → Found (List T.Expr) → Found T.Expr
 calls_itself formals line args = if refuses args (λ ts. not (fits formals ts)) then Err (T2, line) else Err (T7, line)
 
 -- a function hides a built-in of its name
-abbrev pub resolved : W.Around → Bool → List Local → List ℕ → ℕ → List U.Expr → Found (List T.Expr) → Option (ℕ × Callee) → Found T.Expr
-resolved g behind ls name line es args (Some c) = called g.default c.0 c.1 line args
-resolved g behind ls name line es args None = built g behind ls line es args (entry_of builtin_names name)
+abbrev pub resolved : W.Around → Bool → List Local → List ℕ → ℕ → List U.Expr → Bool → Found (List T.Expr) → Option (ℕ × Callee) → Found T.Expr
+resolved g behind ls name line es other args (Some c) = called g.default c.0 c.1 line args
+resolved g behind ls name line es other args None = built g behind ls line es other args (entry_of builtin_names name)
 
-abbrev pub call_with : Around → Bool → List Local → List ℕ → ℕ → List U.Expr → Found (List T.Expr) → Option (List Local) → Found T.Expr
-call_with g behind ls name line es args (Some formals) = calls_itself formals line args
-call_with g behind ls name line es args None = resolved g.at behind ls name line es args (callee_named name g.known)
+abbrev pub call_with : Around → Bool → List Local → List ℕ → ℕ → List U.Expr → Bool → Found (List T.Expr) → Option (List Local) → Found T.Expr
+call_with g behind ls name line es other args (Some formals) = calls_itself formals line args
+call_with g behind ls name line es other args None = resolved g.at behind ls name line es other args (callee_named name g.known)
 
-abbrev pub call_of : Around → Bool → List Local → List ℕ → ℕ → List U.Expr → Found (List T.Expr) → Found T.Expr
-call_of g behind ls name line es args = call_with g behind ls name line es args (formals_in name g.own)
+-- a call of a function that stands before, or of a built-in
+abbrev pub call_of : Around → Bool → List Local → List ℕ → ℕ → List U.Expr → Bool → Found (List T.Expr) → Found T.Expr
+call_of g behind ls name line es other args = call_with g behind ls name line es other args (formals_in name g.own)
 
 abbrev pub three : Found T.Expr → Found T.Expr → Found T.Expr → Found (List T.Expr)
 three x y z = x >>= λ a. y >>= λ b. z >>= λ c. Ok (a ∷ b ∷ c ∷ [])
@@ -273,7 +284,7 @@ abbrev mutual
   typed_expr g behind ls (U.number text line) = Ok (T.number (number_value text) line)
   typed_expr g behind ls (U.string text line) = Ok (T.word text line)
   typed_expr g behind ls (U.name name line) = named g.at name line (level_of name ls)
-  typed_expr g behind ls (U.call name args line) = call_of g behind ls name line (listed args) (typed_args g ls args)
+  typed_expr g behind ls (U.call name args line) = call_of g behind ls name line (listed args) (first_is_other g ls args) (typed_args g ls args)
   typed_expr g behind ls (U.paren e line) = typed_expr g false ls e
   typed_expr g behind ls (U.triple kind space x y z line) =
       tripled g.at kind space line (three (typed_expr g false ls x) (typed_expr g false ls y) (typed_expr g false ls z))
@@ -286,6 +297,11 @@ abbrev mutual
   pub typed_args : Around → List Local → U.Exprs → Found (List T.Expr)
   typed_args g ls U.none = Ok []
   typed_args g ls (U.more e rest) = typed_expr g false ls e >>= λ t. typed_args g ls rest >>= λ ts. Ok (t ∷ ts)
+
+  -- whether the first argument has a type other than a string's
+  pub first_is_other : Around → List Local → U.Exprs → Bool
+  first_is_other g ls U.none = false
+  first_is_other g ls (U.more e rest) = is_other (typed_expr g false ls e)
 
   -- a chain groups to the left: `t` is what stands before
   pub typed_links : Around → List Local → T.Expr → U.Links → Found T.Expr

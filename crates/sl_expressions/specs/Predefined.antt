@@ -5,6 +5,7 @@ use Rattle.sl_ast.specs.declared.kinds.Predefined.TheVariants as names
 use Rattle.sl_ast.specs.Names.{reads, writes, is_pi}
 use Rattle.sl_ast.specs.WellTyped.{Around}
 
+-- the predefined variables by name
 abbrev pub predefined_names : List (List ℕ × Predefined)
 predefined_names =
     (codes "P", names.P)
@@ -34,8 +35,10 @@ predefined_names =
 abbrev pub is_read : Around → Predefined → Bool
 is_read g x = is_pi x || (not g.bare && reads g.kind g.lit x)
 
+-- a place may read a predefined variable of its kind of shader
 abbrev pub is_own : Around → Predefined → Bool
 is_own g x = is_pi x || (not g.bare && reads g.kind true x)
 
+-- a place may set it
 abbrev pub is_written : Around → Predefined → Bool
 is_written g x = not g.bare && writes g.kind x

@@ -14,6 +14,7 @@ use Rattle.sl_ast.specs.declared.kinds.SpaceName.TheVariants.{Current}
 use Rattle.sl_expressions.specs.declared.rules.Builtin.{Builtin}
 use Rattle.sl_expressions.specs.declared.rules.Builtin.TheVariants.{Plain, LeftOut}
 
+-- the operation of an operator between two operands
 abbrev pub operation_of : Operator → Operation
 operation_of operators.Or = operations.Value ops.Or
 operation_of operators.And = operations.Value ops.And
@@ -30,6 +31,7 @@ operation_of operators.Multiply = operations.Value ops.Multiply
 operation_of operators.Divide = operations.Value ops.Divide
 operation_of operators.Dot = operations.Value ops.Dot
 
+-- that of one before its operand
 abbrev pub prefix_operation : Prefix → Operation
 prefix_operation prefixes.Negative = operations.Value ops.Negate
 prefix_operation prefixes.Not = operations.Value ops.Not

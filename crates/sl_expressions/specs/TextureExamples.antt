@@ -6,6 +6,7 @@ use Rattle.sl_ast.specs.declared.kinds.SlKind.TheVariants.{Surface, Light}
 use Rattle.sl_ast.specs.declared.kinds.SlType.{SlType}
 use Rattle.sl_ast.specs.declared.kinds.SlType.TheVariants as types
 use Rattle.sl_ast.specs.declared.kinds.NodeType.TheVariants as nodes
+use Rattle.sl_ast.specs.declared.kinds.Prefix.TheVariants.{Negative}
 use Rattle.sl_ast.specs.declared.kinds.SpaceName.TheVariants.{Current}
 use Rattle.sl_ast.specs.declared.operations.Operation.TheVariants.{Look, Value}
 use Rattle.sl_ast.specs.declared.operations.Look.TheVariants.{Here, First}
@@ -15,7 +16,7 @@ use Rattle.sl_expressions.specs.Exprs.{typed_expr}
 use Rattle.sl_expressions.specs.Found.{Found}
 use Rattle.sl_expressions.specs.Scope.{Local}
 use Rattle.sl_expressions.specs.Typed as T
-use Rattle.sl_expressions.specs.declared.faults.TypeCode.TheVariants.{T2, T6, T11}
+use Rattle.sl_expressions.specs.declared.faults.TypeCode.TheVariants.{T1, T2, T6, T11}
 
 -- one variable, a, on line 1
 abbrev variable : SlType → Bool → List Local
@@ -58,6 +59,25 @@ chosen = refl
 
 no_string : found (variable types.Color true) (call_of a) ≡ Err (T2, 2)
 no_string = refl
+
+-- what has another type, or none, where another argument is unknown
+abbrev with : U.Expr → U.Expr → U.Expr
+with e f = U.call (codes "texture") (U.more e (U.more f U.none)) 2
+
+abbrev unknown : U.Expr
+unknown = U.name (codes "b") 3
+
+other_type : found [] (with (U.number (codes "7") 2) unknown) ≡ Err (T1, 3)
+other_type = refl
+
+other_type_in_parentheses : found [] (with (U.paren (U.call (codes "sin") (U.more (U.number (codes "1") 2) U.none) 2) 2) unknown) ≡ Err (T1, 3)
+other_type_in_parentheses = refl
+
+no_type : found [] (with (U.prefixed Negative (U.string (codes "t") 2) 2) unknown) ≡ Err (T11, 2)
+no_type = refl
+
+chosen_name : found (variable types.Str true) (with (U.choice a a a 3) unknown) ≡ Err (T11, 2)
+chosen_name = refl
 
 in_a_light : given_to (W.in_shader Light) (variable types.Str true) (call_of a) ≡ Err (T6, 2)
 in_a_light = refl

@@ -1,8 +1,9 @@
 -- What the code holds, and what its answers say of the definitions.
-use Rattle.std.specs.Prelude.{◌≡◌, ℕ, List, [], ◌∷◌, ◌++◌, Vec, Option, option_map, Result, Ok, Err, map}
+use Rattle.std.specs.Prelude.{◌≡◌, ℕ, Bool, List, [], ◌∷◌, ◌++◌, Vec, Option, option_map, Result, Ok, Err, map}
 use Rattle.std.specs.declared.alloc.Global.{Global}
 use Rattle.sl_expressions.specs.declared.faults.TypeFault.{TypeFault}
 use Rattle.sl_expressions.specs.declared.faults.TypeFault.TheVariants.{At, NoMemory}
+use Rattle.sl_expressions.specs.declared.places.Args.{Args}
 use Rattle.sl_expressions.specs.declared.places.Local.{Local}
 use Rattle.sl_expressions.specs.declared.places.Body.{Body}
 use Rattle.sl_expressions.specs.declared.places.Faulty.{Faulty}
@@ -10,6 +11,7 @@ use Rattle.sl_expressions.specs.declared.places.Known.{Known}
 use Rattle.sl_expressions.specs.declared.places.Own.{Own}
 use Rattle.sl_expressions.specs.declared.places.Spot.{Spot}
 use Rattle.sl_expressions.specs.declared.places.Around.{Around}
+use Rattle.sl_ast.specs.Syntax as U
 use Rattle.sl_ast.specs.WellTyped as W
 use Rattle.sl_ast.specs.declared.kinds.NodeType.{NodeType}
 use Rattle.sl_ast.specs.declared.operations.Operation.{Operation}
@@ -17,7 +19,7 @@ use Rattle.std.specs.Borrow.{Bor}
 use Rattle.sl_expressions.specs.declared.typed.TypedExpr.{TypedExpr}
 use Rattle.sl_expressions.specs.declared.typed.TypedLink.{TypedLink}
 use Rattle.sl_expressions.specs.Found.{Found, ◌>>=◌}
-use Rattle.sl_expressions.specs.Exprs.{applied}
+use Rattle.sl_expressions.specs.Exprs.{applied, typed_args, first_is_other}
 use Rattle.sl_expressions.specs.Typed as T
 use Rattle.sl_expressions.specs.TypedView.{typed_of, tlink_of, tstmt_of}
 use Rattle.sl_expressions.specs.Scope as S
@@ -55,9 +57,25 @@ GivesLinks (Ok kind) first links found = (found ≡ Ok (T.chained first (map tli
 GivesLinks (Err (At code line)) first links found = found ≡ Err (code, line)
 GivesLinks (Err NoMemory) first links found = Unit {0}
 
--- a node from what is found of its parts, which are held in a vector
-abbrev pub OfParts : Result (Vec TypedExpr Global) TypeFault → (Found (List T.Expr) → Found T.Expr) → Result TypedExpr TypeFault → Type 0
-OfParts parts node result = (found : Found (List T.Expr)) → GivesAll typed_of parts found → Gives typed_of result (node found)
+-- what is said of a call's arguments: what is found of them, and whether the first has a type other than a string's; want of memory says nothing
+abbrev pub IsOther : Result (Vec TypedExpr Global) TypeFault → Bool → Bool → Type 0
+IsOther (Err NoMemory) said other = Unit {0}
+IsOther typed said other = said ≡ other
+
+abbrev pub GivesArgs : Args → Bool → Found (List T.Expr) → Type 0
+GivesArgs args other found = GivesAll typed_of args.typed found × IsOther args.typed args.other other
+
+-- the arguments of a call that stand in the text
+abbrev pub IsArgs : Args → S.Around → List S.Local → U.Exprs → Type 0
+IsArgs args g ls es = GivesArgs args (first_is_other g ls es) (typed_args g ls es)
+
+-- arguments behind others
+abbrev pub args_behind : List T.Expr → Found (List T.Expr) → Found (List T.Expr)
+args_behind before found = found >>= λ ts. Ok (before ++ ts)
+
+-- a node from what is found of a call's arguments
+abbrev pub OfArgs : Args → (Bool → Found (List T.Expr) → Found T.Expr) → Result TypedExpr TypeFault → Type 0
+OfArgs args node result = (other : Bool) (found : Found (List T.Expr)) → GivesArgs args other found → Gives typed_of result (node other found)
 
 -- a link more behind those behind a first operand, by a step from what stands before and what is found of the operand behind it
 abbrev pub AddsLink : (T.Expr → Found T.Expr → Found T.Expr) → NodeType → Result TypedExpr TypeFault → List TypedLink → List TypedLink → Result NodeType TypeFault → Type 0

@@ -7,12 +7,12 @@ ghost use Rattle.sl_expressions.specs.Names.{entry_of};
 ghost use Rattle.sl_expressions.specs.Scope as scopes;
 ghost use Rattle.sl_expressions.specs.Typed as T;
 ghost use Rattle.sl_expressions.specs.TypedView.{typed_of};
-ghost use Rattle.sl_expressions.specs.Views.{Gives, GivesAll, OfParts, spot_of, around_of, own_of, callee_of, local_of, found_of, literal_from};
+ghost use Rattle.sl_expressions.specs.Views.{Gives, GivesAll, OfArgs, spot_of, around_of, own_of, callee_of, local_of, found_of, literal_from};
 
 use crate::faults::{TypeCode, TypeFault, fault};
 use crate::names::{find, same};
 use crate::operations::{applied, kind_of, misfits};
-use crate::places::{Around, Body, Faulty, Known, Local, Own, Spot};
+use crate::places::{Args, Around, Body, Faulty, Known, Local, Own, Spot};
 use crate::predefined::space_named;
 use crate::rules::{Builtin, builtin_names};
 use crate::scope::Scope;
@@ -157,24 +157,25 @@ fn named_by(line: u32, at: Option<(usize, Local<'_>)>) -> Result<(), TypeFault>
     }
 }
 
-// Refuses what doesn't name a texture.
-fn texture_named(scope: &Scope<'_>, line: u32, e: &Expr) -> Result<(), TypeFault>
-    ensures { Gives (λ _. true) result (spec.texture_named (map local_of scope.now) line (expr_of e.now)) }
+// Refuses what doesn't name a texture. What has a type other than a string's has another fault.
+fn texture_named(scope: &Scope<'_>, line: u32, other: bool, e: &Expr) -> Result<(), TypeFault>
+    ensures { Gives (λ _. true) result (spec.texture_named (map local_of scope.now) line other (expr_of e.now)) }
 {
     match e {
         Expr::Str { .. } => Ok(()),
         Expr::Name { name, line: at } => named_by(*at, scope.level(name)),
-        Expr::Paren { inner, .. } => texture_named(scope, line, inner),
+        Expr::Paren { inner, .. } => texture_named(scope, line, other, inner),
+        _ if other => Ok(()),
         _ => fault(TypeCode::T11, line),
     }
 }
 
-fn first_named(scope: &Scope<'_>, line: u32, es: &[Expr]) -> Result<(), TypeFault>
-    ensures { Gives (λ _. true) result (spec.first_named (map local_of scope.now) line (map expr_of es.now)) }
+fn first_named(scope: &Scope<'_>, line: u32, other: bool, es: &[Expr]) -> Result<(), TypeFault>
+    ensures { Gives (λ _. true) result (spec.first_named (map local_of scope.now) line other (map expr_of es.now)) }
 {
     match es {
         [] => Ok(()),
-        [name, ..] => texture_named(scope, line, name),
+        [name, ..] => texture_named(scope, line, other, name),
     }
 }
 
@@ -185,8 +186,9 @@ fn operation_in(
     operation: Operation,
     line: u32,
     es: &[Expr],
+    other: bool,
 ) -> Result<Operation, TypeFault>
-    ensures { Gives (λ o. o) result (spec.operation_in (spot_of g.now) (map local_of scope.now) operation line (map expr_of es.now)) }
+    ensures { Gives (λ o. o) result (spec.operation_in (spot_of g.now) (map local_of scope.now) operation line (map expr_of es.now) other) }
 {
     match operation {
         Operation::Value(ValueOperation::Transform(_, _)) => {
@@ -202,7 +204,7 @@ fn operation_in(
             Ok(Operation::Value(ValueOperation::NTransform(from, into)))
         }
         Operation::Look(_) => {
-            first_named(scope, line, es)?;
+            first_named(scope, line, other, es)?;
             Ok(operation)
         }
         _ => Ok(operation),
@@ -263,16 +265,17 @@ fn operated(
     scope: &Scope<'_>,
     line: u32,
     es: &[Expr],
-    args: Result<Vec<TypedExpr>, TypeFault>,
+    args: Args,
     operation: Operation,
 ) -> Result<TypedExpr, TypeFault>
-    ensures { (found : Found (List T.Expr)) → GivesAll typed_of args found → Gives typed_of result (spec.operated (spot_of g.now) behind (map local_of scope.now) line (map expr_of es.now) found operation) }
+    ensures { OfArgs args (λ other found. spec.operated (spot_of g.now) behind (map local_of scope.now) line (map expr_of es.now) other found operation) result }
 {
-    match args {
+    let Args { typed, other } = args;
+    match typed {
         Err(TypeFault::NoMemory) => Err(TypeFault::NoMemory),
         Err(TypeFault::At { code, line: at }) => {
             allowed(g, behind, operation, line)?;
-            operation_in(g, scope, operation, line, es)?;
+            operation_in(g, scope, operation, line, es, other)?;
             fault(code, at)
         }
         Ok(args) => {
@@ -280,7 +283,7 @@ fn operated(
                 return fault(TypeCode::T2, line);
             }
             allowed(g, behind, operation, line)?;
-            let operation = operation_in(g, scope, operation, line, es)?;
+            let operation = operation_in(g, scope, operation, line, es, other)?;
             let operation = by_count(operation, args.as_slice());
             applied(operation, line, args)
         }
@@ -293,10 +296,10 @@ fn built(
     scope: &Scope<'_>,
     line: u32,
     es: &[Expr],
-    args: Result<Vec<TypedExpr>, TypeFault>,
+    args: Args,
     builtin: Option<Builtin>,
 ) -> Result<TypedExpr, TypeFault>
-    ensures { (found : Found (List T.Expr)) → GivesAll typed_of args found → Gives typed_of result (spec.built (spot_of g.now) behind (map local_of scope.now) line (map expr_of es.now) found builtin) }
+    ensures { OfArgs args (λ other found. spec.built (spot_of g.now) behind (map local_of scope.now) line (map expr_of es.now) other found builtin) result }
 {
     match builtin {
         None => fault(TypeCode::T1, line),
@@ -343,12 +346,12 @@ fn resolved(
     name: &Text,
     line: u32,
     es: &[Expr],
-    args: Result<Vec<TypedExpr>, TypeFault>,
+    args: Args,
 ) -> Result<TypedExpr, TypeFault>
-    ensures { OfParts args (λ found. spec.resolved (spot_of g.now.at) behind (map local_of scope.now) name.now line (map expr_of es.now) found (scopes.callee_named name.now (map callee_of g.now.known.now))) result }
+    ensures { OfArgs args (λ other found. spec.resolved (spot_of g.now.at) behind (map local_of scope.now) name.now line (map expr_of es.now) other found (scopes.callee_named name.now (map callee_of g.now.known.now))) result }
 {
     match g.known.find(name) {
-        Some((k, known)) => called(g.at.default, k, known, line, args),
+        Some((k, known)) => called(g.at.default, k, known, line, args.typed),
         None => {
             let builtin = find(builtin_names(), name);
             built(&g.at, behind, scope, line, es, args, builtin)
@@ -364,12 +367,12 @@ pub fn call_of(
     name: &Text,
     line: u32,
     es: &[Expr],
-    args: Result<Vec<TypedExpr>, TypeFault>,
+    args: Args,
 ) -> Result<TypedExpr, TypeFault>
-    ensures { (found : Found (List T.Expr)) → GivesAll typed_of args found → Gives typed_of result (spec.call_of (around_of g.now) behind (map local_of scope.now) name.now line (map expr_of es.now) found) }
+    ensures { OfArgs args (λ other found. spec.call_of (around_of g.now) behind (map local_of scope.now) name.now line (map expr_of es.now) other found) result }
 {
     match own_formals(name, &g.own) {
-        Some(formals) => calls_itself(formals, line, args),
+        Some(formals) => calls_itself(formals, line, args.typed),
         None => resolved(g, behind, scope, name, line, es, args),
     }
 }

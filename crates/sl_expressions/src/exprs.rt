@@ -1,24 +1,24 @@
 // The typed trees of expressions.
-ghost use Rattle.std.specs.Prelude.{◌≡◌, Ok, false, map, option_map};
+ghost use Rattle.std.specs.Prelude.{◌≡◌, [], ◌∷◌, Ok, false, map, option_map};
 ghost use Rattle.sl_ast.specs.Syntax as U;
 ghost use Rattle.sl_ast.specs.SyntaxView.{expr_of, link_of};
 ghost use Rattle.sl_expressions.specs.Exprs as spec;
 ghost use Rattle.sl_expressions.specs.Typed as T;
 ghost use Rattle.sl_expressions.specs.TypedView.{typed_of};
-ghost use Rattle.sl_expressions.specs.Views.{Gives, GivesAll, spot_of, around_of, local_of, found_of, chain_of};
+ghost use Rattle.sl_expressions.specs.Views.{Gives, GivesAll, IsArgs, args_behind, spot_of, around_of, local_of, found_of, chain_of};
 
 use crate::calls::call_of;
 use crate::faults::{TypeCode, TypeFault, fault};
 use crate::names::find;
 use crate::operations::{add_link, chained, chosen, converted, kind_of, prefixed, three, tripled};
-use crate::parts::push;
-use crate::places::{Around, Local, Spot};
+use crate::parts::{one, push};
+use crate::places::{Args, Around, Local, Spot};
 use crate::predefined::{is_own, is_read, predefined_names};
 use crate::rules::operation_of;
 use crate::scope::{Scope, place_of};
 use crate::typed::{TypedExpr, TypedLink};
 use fixed_math::{Decimal, Num, Text};
-use sl_ast::{Expr, Link, Predefined, Variable};
+use sl_ast::{Expr, Link, NodeType, Predefined, Variable};
 use std::alloc::Global;
 
 // The value of a number; a text that is none has the value 0.
@@ -65,6 +65,12 @@ fn predefined_at(g: &Spot, line: u32, name: Option<Predefined>) -> Result<TypedE
     } else {
         fault(TypeCode::T1, line)
     }
+}
+
+fn is_string(kind: NodeType) -> bool
+    ensures { result ≡ spec.is_string kind }
+{
+    matches!(kind, NodeType::Str)
 }
 
 fn is_call_node(e: &Expr) -> bool
@@ -156,24 +162,51 @@ pub fn expr(
             converted(alloc, &g.at, *kind, space, is_call_node(value), *line, part)
         }
         Expr::Call { name, args, line } => {
-            let parts = exprs(args.as_slice(), alloc, g, scope);
+            let parts = typed_args(args.as_slice(), alloc, g, scope);
             call_of(g, behind, scope, name, *line, args.as_slice(), parts)
         }
     }
 }
 
-// The typed trees of arguments.
+// The arguments of a call.
+#[cycle(exprs)]
+fn typed_args(es: &[Expr], alloc: Global, g: &Around<'_, '_>, scope: &Scope<'_>) -> Args
+    ensures { IsArgs result (around_of g.now) (map local_of scope.now) (U.exprs (map expr_of es.now)) }
+{
+    match es {
+        [] => Args {
+            typed: Ok(Vec::new(alloc)),
+            other: false,
+        },
+        [first, rest @ ..] => match expr(first, alloc, g, false, scope) {
+            Err(fault) => Args {
+                typed: Err(fault),
+                other: false,
+            },
+            Ok(first) => {
+                let other = !is_string(kind_of(&first));
+                Args {
+                    typed: typed_behind(first, rest, alloc, g, scope),
+                    other,
+                }
+            }
+        },
+    }
+}
+
+// The typed trees of arguments behind the first one, with it.
 #[cycle(exprs)]
 #[tactic(auto, using(crate::proofs::Behind::args_step, crate::proofs::Behind::args_end))]
-pub fn exprs(
+fn typed_behind(
+    first: TypedExpr,
     es: &[Expr],
     alloc: Global,
     g: &Around<'_, '_>,
     scope: &Scope<'_>,
 ) -> Result<Vec<TypedExpr>, TypeFault>
-    ensures { GivesAll typed_of result (spec.typed_args (around_of g.now) (map local_of scope.now) (U.exprs (map expr_of es.now))) }
+    ensures { GivesAll typed_of result (args_behind (typed_of first ∷ []) (spec.typed_args (around_of g.now) (map local_of scope.now) (U.exprs (map expr_of es.now)))) }
 {
-    let mut before = Vec::new(alloc);
+    let mut before = one(alloc, first)?;
     for e in es {
         let value = expr(e, alloc, g, false, scope)?;
         push(&mut before, value)?;

@@ -1,5 +1,5 @@
 // What is known at a place of a shader's text.
-use crate::faults::TypeCode;
+use crate::faults::{TypeCode, TypeFault};
 use crate::scope::Functions;
 use crate::typed::{TypedExpr, TypedStmt};
 use fixed_math::{List, Text};
@@ -39,6 +39,13 @@ pub struct Known<'a> {
     pub returns: SlType,
     pub body: Result<Body, Faulty>,
     pub by_default: Result<Body, Faulty>,
+}
+
+/// The arguments of a call: all of them, or the first fault in them. `other` says that the first has a type that isn't a string's.
+#[derive(Drop)]
+pub struct Args {
+    pub typed: Result<Vec<TypedExpr>, TypeFault>,
+    pub other: bool,
 }
 
 /// The function that a place is in.

@@ -16,3 +16,5 @@ mod Starts
 mod StmtReads
 mod StmtStarts
 mod Turns
+mod Told
+mod ToldFiles

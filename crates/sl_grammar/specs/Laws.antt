@@ -1,5 +1,5 @@
 -- Laws of tokens and of the grammar.
-use Rattle.std.specs.Prelude.{◌≡◌, ◌≤◌, ◌<◌, ◌==◌, ℕ, ◌+◌, List, [], ◌∷◌, ◌++◌, take, drop, count_by, Ok, Err}
+use Rattle.std.specs.Prelude.{◌≡◌, ◌≤◌, ◌<◌, ◌==◌, ◌↔◌, ◌||◌, ℕ, ◌+◌, Bool, true, false, List, [], ◌∷◌, ◌++◌, take, drop, count_by, Ok, Err}
 use Rattle.sl_ast.specs.Syntax.{Expr, Shader}
 use Rattle.sl_ast.specs.Levels.{levels_of, levels_file}
 use Rattle.sl_lexer.specs.declared.token.Token.{Token}
@@ -8,10 +8,12 @@ use Rattle.sl_lexer.specs.declared.token.TokenKind.TheVariants as kinds
 use Rattle.sl_lexer.specs.declared.found.Found.{Found}
 use Rattle.sl_lexer.specs.declared.found.Found.TheVariants.{Blank, Whole, Bad}
 use Rattle.sl_expression_grammar.specs.declared.fault.SlCode.{SlCode}
-use Rattle.sl_expression_grammar.specs.declared.fault.SlCode.TheVariants.{P3}
+use Rattle.sl_expression_grammar.specs.declared.fault.SlCode.TheVariants.{P1, P2, P3}
+use Rattle.sl_expression_grammar.specs.Reading.{head_is, is_bad}
 use Rattle.sl_grammar.specs.Bare.{bare, bare_shader}
-use Rattle.sl_expression_grammar.specs.Expressions.{expr_at}
+use Rattle.sl_expression_grammar.specs.Expressions.{begins_expr, expr_at}
 use Rattle.sl_parser.specs.Files.{file_of, parsed}
+use Rattle.sl_parser.specs.Statements.{begins_stmt}
 use Rattle.sl_grammar.specs.Grammatical.{Grammatical, Ends, GrammaticalShader}
 use Rattle.sl_lexer.specs.Found.{found_in}
 use Rattle.sl_lexer.specs.Tokens.{tokens_from, tokens_of}
@@ -37,6 +39,25 @@ FaultStays =
     (before : List Token) (faulty : Token) (behind other : List Token) (code : SlCode)
     → file_of 64 (before ++ (faulty ∷ behind)) ≡ Err (code, faulty ∷ behind)
     → file_of 64 (before ++ (faulty ∷ other)) ≡ Err (code, faulty ∷ other)
+
+-- a token at which a level may open: one that a statement begins with, or an expression; prefix operators, and types before a value, are among
+-- those that an expression begins with
+abbrev pub opens : TokenKind → Bool
+opens k = begins_stmt k || begins_expr k
+
+-- where a fault stands: P1 where no token begins, P2 where one does or the text ends, P3 at one that opens a level
+abbrev pub StandsAt : SlCode → List Token → Type 0
+StandsAt P1 rest = head_is is_bad rest ≡ true
+StandsAt P2 rest = head_is is_bad rest ≡ false
+StandsAt P3 rest = head_is opens rest ≡ true
+
+-- a fault is P1 exactly where no token begins at its place
+abbrev pub BadTokens : Type 0
+BadTokens = (ts rest : List Token) (code : SlCode) → file_of 64 ts ≡ Err (code, rest) → (code ≡ P1) ↔ (head_is is_bad rest ≡ true)
+
+-- P3 stands at a token at which a level opens
+abbrev pub DeepTokens : Type 0
+DeepTokens = (ts rest : List Token) → file_of 64 ts ≡ Err (P3, rest) → head_is opens rest ≡ true
 
 -- the tokens of an expression of the grammar, on any lines, are read as that expression up to lines, before what no
 -- expression goes on at, where enough levels are left

@@ -1,5 +1,5 @@
 // The laws of tokens and of the grammar.
-ghost use Rattle.sl_grammar.specs.Laws.{FaultStays, ExprAccepted, ExprSpelledOnce, ShaderAccepted, ShaderGrammatical, ShaderSpelledOnce, FaultFirst, TextUnspelled, FaultUnspelled, TokensInTurn};
+ghost use Rattle.sl_grammar.specs.Laws.{BadTokens, DeepTokens, FaultStays, ExprAccepted, ExprSpelledOnce, ShaderAccepted, ShaderGrammatical, ShaderSpelledOnce, FaultFirst, TextUnspelled, FaultUnspelled, TokensInTurn};
 
 /// Does nothing: its contract is a law of tokens. Those of a text are what stands at its front, and then the tokens of the
 /// text behind it, with its lines counted on.
@@ -11,6 +11,13 @@ pub fn tokens_in_turn()
 /// whose tokens begin like those of a refused one, up to and with the faulty one, is refused there too.
 pub fn fault_stays()
     ensures { FaultStays }
+{}
+
+/// Does nothing: its contract is two laws of the grammar. A fault is P1 exactly where no token begins at its place. P3 stands
+/// at a token at which a level opens: one that begins a statement or an expression, a prefix operator or a type among them.
+pub fn faults_placed()
+    ensures bad { BadTokens }
+    ensures deep { DeepTokens }
 {}
 
 /// Does nothing: its contract is two laws of the grammar. The tokens of each expression of the grammar are read, and the

@@ -4,4 +4,6 @@
 
 mod laws;
 
-pub use laws::{expressions_spelled_once, fault_stays, shaders_spelled_once, tokens_in_turn};
+pub use laws::{
+    expressions_spelled_once, fault_stays, faults_placed, shaders_spelled_once, tokens_in_turn,
+};

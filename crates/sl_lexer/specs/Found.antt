@@ -124,6 +124,7 @@ found_at b bs =
     else if is_letter b then found_word (b ∷ bs)
     else found_sign b bs (mark_at b)
 
+-- what stands at the front of bytes: blank bytes, a token and its length, or no token
 abbrev pub found_in : List ℕ → Found
 found_in [] = Bad
 found_in (b ∷ bs) = found_at b bs

@@ -55,6 +55,7 @@ abbrev pub kind_or : {A : Type 0} → (A → TokenKind) → Option A → TokenKi
 kind_or kind None other = other
 kind_or kind (Some x) other = kind x
 
+-- the token that a word is: a reserved word, or a name
 abbrev pub kind_named : List ℕ → TokenKind
 kind_named name =
     kind_or kinds.Kind (sort_named name) (kind_or kinds.Class (class_named name) (kind_or kinds.Type (type_named name) (kind_or kinds.Word (word_named name) (kinds.Name name))))

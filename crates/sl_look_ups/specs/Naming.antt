@@ -37,6 +37,7 @@ abbrev pub bindable_from : List TextureNode → ℕ → List Local → List Loca
 bindable_from nodes k [] = []
 bindable_from nodes k (l ∷ ls) = bindable (is_named_by nodes k) l ∷ bindable_from nodes (k + 1) ls
 
+-- a shader's parameters as variables of primitives bind to them
 abbrev pub binding_params : Tree → List Local
 binding_params t = bindable_from (texture_nodes t) 0 t.params
 

@@ -21,6 +21,7 @@ use Rattle.builtins.specs.Lights.{Light, is_in_cone, seen, sum_of}
 abbrev pub Gives : Type 0 → Type 0
 Gives A = Env → A × Env
 
+-- what a statement does at a point: whether what follows it is run, and the point after it
 abbrev pub Runs : Type 0
 Runs = Env → Signal × Env
 
@@ -62,6 +63,7 @@ loop (suc n) u t step body e =
 abbrev pub under_light : Vec3 × Vec3 → Env → Env
 under_light light e = with_name names.Cl (Triple light.1) (with_name names.L (Triple light.0) e)
 
+-- a body once for each light that is seen
 abbrev pub each_light : List (Vec3 × Vec3) → Runs → Runs
 each_light [] body e = (Next, e)
 each_light (light ∷ rest) body e = on_next (body (under_light light e)) (each_light rest body)
@@ -83,12 +85,14 @@ seen_from g (place ∷ cone) = seen cone (answers_at g place)
 abbrev pub lighting : Vec3 → Runs → Runs
 lighting l body e = body record (with_name names.L (Triple l) e) { lit = true }
 
+-- the body of `illuminate`, where its cone holds the point
 abbrev pub illuminated : List Value → Runs → Runs
 illuminated [] body e = (Next, e)
 illuminated (place ∷ cone) body e =
     let l = each_two sub (triple_of (e.named names.Ps)) (triple_of place) in
     cond (is_in_cone cone l) (lighting l body e) (Next, e)
 
+-- the body of `solar`
 abbrev pub solar : List Value → Runs → Runs
 solar [] body e = (Next, e)
 solar (axis ∷ _) body e = lighting (triple_of axis) body e

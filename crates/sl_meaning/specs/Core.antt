@@ -64,6 +64,7 @@ abbrev pub formals : Arguments → List Slot
 formals no_arguments = []
 formals (argument u kind e rest) = slot u kind ∷ formals rest
 
+-- the scope after a statement
 abbrev pub after : Stmt → List Slot → List Slot
 after (declare u kind e) ss = ss ++ slot u kind ∷ []
 after _ ss = ss
@@ -76,6 +77,7 @@ abbrev pub all_uniform : List Slot → Bool
 all_uniform [] = true
 all_uniform (s ∷ ss) = s.uniform && all_uniform ss
 
+-- whether a variable is uniform
 abbrev pub class_in : Variable → List Slot → Bool
 class_in (variables.Predefined p) ss = is_uniform_name p
 class_in (variables.Level k) ss = (get_or ss k no_slot).uniform

@@ -34,16 +34,20 @@ pub data Signal : Type 0 where
   Break : Signal
   Continue : Signal
 
+-- what a variable has that nothing was put into
 abbrev pub zero_value : Value
 zero_value = Number (pos 0)
 
+-- the value of a variable
 abbrev pub read_of : Variable → Env → Value
 read_of (variables.Predefined p) e = e.named p
 read_of (variables.Level k) e = get_or e.values k zero_value
 
+-- a point where a predefined variable has another value
 abbrev pub with_name : Predefined → Value → Env → Env
 with_name p v e = record e { named = λ q. cond (place_of p == place_of q) v (e.named q) }
 
+-- a point where a variable has another value
 abbrev pub with_variable : Variable → Value → Env → Env
 with_variable (variables.Predefined p) v e = with_name p v e
 with_variable (variables.Level k) v e = record e { values = set e.values k v }
@@ -52,9 +56,11 @@ with_variable (variables.Level k) v e = record e { values = set e.values k v }
 abbrev pub declared : Value → Env → Env
 declared v e = record e { values = e.values ++ v ∷ [] }
 
+-- the turns that are left, for uniform loops or for a point's own
 abbrev pub budget : Bool → Env → ℕ
 budget u e = cond u e.turns e.own
 
+-- one turn less
 abbrev pub spend : Bool → Env → Env
 spend true e = record e { turns = e.turns - 1 }
 spend false e = record e { own = e.own - 1 }

@@ -16,9 +16,11 @@ use Rattle.sl_meaning.specs.Alone.{Runs, answers_at, over_lights, inside, run, r
 abbrev pub Envs : Type 0
 Envs = ℕ → Env
 
+-- a value at each place of a grid, and the points after it
 abbrev pub GivesAll : Type 0 → Type 0
 GivesAll A = Envs → (ℕ → A) × Envs
 
+-- how a statement ends at all places, and the points after it
 abbrev pub RunsAll : Type 0
 RunsAll = Envs → Signal × Envs
 
@@ -41,6 +43,7 @@ inlined_all args body result es =
 abbrev pub next_all : Signal × Envs → RunsAll → Signal × Envs
 next_all r go = elim r.0 [ Next ↦ go r.1 | Break ↦ r | Continue ↦ r ]
 
+-- a block: its variables end with it
 abbrev pub inside_all : RunsAll → RunsAll
 inside_all body es = let r = body es in (r.0, λ i. cut_to (es i) (r.1 i))
 

@@ -32,6 +32,7 @@ start_value kind = Number (pos 0)
 abbrev pub pi : C.Expr
 pi = C.literal (Number (pos 205887))
 
+-- the value of a variable in the core tree; `PI` is a number there
 abbrev pub read : Variable → C.Expr
 read (variables.Predefined names.Pi) = pi
 read x = C.read x
@@ -84,6 +85,7 @@ operated (operations.Look look) k es = looked_up look k es
 abbrev pub combined : ValueOperation → Variable → C.Expr → C.Expr
 combined op x e = C.apply op (C.more (C.read x) (C.more e C.none))
 
+-- what an assignment of any kind puts into its variable
 abbrev pub put_into : SetOperator → Variable → C.Expr → C.Expr
 put_into sets.Set x e = e
 put_into sets.Add x e = combined ops.Add x e

@@ -45,6 +45,7 @@ begun kind around name = begun_by (row_named name (variables kind)) around name
 abbrev pub most_turns : ℕ
 most_turns = 65536
 
+-- a point as a run begins with it: its variables, its parameters' values and both budgets full
 abbrev pub beginning : SlKind → Names → List Value → Env
 beginning kind around values = record { named = begun kind around; values = values; turns = most_turns; own = most_turns; lit = false }
 
@@ -52,6 +53,7 @@ beginning kind around values = record { named = begun kind around; values = valu
 abbrev pub left_by : SlKind → Names → Names → Names
 left_by kind around after name = cond (writes kind name) (after name) (around name)
 
+-- what a shader leaves at place i of a grid
 abbrev pub ran : T.Tree → Around → (ℕ → List Value) → (ℕ → Names) → ℕ → Names
 ran t a values around i =
     let after = (inside_all (grid_all (body_of t) (slots t.params) a most_turns) (λ j. beginning t.kind (around j) (values j))).1 in
@@ -103,5 +105,6 @@ abbrev pub answer_of : Bool → Env → answers.Light
 answer_of false e = answers.ambient (triple_of (e.named names.Cl))
 answer_of true e = cond e.lit (answers.lit (triple_of (e.named names.L)) (triple_of (e.named names.Cl))) answers.unlit
 
+-- what a light's shader answers at a point, run there by itself
 abbrev pub light_answer : T.Tree → Spaces → List Value → Vec3 → answers.Light
 light_answer t spaces values q = answer_of (lights_in_all (body_of t)) (run_all (body_of t) (dark spaces) most_turns (beginning Light (asked_at q) values)).1

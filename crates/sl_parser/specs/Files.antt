@@ -86,6 +86,7 @@ abbrev pub ended : S.Shader × List Token → Reads S.Shader
 ended (s, []) = Ok (s, [])
 ended (s, t ∷ ts) = unexpected (t ∷ ts)
 
+-- functions, and a shader after them, to the end of the text
 abbrev pub file_of : ℕ → List Token → Reads S.Shader
 file_of levels ts = functions_in levels ts >>= λ fs. shader_then levels fs.0 fs.1 (sort_at fs.1) >>= ended
 

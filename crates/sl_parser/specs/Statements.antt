@@ -111,6 +111,7 @@ group_then expr valued class ts (Some k) = commas (declared_with expr valued) k.
 abbrev pub group_behind : (List Token → Reads S.Expr) → Valued → Option Class × List Token → Reads S.Group
 group_behind expr valued c = group_then expr valued c.0 c.1 (type_at c.1)
 
+-- a declaration: a class or none, a type, and names with their values
 abbrev pub group_with : (List Token → Reads S.Expr) → Valued → List Token → Reads S.Group
 group_with expr valued ts = group_behind expr valued (class_at ts)
 

@@ -22,7 +22,7 @@ use Rattle.sl_expressions.specs.Names.{entry_of}
 use Rattle.sl_expressions.specs.Rules.{operation_of, prefix_operation, builtin_names}
 use Rattle.sl_expressions.specs.Typed as T
 use Rattle.sl_expressions.specs.Scope.{Local, level_of, Callee, callee_named, Around, formals_in, body_in}
-use Rattle.sl_expressions.specs.Exprs.{named, operands_of, applied, misfits, space_at, fits, called, literal_of, literal_space, space_in, spaces_of, operation_in, first_named, looking, is_call_node, by_count, is_noise, is_barred, allowed, is_amiss, operated, built, calls_itself, resolved, call_with, call_of, three, listed, typed_expr, typed_args, typed_links}
+use Rattle.sl_expressions.specs.Exprs.{named, operands_of, applied, misfits, space_at, fits, called, literal_of, literal_space, space_in, spaces_of, operation_in, first_named, looking, is_call_node, by_count, is_noise, is_barred, allowed, is_amiss, operated, built, calls_itself, resolved, call_with, call_of, three, listed, typed_expr, typed_args, first_is_other, typed_links}
 use Rattle.sl_types.specs.Inline.{Built, nothing, count, count_args, inline, inline_args, tree_formal}
 use Rattle.sl_types.proofs.WellScope.{Good, GoodSome, good_bind, good_as, good_any, types_of, level_typed}
 use Rattle.sl_types.proofs.WellExprs.{Works, Ready, WorksAt, works_at, Fine, Literal, AllFine, AllLiteral, both, kind_kept, args_fine, applied_fine, stands_operator, stands_prefix, named_fine, converted_fine, tripled_fine}
@@ -167,8 +167,8 @@ allowed_stands g behind op line =
     (λ e. both (has_operation g.kind op) (is_constant op || not g.default) (not_false (has_operation g.kind op) has) (unbarred behind (is_noise op) (is_constant op) g.default e)))
 
 -- what behind its own faults a call of a built-in comes to
-abbrev Operates : W.Around → List SlType → List Built → List Local → ℕ → List U.Expr → List T.Expr → Operation → Type 0
-Operates g ks fs ls line es ts op = Good (operation_in g ls op line es >>= λ o. applied (by_count o ts) line ts) (Fine g ks fs)
+abbrev Operates : W.Around → List SlType → List Built → List Local → ℕ → List U.Expr → Bool → List T.Expr → Operation → Type 0
+Operates g ks fs ls line es other ts op = Good (operation_in g ls op line es other >>= λ o. applied (by_count o ts) line ts) (Fine g ks fs)
 
 transforms : (g : W.Around) (ks : List SlType) (fs : List Built) (line : ℕ) (es : List U.Expr) (ts : List T.Expr) (make : SpaceName → SpaceName → Operation) (kind : NodeType)
     → ((a b : SpaceName) → rule (make a b) (operands_of ts) ≡ through_spaces kind (operands_of ts)) → ((a b : SpaceName) → by_count (make a b) ts ≡ make a b)
@@ -198,59 +198,59 @@ faces g ks fs line (x ∷ y ∷ []) a m h =
 faces g ks fs line (x ∷ y ∷ z ∷ []) a m h = applied_fine g ks fs (operations.Value ops.FaceForward) line (x ∷ y ∷ z ∷ []) (λ kind is n. a) h
 faces g ks fs line (x ∷ y ∷ z ∷ w ∷ ts) a m h = tt
 
-operates : (g : W.Around) (ks : List SlType) (fs : List Built) (ls : List Local) (line : ℕ) (es : List U.Expr) (ts : List T.Expr) (op : Operation) → is_call op ≡ true → Allowed g op
-    → is_amiss g op ts ≡ false → AllLiteral es ts → AllFine g ks fs ts → Operates g ks fs ls line es ts op
-operates g ks fs ls line es ts (operations.Value (ops.Triple kind space)) c a m l h = absurd (cc c)
-operates g ks fs ls line es ts (operations.Value (ops.Convert kind space)) c a m l h = absurd (cc c)
-operates g ks fs ls line es ts operations.FaceForwardNg c a m l h = absurd (cc c)
-operates g ks fs ls line es ts (operations.Value (ops.Transform from into)) c a m l h =
+operates : (g : W.Around) (ks : List SlType) (fs : List Built) (ls : List Local) (line : ℕ) (es : List U.Expr) (other : Bool) (ts : List T.Expr) (op : Operation) → is_call op ≡ true → Allowed g op
+    → is_amiss g op ts ≡ false → AllLiteral es ts → AllFine g ks fs ts → Operates g ks fs ls line es other ts op
+operates g ks fs ls line es other ts (operations.Value (ops.Triple kind space)) c a m l h = absurd (cc c)
+operates g ks fs ls line es other ts (operations.Value (ops.Convert kind space)) c a m l h = absurd (cc c)
+operates g ks fs ls line es other ts operations.FaceForwardNg c a m l h = absurd (cc c)
+operates g ks fs ls line es other ts (operations.Value (ops.Transform from into)) c a m l h =
     transforms g ks fs line es ts (λ x y. operations.Value (ops.Transform x y)) nodes.Point (λ x y. refl) (λ x y. refl) (λ x y n. refl) l h
-operates g ks fs ls line es ts (operations.Value (ops.VTransform from into)) c a m l h =
+operates g ks fs ls line es other ts (operations.Value (ops.VTransform from into)) c a m l h =
     transforms g ks fs line es ts (λ x y. operations.Value (ops.VTransform x y)) nodes.Vector (λ x y. refl) (λ x y. refl) (λ x y n. refl) l h
-operates g ks fs ls line es ts (operations.Value (ops.NTransform from into)) c a m l h =
+operates g ks fs ls line es other ts (operations.Value (ops.NTransform from into)) c a m l h =
     transforms g ks fs line es ts (λ x y. operations.Value (ops.NTransform x y)) nodes.Normal (λ x y. refl) (λ x y. refl) (λ x y n. refl) l h
-operates g ks fs ls line es ts (operations.Value ops.FaceForward) c a m l h = faces g ks fs line ts a m h
-operates g ks fs ls line es ts (operations.Look look) c a m l h =
-    good_bind (first_named ls line es >>= λ _. Ok (operations.Look look)) (λ o. applied (by_count o ts) line ts) (λ o. o ≡ operations.Look look) (Fine g ks fs)
-    (good_bind (first_named ls line es) (λ _. Ok (operations.Look look)) (λ b. Unit {0}) (λ o. o ≡ operations.Look look) (good_any (first_named ls line es)) (λ b u. refl))
+operates g ks fs ls line es other ts (operations.Value ops.FaceForward) c a m l h = faces g ks fs line ts a m h
+operates g ks fs ls line es other ts (operations.Look look) c a m l h =
+    good_bind (first_named ls line other es >>= λ _. Ok (operations.Look look)) (λ o. applied (by_count o ts) line ts) (λ o. o ≡ operations.Look look) (Fine g ks fs)
+    (good_bind (first_named ls line other es) (λ _. Ok (operations.Look look)) (λ b. Unit {0}) (λ o. o ≡ operations.Look look) (good_any (first_named ls line other es)) (λ b u. refl))
     (λ o is. subst (λ y. Good (applied (by_count y ts) line ts) (Fine g ks fs)) (sym is) (applied_fine g ks fs (operations.Look (looking look ts)) line ts (λ kind is n. a) h))
-operates g ks fs ls line es ts op c a m l h = applied_fine g ks fs op line ts (λ kind is n. a) h
+operates g ks fs ls line es other ts op c a m l h = applied_fine g ks fs op line ts (λ kind is n. a) h
 
 -- the arguments of a call
 abbrev pub GoodArgs : W.Around → List SlType → List Built → List U.Expr → List T.Expr → Type 0
 GoodArgs g ks fs es ts = AllFine g ks fs ts × AllLiteral es ts
 
-operated_fine : (g : W.Around) (ks : List SlType) (fs : List Built) (behind : Bool) (ls : List Local) (line : ℕ) (es : List U.Expr) (args : Found (List T.Expr)) (op : Operation) → is_call op ≡ true
-    → Good args (GoodArgs g ks fs es) → Good (operated g behind ls line es args op) (Fine g ks fs)
-operated_fine g ks fs behind ls line es (Err e) op c h =
+operated_fine : (g : W.Around) (ks : List SlType) (fs : List Built) (behind : Bool) (ls : List Local) (line : ℕ) (es : List U.Expr) (other : Bool) (args : Found (List T.Expr)) (op : Operation) → is_call op ≡ true
+    → Good args (GoodArgs g ks fs es) → Good (operated g behind ls line es other args op) (Fine g ks fs)
+operated_fine g ks fs behind ls line es other (Err e) op c h =
     good_bind (allowed g behind op line) _ (λ b. Unit {0}) (Fine g ks fs) (good_any (allowed g behind op line))
-    (λ b u. good_bind (operation_in g ls op line es) _ (λ o. Unit {0}) (Fine g ks fs) (good_any (operation_in g ls op line es)) (λ o u. tt))
-operated_fine g ks fs behind ls line es (Ok ts) op c h =
+    (λ b u. good_bind (operation_in g ls op line es other) _ (λ o. Unit {0}) (Fine g ks fs) (good_any (operation_in g ls op line es other)) (λ o u. tt))
+operated_fine g ks fs behind ls line es other (Ok ts) op c h =
     cond_both (is_amiss g op ts) _ _ (λ r. Good r (Fine g ks fs)) (λ e. tt)
     (λ m. good_bind (allowed g behind op line) _ (λ b. Allowed g op) (Fine g ks fs) (allowed_stands g behind op line)
-    (λ b a. operates g ks fs ls line es ts op c a m h.1 h.0))
+    (λ b a. operates g ks fs ls line es other ts op c a m h.1 h.0))
 
-built_fine : (g : W.Around) (ks : List SlType) (fs : List Built) (behind : Bool) (ls : List Local) (line : ℕ) (es : List U.Expr) (args : Found (List T.Expr)) (o : Option Builtin)
-    → GoodSome o (λ b. is_listed b ≡ true) → Good args (GoodArgs g ks fs es) → Good (built g behind ls line es args o) (Fine g ks fs)
-built_fine g ks fs behind ls line es args None c h = tt
-built_fine g ks fs behind ls line es args (Some LeftOut) c h = tt
-built_fine g ks fs behind ls line es args (Some (Plain op)) c h = operated_fine g ks fs behind ls line es args op c h
+built_fine : (g : W.Around) (ks : List SlType) (fs : List Built) (behind : Bool) (ls : List Local) (line : ℕ) (es : List U.Expr) (other : Bool) (args : Found (List T.Expr)) (o : Option Builtin)
+    → GoodSome o (λ b. is_listed b ≡ true) → Good args (GoodArgs g ks fs es) → Good (built g behind ls line es other args o) (Fine g ks fs)
+built_fine g ks fs behind ls line es other args None c h = tt
+built_fine g ks fs behind ls line es other args (Some LeftOut) c h = tt
+built_fine g ks fs behind ls line es other args (Some (Plain op)) c h = operated_fine g ks fs behind ls line es other args op c h
 
-resolved_fine : (g : W.Around) (ks : List SlType) (fs : List Built) (behind : Bool) (ls : List Local) (name : List ℕ) (line : ℕ) (es : List U.Expr) (args : Found (List T.Expr)) (o : Option (ℕ × Callee))
-    → GoodSome o (WorksAt g.kind g.default fs) → Good args (GoodArgs g ks fs es) → Good (resolved g behind ls name line es args o) (Fine g ks fs)
-resolved_fine g ks fs behind ls name line es args None w h = built_fine g ks fs behind ls line es args (entry_of builtin_names name) (entries_listed builtin_names name refl) h
-resolved_fine g ks fs behind ls name line es args (Some x) w h =
+resolved_fine : (g : W.Around) (ks : List SlType) (fs : List Built) (behind : Bool) (ls : List Local) (name : List ℕ) (line : ℕ) (es : List U.Expr) (other : Bool) (args : Found (List T.Expr)) (o : Option (ℕ × Callee))
+    → GoodSome o (WorksAt g.kind g.default fs) → Good args (GoodArgs g ks fs es) → Good (resolved g behind ls name line es other args o) (Fine g ks fs)
+resolved_fine g ks fs behind ls name line es other args None w h = built_fine g ks fs behind ls line es other args (entry_of builtin_names name) (entries_listed builtin_names name refl) h
+resolved_fine g ks fs behind ls name line es other args (Some x) w h =
     called_fine g ks fs x.0 x.1 line args w (good_as args (GoodArgs g ks fs es) (AllFine g ks fs) h (λ ts p. p.0))
 
 itself_fine : (formals : List Local) (line : ℕ) (args : Found (List T.Expr)) (P : T.Expr → Type 0) → Good (calls_itself formals line args) P
 itself_fine formals line (Err e) P = tt
 itself_fine formals line (Ok ts) P = cond_both (not (fits formals ts)) _ _ (λ r. Good r P) (λ e. tt) (λ e. tt)
 
-call_with_fine : (g : Around) (ks : List SlType) (fs : List Built) (behind : Bool) (ls : List Local) (name : List ℕ) (line : ℕ) (es : List U.Expr) (args : Found (List T.Expr)) (o : Option (List Local))
-    → Ready g.at.kind g.at.default g.known fs → Good args (GoodArgs g.at ks fs es) → Good (call_with g behind ls name line es args o) (Fine g.at ks fs)
-call_with_fine g ks fs behind ls name line es args (Some formals) r h = itself_fine formals line args (Fine g.at ks fs)
-call_with_fine g ks fs behind ls name line es args None r h =
-    resolved_fine g.at ks fs behind ls name line es args (callee_named name g.known) (works_at g.at.kind g.at.default name g.known fs r) h
+call_with_fine : (g : Around) (ks : List SlType) (fs : List Built) (behind : Bool) (ls : List Local) (name : List ℕ) (line : ℕ) (es : List U.Expr) (other : Bool) (args : Found (List T.Expr)) (o : Option (List Local))
+    → Ready g.at.kind g.at.default g.known fs → Good args (GoodArgs g.at ks fs es) → Good (call_with g behind ls name line es other args o) (Fine g.at ks fs)
+call_with_fine g ks fs behind ls name line es other args (Some formals) r h = itself_fine formals line args (Fine g.at ks fs)
+call_with_fine g ks fs behind ls name line es other args None r h =
+    resolved_fine g.at ks fs behind ls name line es other args (callee_named name g.known) (works_at g.at.kind g.at.default name g.known fs r) h
 
 -- the typed tree of an expression
 abbrev pub GoodExpr : W.Around → List SlType → List Built → U.Expr → T.Expr → Type 0
@@ -271,8 +271,8 @@ mutual
   expr_good g fs r behind ls (U.name name line) =
       good_as (named g.at name line (level_of name ls)) (Fine g.at (types_of ls) fs) _ (named_fine g.at ls fs name line (level_of name ls) (level_typed name ls)) (λ t p. (p, tt))
   expr_good g fs r behind ls (U.call name args line) =
-      good_as (call_of g behind ls name line (listed args) (typed_args g ls args)) (Fine g.at (types_of ls) fs) _
-      (call_with_fine g (types_of ls) fs behind ls name line (listed args) (typed_args g ls args) (formals_in name g.own) r (args_good g fs r ls args)) (λ t p. (p, tt))
+      good_as (call_of g behind ls name line (listed args) (first_is_other g ls args) (typed_args g ls args)) (Fine g.at (types_of ls) fs) _
+      (call_with_fine g (types_of ls) fs behind ls name line (listed args) (first_is_other g ls args) (typed_args g ls args) (formals_in name g.own) r (args_good g fs r ls args)) (λ t p. (p, tt))
   expr_good g fs r behind ls (U.paren e line) = expr_good g fs r false ls e
   expr_good g fs r behind ls (U.triple kind space x y z line) =
       good_as _ (Fine g.at (types_of ls) fs) _ (tripled_fine g.at (types_of ls) fs kind space line _

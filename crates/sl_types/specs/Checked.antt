@@ -12,6 +12,7 @@ use Rattle.sl_expressions.specs.Found.{Found, ◌>>=◌}
 use Rattle.sl_typing.specs.Functions.{Program, program}
 use Rattle.sl_types.specs.Inline.{tree_of}
 
+-- a tree of at most 65,536 nodes, 256 in one another
 abbrev pub is_within : Tree → Bool
 is_within t = nat_lt (length (numbers_tree t)) 65537 && nat_lt (depth_tree t) 257
 
@@ -30,6 +31,7 @@ settled t (Some f) = Err (code_of f.0, f.1)
 abbrev pub limited : U.Shader → Program → Found Program
 limited s p = if is_within (tree_of s p) then Ok p else Err (codes.M8, s.line)
 
+-- the typed file where its tree is within the limits, or the first fault
 abbrev pub sized : U.Shader → Found Program
 sized s = program s >>= limited s
 

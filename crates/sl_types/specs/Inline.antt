@@ -32,6 +32,7 @@ nothing = record { formals = []; body = λ n. A.done; returned = 0; value = λ n
 abbrev pub extents_of : List Built → List Extent
 extents_of fs = map (λ b. b.extent) fs
 
+-- how many nodes an expression has with functions in place
 abbrev pub count : List Built → Expr → ℕ
 count fs e = (fold counting (extents_of fs) e).nodes
 
@@ -115,6 +116,7 @@ declared_of p = record { name = p.local.name; kind = p.local.kind; uniform = p.l
 abbrev pub count_params : List Built → List Param → ℕ
 count_params fs ps = (extent_params (extents_of fs) ps).nodes
 
+-- the tree of a shader with its parameters' defaults and functions in place
 abbrev pub tree_over : List Built → List Built → U.Shader → Program → A.Tree
 tree_over defaults fs s p = record {
   kind = s.kind;

@@ -58,6 +58,7 @@ abbrev pub ended : Around → ℕ → SlType → ℕ → List Local → U.Stmts 
 ended g from kind line ls ss None = typed_rows g from ls ss >>= λ rows. Err (T8, line)
 ended g from kind line ls ss (Some x) = typed_rows g from ls (but_last ss) >>= λ rows. returned g kind rows.0 rows.1 x
 
+-- the typed body of a function, or its first fault
 abbrev pub typed_body : Around → ℕ → SlType → ℕ → List Local → U.Stmts → Found T.Body
 typed_body g from kind line ls ss = ended g from kind line ls ss (given_last ss)
 
@@ -116,6 +117,7 @@ pub record Param : Type 0 where
 abbrev pub locals_of : List Param → List Local
 locals_of ps = map (λ p. p.local) ps
 
+-- what surrounds a default
 abbrev pub by_default : SlKind → List Callee → Around
 by_default kind known = record { at = W.in_default kind; own = None; known = known }
 
@@ -144,6 +146,7 @@ pub record Program : Type 0 where
   pub params : List Param
   pub body : List T.Stmt
 
+-- what surrounds a shader's body
 abbrev pub in_body : SlKind → List Callee → Around
 in_body kind known = record { at = W.in_shader kind; own = None; known = known }
 

@@ -27,6 +27,7 @@ use Rattle.sl_expressions.specs.Typed.{kind_of}
 use Rattle.sl_expressions.specs.Scope.{Local, level_of, Own, Around}
 use Rattle.sl_expressions.specs.Exprs.{operands_of, typed_expr, typed_args}
 
+-- typed statements and the scope after them, or the first fault
 abbrev pub Rows : Type 0
 Rows = Found (List T.Stmt × List Local)
 
@@ -97,6 +98,7 @@ optional_set g ls (Some a) = typed_set g ls a >>= λ s. Ok (s ∷ [])
 abbrev pub no_test : T.Expr → Bool
 no_test t = not (is_test (kind_of t))
 
+-- an expression that is a condition, else T2
 abbrev pub condition : ℕ → Found T.Expr → Found T.Expr
 condition line found = found >>= λ t. if is_test (kind_of t) then Ok t else Err (T2, line)
 

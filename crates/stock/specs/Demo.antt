@@ -35,6 +35,7 @@ y_at k n = pos (drawn k 101 40 + 4 * (n / 4)) -ℤ pos 20
 abbrev pub z_at : ℕ → ℕ → ℤ
 z_at k n = pos (drawn k 102 40 + drawn k (200 + n) 8)
 
+-- the text of point n of patch k
 abbrev pub point_text : ℕ → ℕ → List ℕ
 point_text k n = spaced (tenths (x_at k n)) (tenths (y_at k n)) (tenths (z_at k n))
 
@@ -48,6 +49,7 @@ points_text k = point_text k 0 ++ flat_map (next_point k) (range_with_len 1 15)
 abbrev pub patch_line : ℕ → List ℕ
 patch_line k = codes "Patch \"bicubic\" \"P\" [" ++ (points_text k ++ codes "]\n")
 
+-- the lines of patch k: its colour and its points
 abbrev pub patch_lines : ℕ → List ℕ
 patch_lines k = colour_line k ++ patch_line k
 

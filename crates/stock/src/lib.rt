@@ -7,6 +7,3 @@ mod texts;
 
 pub use demonstration::demo;
 pub use texts::text;
-
-#[cfg(test)]
-mod tests;

@@ -22,6 +22,7 @@ triple m i = record { x = number_at m i 0; y = number_at m i 1; z = number_at m 
 abbrev pub is_affine : List ℤ → Bool
 is_affine m = is_zero (number_at m 0 3) && is_zero (number_at m 1 3) && is_zero (number_at m 2 3) && int_eq (number_at m 3 3) (pos 65536)
 
+-- the exact cross product of two rows
 unfoldable pub cross : Vec3 → Vec3 → Vec3
 cross a b = record { x = a.y *ℤ b.z -ℤ a.z *ℤ b.y; y = a.z *ℤ b.x -ℤ a.x *ℤ b.z; z = a.x *ℤ b.y -ℤ a.y *ℤ b.x }
 

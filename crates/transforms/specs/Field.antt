@@ -12,12 +12,15 @@ use Rattle.transforms.specs.declared.view.View.{View}
 abbrev pub left : View → ℤ
 left v = slice_index_or v.window 0 (pos 0)
 
+-- the right end of the screen window
 abbrev pub right : View → ℤ
 right v = slice_index_or v.window 1 (pos 0)
 
+-- its lower end
 abbrev pub bottom : View → ℤ
 bottom v = slice_index_or v.window 2 (pos 0)
 
+-- its upper end
 abbrev pub top : View → ℤ
 top v = slice_index_or v.window 3 (pos 0)
 

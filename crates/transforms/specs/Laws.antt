@@ -9,6 +9,7 @@ use Rattle.transforms.specs.Map.{Map, point_of, vector_of, normal_of, before_of,
 abbrev pub numbers : Vec3 → List ℤ
 numbers p = p.x ∷ p.y ∷ p.z ∷ []
 
+-- a map that leaves points and vectors where they are
 abbrev pub ChangesNothing : Map → Type 0
 ChangesNothing m = (p : Vec3) → (point_of m p ≡ numbers p) × (vector_of m p ≡ numbers p) × (normal_of m p ≡ numbers p)
 

@@ -19,6 +19,7 @@ pub record Map : Type 0 where
 abbrev pub coordinate : Vec3 → ℤ → ℤ → ℤ → ℤ → ℤ
 coordinate p a b c t = floor_by (dot p.x p.y p.z a b c +ℤ t *ℤ pos 65536) 16777216
 
+-- the image of a point: with the shift
 abbrev pub point_of : Map → Vec3 → List ℤ
 point_of m p =
     let t = m.there in
@@ -28,6 +29,7 @@ point_of m p =
 abbrev pub direction : Vec3 → ℤ → ℤ → ℤ → ℤ
 direction p a b c = floor_by (dot p.x p.y p.z a b c) 16777216
 
+-- the image of a vector: without it
 abbrev pub vector_of : Map → Vec3 → List ℤ
 vector_of m p =
     let t = m.there in
@@ -39,6 +41,7 @@ normal_of m n =
     let b = m.back in
     direction n b.x.x b.x.y b.x.z ∷ direction n b.y.x b.y.y b.y.z ∷ direction n b.z.x b.z.y b.z.z ∷ []
 
+-- the inverse: the two matrices exchanged
 abbrev pub inverse_of : Map → Map
 inverse_of m = record { there = m.back; back = m.there; mirrored = m.mirrored }
 
@@ -60,6 +63,7 @@ abbrev pub before_of : Map → Map → Result Map FormFault
 before_of m first =
     let c = composed m first in cond (is_matrix c.there && is_matrix c.back) (Ok c) (Err G2)
 
+-- a row of a matrix
 abbrev pub row_of : ℤ → ℤ → ℤ → Row
 row_of a b c = record { x = a; y = b; z = c }
 
@@ -83,9 +87,11 @@ widened_row v = row_of (widened v.x) (widened v.y) (widened v.z)
 abbrev pub shifted : ℤ → ℤ → ℤ → Matrix
 shifted x y z = diagonal (pos (2 ^ 24)) (pos (2 ^ 24)) (pos (2 ^ 24)) (row_of (widened x) (widened y) (widened z))
 
+-- the map that adds x, y and z
 abbrev pub translation : ℤ → ℤ → ℤ → Map
 translation x y z = record { there = shifted x y z; back = shifted (neg_ℤ x) (neg_ℤ y) (neg_ℤ z); mirrored = false }
 
+-- the map that changes nothing
 abbrev pub identity : Map
 identity = translation (pos 0) (pos 0) (pos 0)
 
@@ -100,6 +106,7 @@ is_zero x = int_eq x (pos 0)
 abbrev pub is_turned : ℤ → Bool
 is_turned x = int_lt x (pos 0)
 
+-- the map that scales by three factors
 abbrev pub scaling : Vec3 → Map
 scaling s = record {
   there = diagonal (widened s.x) (widened s.y) (widened s.z) no_shift;
@@ -110,6 +117,7 @@ scaling s = record {
 abbrev pub has_zero : Vec3 → Bool
 has_zero s = is_zero s.x || is_zero s.y || is_zero s.z
 
+-- the map that scales by three factors, or G1 where one is 0
 abbrev pub scale_map : Vec3 → Result Map FormFault
 scale_map s = cond (has_zero s) (Err G1) (Ok (scaling s))
 

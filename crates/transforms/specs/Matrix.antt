@@ -10,6 +10,7 @@ use Rattle.transforms.specs.declared.fault.FormFault.TheVariants.{G2}
 abbrev pub widened : ℤ → ℤ
 widened x = x *ℤ pos 256
 
+-- the exact sum of three products
 abbrev pub dot : ℤ → ℤ → ℤ → ℤ → ℤ → ℤ → ℤ
 dot a b c x y z = a *ℤ x +ℤ b *ℤ y +ℤ c *ℤ z
 
@@ -20,6 +21,7 @@ is_entry x = nat_le (unsigned_abs x) (2 ^ 47)
 abbrev pub is_row : Row → Bool
 is_row r = is_entry r.x && is_entry r.y && is_entry r.z
 
+-- all entries are in range
 abbrev pub is_matrix : Matrix → Bool
 is_matrix m = is_row m.x && is_row m.y && is_row m.z && is_row m.shift
 
@@ -30,6 +32,7 @@ fitted_entry x = cond (is_entry x) (Ok x) (Err G2)
 abbrev pub fitted_row : Row → Result Row FormFault
 fitted_row r = cond (is_row r) (Ok r) (Err G2)
 
+-- a matrix whose entries are in range, else G2
 abbrev pub fitted : Matrix → Result Matrix FormFault
 fitted m = cond (is_matrix m) (Ok m) (Err G2)
 

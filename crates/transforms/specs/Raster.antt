@@ -28,12 +28,15 @@ y_place (Some t) h b u y z =
 abbrev pub column_at : View → ℤ → ℕ → ℤ
 column_at v x z = clamped (x_place (scale_of v) v.width (left v) (right v) x z)
 
+-- the place from above of a y and a depth, put into range
 abbrev pub row_at : View → ℤ → ℕ → ℤ
 row_at v y z = clamped (y_place (scale_of v) v.height (bottom v) (top v) y z)
 
+-- where a camera sees a point, from the left
 abbrev pub raster_x : View → Vec3 → ℤ
 raster_x v p = column_at v p.x (unsigned_abs p.z)
 
+-- where it sees it, from above
 abbrev pub raster_y : View → Vec3 → ℤ
 raster_y v p = row_at v p.y (unsigned_abs p.z)
 

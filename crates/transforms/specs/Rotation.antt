@@ -26,6 +26,7 @@ at_quarters r a b c d e =
 unfoldable pub cosine : ℤ → ℤ
 cosine f = at_quarters (int_rem_euclid f (pos 23592960)) (pos 65536) (pos 0) (neg_ℤ (pos 65536)) (pos 0) (cos (radians f))
 
+-- the sine of an angle in degrees, exact at quarter turns
 unfoldable pub sine : ℤ → ℤ
 sine f = at_quarters (int_rem_euclid f (pos 23592960)) (pos 0) (pos 65536) (pos 0) (neg_ℤ (pos 65536)) (sin (radians f))
 
@@ -51,9 +52,11 @@ transposed m = record {
   shift = no_shift;
 }
 
+-- the unit vector of an axis
 abbrev pub unit_of : Vec3 → Vec3
 unit_of v = record { x = unit_part v.x v.x v.y v.z; y = unit_part v.y v.x v.y v.z; z = unit_part v.z v.x v.y v.z }
 
+-- the map that turns by an angle about an axis
 abbrev pub rotation : ℤ → Vec3 → Map
 rotation angle axis =
     let m = turning (cosine angle) (sine angle) (unit_of axis) in
@@ -62,6 +65,7 @@ rotation angle axis =
 abbrev pub is_nothing : Vec3 → Bool
 is_nothing v = is_zero v.x && is_zero v.y && is_zero v.z
 
+-- the rotation by an angle in degrees about an axis, or G1 where the axis has no length
 abbrev pub rotate_map : ℤ → Vec3 → Result Map FormFault
 rotate_map angle axis = cond (is_nothing axis) (Err G1) (Ok (rotation angle axis))
 

@@ -1,9 +1,9 @@
-use Rattle.std.proofs.Common.{arith, subst}
+use Rattle.std.proofs.Common.{subst}
 use Rattle.fixed_math.specs.declared.vec3.Axis.TheVariants.{Z}
 use Rattle.hider.specs.CellValues.{corners_when}
 use Rattle.hider.specs.Extents.{Passed}
 use Rattle.hider.specs.Outermost.{IsSeenAlways}
-use Rattle.hider.proofs.Moves.{stays_from, stays_held}
+use Rattle.hider.proofs.Moves.{stays_held, stays_passed}
 use Rattle.hider.proofs.Passages.{held_always, seen_first, through}
 use Rattle.hider.proofs.passing.passed_always.Goals as goal
 
@@ -27,11 +27,11 @@ returns-then-is_seen g c = λ one_sided flip.
     c.raster_bounds.ensures
 
 pub returns : goal.returns
-returns g c = λ one_sided flip s t outside.
+returns g c = λ one_sided flip.
     let v = g.C.Cells.values c.args.cells.now in
     let i = c.args.cell in
     let w = c.args.camera.now in
     let b = c.passed_between.result in
     let p : Passed w (corners_when v i 0) (corners_when v i 65535) b =
     subst (λ x. Passed w x (corners_when v i 65535) b) c.corners-first.ensures (subst (λ y. Passed w c.corners-first.result y b) c.corners-last.ensures c.passed_between.ensures) in
-    stays_from w v i 0 65535 one_sided flip b (g.met.C.Cells.between c.args.cells.now) c.requires.cell p s (omega arith) t outside
+    stays_passed w v i one_sided flip b (g.met.C.Cells.between c.args.cells.now) c.requires.cell p

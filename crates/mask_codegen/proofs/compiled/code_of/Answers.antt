@@ -7,6 +7,7 @@ use Rattle.grid_code.specs.View.{block_of}
 use Rattle.sl_meaning.specs.CoreView.{stmts_of}
 use Rattle.sl_meaning.specs.Lowered.{slots, body_of}
 use Rattle.mask_codegen.specs.Collected.{registers_of, IsSetOf}
+use Rattle.core_codegen.specs.Compile.{shader_code}
 use Rattle.core_codegen.specs.Slots.{slots_of}
 use Rattle.mask_codegen.proofs.CoreLights.{shader_code_lights}
 use Rattle.mask_codegen.proofs.Looking.{code_looks}
@@ -86,6 +87,7 @@ returns c =
     record {
       kind = refl;
       params = same;
+      text = code ∙ ap (shader_code (body_of t)) same;
       means = means_tree t typed settled ps same (stmts_of c.deref.result.now) c.deref-2.result.now (ap stmts_of c.deref.ensures.value ∙ c.in_ok-body.ensures) c.deref-2.ensures.value nodes c.in_ok-nodes.ensures.means;
       settled = settled;
       lights = ap has_light_statement code ∙ shader_code_lights (body_of t) (slots_of ps);

@@ -1,7 +1,7 @@
-use Rattle.std.proofs.Common.{subst, ℕ, List, [], ◌∷◌, Some}
+use Rattle.std.proofs.Common.{refl, subst, ℕ, List, [], ◌∷◌, Some}
 use Rattle.outside.specs.Frames.{whole, Adds, AddsPart}
 use Rattle.command_line.specs.Command.{Join}
-use Rattle.render.proofs.Obeying.{obeys-entries, obeys-entries-unwritten, obeys-unread, obeys-nothing, joins-told, some-part}
+use Rattle.render.proofs.Obeying.{obeys-entries, obeys-picture-unwritten, obeys-unread, obeys-nothing, joins-told}
 use Rattle.render.proofs.program.joined.Goals as goal
 
 pub returns-in-Ok-put_picture-clause-course : goal.returns-in-Ok-put_picture-clause-course
@@ -12,7 +12,7 @@ returns-in-Ok-put_picture-clause-course g c = λ lines n.
     let bytes = c.in-Ok.picture.items in
     let x = g.O.FrameSink.written c.args.frames.now in
     let y = g.O.FrameSink.written c.put_picture.new.frames in
-    obeys-entries (Some (Join name count)) held (record { name = name; bytes = bytes } ∷ []) x y lines n (joins-told held name count bytes c.in-Ok.ensures.gives)
+    obeys-entries (Some (Join name count)) held (record { name = name; bytes = bytes } ∷ []) x y lines n (joins-told held name count bytes c.in-Ok.ensures.gives) (bytes, refl)
     (subst (λ (b : List ℕ). Adds (whole (record { name = name; bytes = b }) ∷ []) x y) c.deref.ensures.value c.in-Ok-put_picture.ensures.ok)
 
 pub returns-in-Ok-clause-course : goal.returns-in-Ok-clause-course
@@ -23,8 +23,8 @@ returns-in-Ok-clause-course g c = λ lines n.
     let bytes = c.in-Ok.picture.items in
     let x = g.O.FrameSink.written c.args.frames.now in
     let y = g.O.FrameSink.written c.put_picture.new.frames in
-    obeys-entries-unwritten (Some (Join name count)) held (record { name = name; bytes = bytes } ∷ []) x y lines n (joins-told held name count bytes c.in-Ok.ensures.gives)
-    (some-part (record { name = name; bytes = bytes }) x y (subst (λ (b : List ℕ). AddsPart (record { name = name; bytes = b }) x y) c.deref.ensures.value c.in-Err.ensures.err))
+    obeys-picture-unwritten held name count bytes x y lines n c.in-Ok.ensures.gives
+    (subst (λ (b : List ℕ). AddsPart (record { name = name; bytes = b }) x y) c.deref.ensures.value c.in-Err.ensures.err)
 
 pub returns-in-Err-ReadFault-clause-course : goal.returns-in-Err-ReadFault-clause-course
 returns-in-Err-ReadFault-clause-course g c = λ lines n.

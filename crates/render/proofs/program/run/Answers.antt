@@ -14,7 +14,7 @@ pub returns-clause-done : goal.returns-clause-done
 returns-clause-done g c = λ zero.
     course-done (texts c.args.words.now) (g.L.Library.held c.args.library.now) c.status.result _ _ _ _ _ _
     (course (texts c.args.words.now) (g.L.Library.held c.args.library.now) c.answered-answer.result.0 c.answered-answer.result.1.now c.note-note.result c.status.result _ _ _ _ _ _ _ _
-    c.answered-answer.ensures.course c.answered-answer.ensures.named c.note-note.ensures c.status.ensures.told c.status.ensures.untold c.status.ensures.fault c.tell.ensures) zero
+    c.answered-answer.ensures.course c.answered-answer.ensures.named c.note-note.ensures.line c.note-note.ensures.done c.status.ensures.told c.status.ensures.untold c.status.ensures.fault c.tell.ensures) zero
 
 pub returns-clause-left : goal.returns-clause-left
 returns-clause-left g c =
@@ -24,13 +24,13 @@ pub returns-clause-verdict : goal.returns-clause-verdict
 returns-clause-verdict g c = λ few.
     course-status (texts c.args.words.now) (g.L.Library.held c.args.library.now) c.status.result _ _ _ _ _ _
     (course (texts c.args.words.now) (g.L.Library.held c.args.library.now) c.answered-answer.result.0 c.answered-answer.result.1.now c.note-note.result c.status.result _ _ _ _ _ _ _ _
-    c.answered-answer.ensures.course c.answered-answer.ensures.named c.note-note.ensures c.status.ensures.told c.status.ensures.untold c.status.ensures.fault c.tell.ensures) few
+    c.answered-answer.ensures.course c.answered-answer.ensures.named c.note-note.ensures.line c.note-note.ensures.done c.status.ensures.told c.status.ensures.untold c.status.ensures.fault c.tell.ensures) few
 
 pub returns-clause-write_accepted : goal.returns-clause-write_accepted
 returns-clause-write_accepted g c = λ eight.
     course-written (texts c.args.words.now) (g.L.Library.held c.args.library.now) c.status.result _ _ _ _ _ _
     (course (texts c.args.words.now) (g.L.Library.held c.args.library.now) c.answered-answer.result.0 c.answered-answer.result.1.now c.note-note.result c.status.result _ _ _ _ _ _ _ _
-    c.answered-answer.ensures.course c.answered-answer.ensures.named c.note-note.ensures c.status.ensures.told c.status.ensures.untold c.status.ensures.fault c.tell.ensures) eight
+    c.answered-answer.ensures.course c.answered-answer.ensures.named c.note-note.ensures.line c.note-note.ensures.done c.status.ensures.told c.status.ensures.untold c.status.ensures.fault c.tell.ensures) eight
 
 pub returns-clause-complete : goal.returns-clause-complete
 returns-clause-complete g c = λ read written.
@@ -47,4 +47,4 @@ returns-clause-complete_refused g c = λ read.
 pub returns-clause-course : goal.returns-clause-course
 returns-clause-course g c =
     course (texts c.args.words.now) (g.L.Library.held c.args.library.now) c.answered-answer.result.0 c.answered-answer.result.1.now c.note-note.result c.status.result _ _ _ _ _ _ _ _
-    c.answered-answer.ensures.course c.answered-answer.ensures.named c.note-note.ensures c.status.ensures.told c.status.ensures.untold c.status.ensures.fault c.tell.ensures
+    c.answered-answer.ensures.course c.answered-answer.ensures.named c.note-note.ensures.line c.note-note.ensures.done c.status.ensures.told c.status.ensures.untold c.status.ensures.fault c.tell.ensures

@@ -1,21 +1,22 @@
-use Rattle.std.proofs.Common.{Bool, ◌≡◌, ◌+◌, [], ◌∷◌, ◌++◌, true, false, Ok, rules, drop, map, arith, ap, sym, subst, ◌∙◌}
+use Rattle.std.proofs.Common.{Bool, List, ◌≡◌, ◌+◌, [], ◌∷◌, ◌++◌, true, false, Ok, rules, drop, map, arith, ap, sym, subst, ◌∙◌}
 use Rattle.std.proofs.lemmas.List.{map-append}
 use Rattle.sl_ast.specs.Syntax as U
 use Rattle.sl_ast.specs.SyntaxView.{expr_of, link_of}
-use Rattle.sl_expressions.specs.Exprs.{applied, named, prefixed, tripled, is_call_node, converted, typed_expr, typed_args, typed_links, call_of}
+use Rattle.sl_ast.specs.declared.syntax.Expr.{Expr}
+use Rattle.sl_expressions.specs.Exprs.{applied, named, prefixed, tripled, is_call_node, converted, typed_expr, typed_args, first_is_other, typed_links, call_of}
 use Rattle.sl_expressions.specs.Found.{Found, ◌>>=◌}
 use Rattle.sl_expressions.specs.Measures.{size, size_args, size_links}
 use Rattle.sl_expressions.specs.Typed as T
 use Rattle.sl_expressions.specs.TypedView.{typed_of, tlink_of}
-use Rattle.sl_expressions.specs.Views.{Gives, around_of, chain_of, local_of}
-use Rattle.sl_expressions.proofs.Behind.{arg_fault, args_behind, args_end, args_step}
+use Rattle.sl_expressions.specs.Views.{Gives, around_of, args_behind, chain_of, local_of}
+use Rattle.sl_expressions.proofs.Behind.{arg_fault, args_end, args_step}
 use Rattle.sl_expressions.proofs.Chains.{in_steps, link_fault}
 use Rattle.sl_expressions.proofs.Choices.{choice_is, three_is}
 use Rattle.sl_expressions.proofs.Nodes.{call_is, chain_is, chain_split, chain_end, listed_all, small_arg, small_link}
 use Rattle.sl_expressions.proofs.exprs.+exprs.Goals as goal
 
-pub exprs-expr-requires : goal.exprs-expr-requires
-exprs-expr-requires t c =
+pub typed_behind-expr-requires : goal.typed_behind-expr-requires
+typed_behind-expr-requires t c =
     let small = small_arg c.args.es.now c.loop-e.e-index c.e-item.result (omega arith) c.e-item.is in
     (omega (arith, c.decreases, small), tt)
 
@@ -30,8 +31,8 @@ expr-typed_links-links-requires t c =
     let d = ap (λ xs. size_links (U.links (map link_of xs))) c.as_slice.ensures in
     (omega (arith, c.decreases, q, d), tt)
 
-pub expr-exprs-parts-requires : goal.expr-exprs-parts-requires
-expr-exprs-parts-requires t c =
+pub expr-typed_args-parts-requires : goal.expr-typed_args-parts-requires
+expr-typed_args-parts-requires t c =
     let q = ap size (call_is c.args.e.now c.in-Call.name c.in-Call.args c.in-Call.line c.in-Call.is) in
     let d = ap (λ xs. size_args (U.exprs (map expr_of xs))) c.as_slice-in-Call.ensures in
     (omega (arith, c.decreases, q, d), tt)
@@ -121,14 +122,14 @@ expr-returns-in-Call t c =
     let g = around_of c.args.g.now in
     let ls = map local_of c.args.scope.now in
     let q = call_is c.args.e.now c.in-Call.name c.in-Call.args c.in-Call.line c.in-Call.is in
-    let parts = typed_args g ls (U.exprs (map expr_of c.as_slice-in-Call.result.now)) in
-    let same : parts ≡ typed_args g ls (U.exprs (map expr_of c.in-Call.args)) = ap (λ xs. typed_args g ls (U.exprs (map expr_of xs))) c.as_slice-in-Call.ensures in
+    let node : List U.Expr → List Expr → Found T.Expr =
+    λ es xs. call_of g c.args.behind ls c.in-Call.name c.in-Call.line es (first_is_other g ls (U.exprs (map expr_of xs))) (typed_args g ls (U.exprs (map expr_of xs))) in
     let args = ap (λ xs. map expr_of xs) c.as_slice-in-Call-2.ensures in
     subst (λ r. Gives typed_of c.call_of.result r)
     (sym (ap (typed_expr g c.args.behind ls) q
-    ∙ ap (λ xs. call_of g c.args.behind ls c.in-Call.name c.in-Call.line xs (typed_args g ls (U.exprs (map expr_of c.in-Call.args)))) (listed_all (map expr_of c.in-Call.args) ∙ sym args)
-    ∙ ap (λ r. call_of g c.args.behind ls c.in-Call.name c.in-Call.line (map expr_of c.as_slice-in-Call-2.result.now) r) (sym same)))
-    (c.call_of.ensures parts c.exprs-parts.ensures)
+    ∙ ap (λ es. node es c.in-Call.args) (listed_all (map expr_of c.in-Call.args) ∙ sym args)
+    ∙ ap (node (map expr_of c.as_slice-in-Call-2.result.now)) (sym c.as_slice-in-Call.ensures)))
+    (c.call_of.ensures _ _ c.typed_args-parts.ensures)
 
 pub typed_links-returns-in_err-next : goal.typed_links-returns-in_err-next
 typed_links-returns-in_err-next t c =
@@ -172,8 +173,8 @@ typed_links-returns t c =
     let before = typed_links g ls v (U.links (map link_of (drop c.loop-link.link-index c.args.links.now))) in
     sym {a = before} c.loop-link.invariant.same ∙ ap (typed_links g ls v) (chain_end c.args.links.now c.loop-link.link-index (omega arith))
 
-pub exprs-returns-in_err-value : goal.exprs-returns-in_err-value
-exprs-returns-in_err-value t c =
+pub typed_behind-returns-in_err-value : goal.typed_behind-returns-in_err-value
+typed_behind-returns-in_err-value t c =
     let g = around_of c.args.g.now in
     let ls = map local_of c.args.scope.now in
     let before = map typed_of c.loop-e.before.items in
@@ -182,8 +183,8 @@ exprs-returns-in_err-value t c =
     let whole = arg_fault _ (typed_expr g false ls (expr_of c.e-item.result)) _ (λ e. args_behind (before ++ e ∷ []) rest) (sym c.loop-e.invariant ∙ step) c.in_err-value.ensures in
     search rules
 
-pub exprs-loop-e-preserved : goal.exprs-loop-e-preserved
-exprs-loop-e-preserved t c =
+pub typed_behind-loop-e-preserved : goal.typed_behind-loop-e-preserved
+typed_behind-loop-e-preserved t c =
     let g = around_of c.args.g.now in
     let ls = map local_of c.args.scope.now in
     let before = map typed_of c.loop-e.before.items in
@@ -193,8 +194,8 @@ exprs-loop-e-preserved t c =
     let joined = ap (λ r. r >>= λ e. args_behind (before ++ e ∷ []) rest) c.in_ok-value.ensures in
     ap (λ es. args_behind es rest) grown ∙ sym joined ∙ sym step ∙ c.loop-e.invariant
 
-pub exprs-returns : goal.exprs-returns
-exprs-returns t c =
+pub typed_behind-returns : goal.typed_behind-returns
+typed_behind-returns t c =
     let g = around_of c.args.g.now in
     let ls = map local_of c.args.scope.now in
     let before = map typed_of c.loop-e.before.items in
