@@ -1,5 +1,5 @@
-/* The soft shadow at the foot of what stands on a table: dark in the middle of a disk, and nothing at its rim. */
-surface shade(float dark = 0.7;) {
-  Oi = dark * smoothstep(0, 0.9, v);
+/* The soft shadow at the foot of what stands on a table: nothing at the rim of a disk, and dark from the part `full` of the way inwards. */
+surface shade(float dark = 0.7; float full = 0.9;) {
+  Oi = dark * smoothstep(0, full, v);
   Ci = 0;
 }
