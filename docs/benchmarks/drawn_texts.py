@@ -3,6 +3,9 @@
 of the text, with their shaders. Each draws 2 by 2 pixels; run `reyes render KIND.rib` in the folder."""
 import os, sys
 
+if len(sys.argv) < 2 or {"-h", "--help"} & set(sys.argv):
+    print(__doc__, file=sys.stdout if len(sys.argv) > 1 else sys.stderr)
+    sys.exit(0 if len(sys.argv) > 1 else 2)
 to = sys.argv[1]
 os.makedirs(to, exist_ok=True)
 HEAD = 'Format 2 2 1\nPixelSamples 1 1\nPixelFilter "box" 1 1\nDisplay "%s.ppm" "file" "rgb"\n'

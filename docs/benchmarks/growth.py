@@ -33,6 +33,9 @@ def square(width):
 
 
 def main(words):
+    if {"-h", "--help"} & set(words):
+        print(__doc__, end="")
+        return
     if len(words) != 1:
         sys.exit(__doc__)
     program = os.path.abspath(words[0])

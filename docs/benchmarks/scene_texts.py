@@ -1,9 +1,12 @@
 #!/usr/bin/env python3
-"""texts.py FOLDER [MEGABYTES]: writes into the folder scene texts of that size (16 where none is said, the longest that a
+"""scene_texts.py FOLDER [MEGABYTES]: writes into the folder scene texts of that size (16 where none is said, the longest that a
 scene may have), as KIND.rib, each made to be dear where names are looked for one by one, or where something is as deep as
 the text is long. ANSWERS has the note that `reyes check KIND.rib` has to write ('-' for none)."""
 import os, sys
 
+if len(sys.argv) < 2 or {"-h", "--help"} & set(sys.argv):
+    print(__doc__, file=sys.stdout if len(sys.argv) > 1 else sys.stderr)
+    sys.exit(0 if len(sys.argv) > 1 else 2)
 to = sys.argv[1]
 MOST = int(float(sys.argv[2]) * 1_048_576) if len(sys.argv) > 2 else 16_777_216
 os.makedirs(to, exist_ok=True)

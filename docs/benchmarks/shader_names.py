@@ -1,5 +1,5 @@
 #!/usr/bin/env python3
-"""Cases of a megabyte with the greatest number of names of each kind. names.py KIND [BYTES] writes one case to standard output."""
+"""Cases of a megabyte with the greatest number of names of each kind. shader_names.py KIND [BYTES] writes one case to standard output."""
 import sys
 SCENE = 'Format 2 2 1\nPixelSamples 1 1\nPixelFilter "box" 1 1\nDisplay "a.ppm" "file" "rgb"\nWorldBegin\nSurface "m" Patch "bilinear" "P" [-1 -1 1 1 -1 1 -1 1 1 1 1 1]\nWorldEnd\n'
 D = "abcdefghijklmnopqrstuvwxyz"
@@ -49,6 +49,9 @@ def text(kind, size):
     raise SystemExit("locals locals_used locals_of_a_function sets parameters formals formals_of_a_call functions calls functions_that_call blocks own_calls")
 KINDS = "locals locals_used locals_of_a_function sets parameters formals formals_of_a_call functions calls functions_that_call blocks own_calls".split()
 if __name__ == "__main__":
+    if len(sys.argv) < 2 or {"-h", "--help"} & set(sys.argv):
+        print(__doc__, file=sys.stdout if len(sys.argv) > 1 else sys.stderr)
+        sys.exit(0 if len(sys.argv) > 1 else 2)
     kind = sys.argv[1]
     size = int(sys.argv[2]) if len(sys.argv) > 2 else 1048576
     t, n = text(kind, size)

@@ -1,8 +1,11 @@
 #!/usr/bin/env python3
-"""texts.py FOLDER: writes into the folder one shader text of about a megabyte for each kind of length, as KIND.sl, with a
+"""shader_texts.py FOLDER: writes into the folder one shader text of about a megabyte for each kind of length, as KIND.sl, with a
 scene KIND.rib that uses it, so that `reyes check KIND.rib`, run in the folder, reads it; expected answers stand in ANSWERS."""
 import sys, os
 MOST = 1_048_576
+if len(sys.argv) < 2 or {"-h", "--help"} & set(sys.argv):
+    print(__doc__, file=sys.stdout if len(sys.argv) > 1 else sys.stderr)
+    sys.exit(0 if len(sys.argv) > 1 else 2)
 to = sys.argv[1]
 os.makedirs(to, exist_ok=True)
 SCENE = 'Format 2 2 1\nPixelSamples 1 1\nPixelFilter "box" 1 1\nDisplay "a.ppm" "file" "rgb"\nWorldBegin\nSurface "%s" Patch "bilinear" "P" [-1 -1 1 1 -1 1 -1 1 1 1 1 1]\nWorldEnd\n'

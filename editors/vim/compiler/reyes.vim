@@ -1,7 +1,5 @@
-" Checks a scene with its shaders: the note FILE:LINE: CODE.
-if exists("current_compiler")
-  finish
-endif
+" Checks a scene with its shaders: the note FILE:LINE: CODE. The options are set for all windows and name the scene of the moment when
+" `:compiler reyes` is called, so that `:make` checks it again after a jump to one of its shaders.
 let current_compiler = "reyes"
-CompilerSet makeprg=reyes\ check\ %
-CompilerSet errorformat=%f:%l:\ %m,%f:\ %m
+let &makeprg = 'reyes check ' . shellescape(expand('%'), 1)
+let &errorformat = '%f:%l: %m,%f: %m'
