@@ -46,9 +46,36 @@ def test_a_definition_has_its_line(script: Load, top: Path, capsys: pytest.Captu
     assert named and "weighted_mean" in (top / named[1]).read_text().splitlines()[int(named[2]) - 1]
 
 
-def test_a_file_of_definitions_is_one_line(script: Load) -> None:
-    lines = [it for it in script("definitions").page().splitlines() if it.startswith("- ")]
-    assert len(lines) > 200 and max(map(len, lines)) <= script("documents").LONGEST
+def test_every_definition_is_one_line_under_its_file(script: Load, capsys: pytest.CaptureFixture[str]) -> None:
+    definitions = script("definitions")
+    definitions.all_names()
+    named = re.findall(r"^(.*?):\d+: (.*)$", capsys.readouterr().out, re.M)
+    page, found, file = definitions.list_of(definitions.closure()), [], ""
+    for line in page.splitlines():
+        assert len(line) <= 160
+        if heading := re.match(r"#### \[.*?\]\(\.\./(.*?)\)", line):
+            file = heading[1]
+        elif name := re.match(r"- `(.*?)`", line):
+            found.append((file, name[1]))
+    assert sorted(found) == sorted(named) and len(set(found)) == len(found)
+
+
+@pytest.mark.parametrize(
+    "comment, clause",
+    [("", ""), ("the sine, by a series: odd powers alone", "the sine, by a series"), ("raws (a raw is 65,536 times a number)", "raws"),
+     ("a cell. Its corners go round", "a cell"), ("3.2 of `x`; and more", "3.2 of `x`")],
+)  # fmt: skip
+def test_a_definitions_clause_ends_before_what_explains_it(script: Load, comment: str, clause: str) -> None:
+    assert script("definitions").first_clause(comment) == clause
+
+
+def test_a_definition_has_the_comment_above_it_and_its_own_lines(script: Load) -> None:
+    text = "-- The file.\nuse Rattle.x\n\n-- one,\n-- two\nabbrev pub f : A\n\n-- of no line below it\n\nf a = b\n\ng : A\n"
+    found = script("definitions").items_of(text)
+    assert {name: (it.line, it.comment, it.text) for name, it in found.items()} == {
+        "f": (6, "one, two", "abbrev pub f : A\nf a = b\n"),
+        "g": (12, "", "g : A\n"),
+    }
 
 
 @pytest.mark.parametrize(
