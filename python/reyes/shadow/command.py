@@ -3,10 +3,11 @@ from __future__ import annotations
 
 import argparse
 from collections.abc import Iterator, Mapping, Sequence
+from contextlib import contextmanager
 from dataclasses import dataclass, field, replace
 from pathlib import Path
 
-from reyes import files, picture, progress, rendering, workers
+from reyes import files, places, progress, rendering, workers
 from reyes.bring.text import Request, requests, written
 from reyes.drawing import Drawing, Settings
 from reyes.errors import USAGE, Trouble, file_trouble
@@ -51,28 +52,46 @@ def add_arguments(parser: argparse.ArgumentParser) -> None:
 
 
 def main(arguments: argparse.Namespace) -> int:
-    picture.ending(arguments.output)
-    data, name, place = rendering.scene_of(arguments.scene)
-    if place is None:
-        raise Trouble("shadow wants a scene's file, whose folder has its shaders", USAGE)
-    room = Path(f"{arguments.output}.shadows")
-    with workers.chosen(arguments) as (executor, jobs):
-        settings = replace(rendering.settings(arguments, executor, jobs), given=str(room))
-        link(room, checked(data, name, place, settings))
-        made, text = _made(data, place, settings, room, arguments)
-        put(room, {f"{it}.sl": body for it, body in made.texts.items()} | {"scene.rib": text})
-        draw(text, name, place, settings, arguments)
+    with begun(arguments, "shadow", "shadows") as it:
+        made, text = _made(it, arguments)
+        put(it.room, {f"{name}.sl": body for name, body in made.texts.items()})
+        draw(it, text, arguments)
     return 0
 
 
-def checked(data: bytes, name: str, place: Path, settings: Settings) -> files.Files:
-    """The shaders and textures of a scene. Raises Trouble for its own faults, at its own lines."""
-    return Drawing(data, name, place, replace(settings, given=None)).files
+@dataclass(frozen=True)
+class Begun:
+    """A scene that is to be drawn otherwise: its bytes, what the user calls it, its path, the folder for what is made, and how it is drawn."""
+
+    data: bytes
+    name: str
+    place: Path
+    room: Path
+    settings: Settings
 
 
-def _made(data: bytes, place: Path, settings: Settings, room: Path, arguments: argparse.Namespace) -> tuple[Made, bytes]:
+@contextmanager
+def begun(arguments: argparse.Namespace, command: str, ending: str) -> Iterator[Begun]:
+    """The scene that a command is given, accepted, with its own files linked into the folder for what is made. Raises Trouble for wrong
+    words and for the scene's own faults, at its own lines.
+    """
+    places.ending(arguments.output)
+    data, name, place = rendering.scene_of(arguments.scene)
+    if place is None:
+        raise Trouble(f"{command} wants a scene's file, whose folder has its shaders", USAGE)
+    room = Path(f"{arguments.output}.{ending}")
+    with workers.chosen(arguments) as (executor, jobs):
+        settings = rendering.settings(arguments, executor, jobs)
+        drawing = Drawing(data, name, place, settings)
+        drawing.accepted()
+        link(room, drawing.files)
+        yield Begun(data, name, place, room, replace(settings, given=str(room)))
+
+
+def _made(given: Begun, arguments: argparse.Namespace) -> tuple[Made, bytes]:
     """Draws the maps, and gives the shaders and the scene that look them up."""
-    row = [it for it in requests(data, str(place))]
+    place, settings, room = given.place, given.settings, given.room
+    row = list(requests(given.data, str(place)))
     unseen = {*arguments.no_cast, *arguments.without, "constant"}
     scene = scenes.read(row, lambda surface: surface not in unseen)
     folders = files.folders(place, settings.search)
@@ -86,8 +105,8 @@ def _made(data: bytes, place: Path, settings: Settings, room: Path, arguments: a
         maps.draw(each, room, place, Settings(jobs=settings.jobs, executor=settings.executor, search=settings.search, given=str(room)), told)
     shared = f' "float shadow_taps" [{arguments.taps}] "float shadow_search" [{arguments.seek}] '
     softness = max(arguments.softness, 0.0)
-    given = [views.parameters(view, at, drawn[number].name, softness, arguments.angle, arguments.bias, thin) for at, (number, view) in enumerate(found.items(), 1)]
-    return made, b"".join(_changed(scene, made, (shared + "\n  ".join(given)).encode(), set(arguments.without)))
+    looks = [views.parameters(view, at, drawn[number].name, softness, arguments.angle, arguments.bias, thin) for at, (number, view) in enumerate(found.items(), 1)]
+    return made, b"".join(_changed(scene, made, (shared + "\n  ".join(looks)).encode(), set(arguments.without)))
 
 
 def _views(scene: scenes.Scene, folders: Sequence[Path], arguments: argparse.Namespace) -> Iterator[tuple[int, views.View]]:
@@ -145,9 +164,10 @@ def with_more(it: Request, more: bytes) -> bytes:
     return body[: len(body) - len(it.tail)].rstrip() + more if it.text is not None else body.rstrip() + more
 
 
-def draw(text: bytes, name: str, place: Path, settings: Settings, arguments: argparse.Namespace) -> None:
-    """Draws the picture with shadows."""
-    drawing = Drawing(text, name, place, settings)
+def draw(given: Begun, text: bytes, arguments: argparse.Namespace) -> None:
+    """Draws the picture of the changed scene, which stays in the folder."""
+    put(given.room, {"scene.rib": text})
+    drawing = Drawing(text, given.name, given.place, given.settings)
     for frame in drawing.frames:
         whole = drawing.picture(frame, None)
         told = progress.counted(whole.kept.rows[1] - whole.kept.rows[0], False, arguments.quiet)
@@ -174,7 +194,7 @@ def put(room: Path, texts: Mapping[str, bytes]) -> None:
     except OSError as fault:
         raise file_trouble(room, fault) from fault
     for name, text in texts.items():
-        picture.replace(room / name, text)
+        places.replace(room / name, text)
 
 
 def link(room: Path, found: files.Files) -> None:

@@ -3,19 +3,18 @@ from __future__ import annotations
 
 import argparse
 from collections.abc import Iterator
-from dataclasses import replace
 from pathlib import Path
 
 import numpy as np
 
-from reyes import files, picture, progress, rendering, workers
+from reyes import files, places, progress, rendering, workers
 from reyes.bring import matrices
 from reyes.bring.text import Floats, number, requests, written
 from reyes.drawing import Drawing, Settings
 from reyes.errors import USAGE, Trouble
 from reyes.scene import Changes
 from reyes.shadow import ball, scenes, surfaces
-from reyes.shadow.command import checked, draw, link, put, text_of_shader, with_more
+from reyes.shadow.command import begun, draw, put, text_of_shader, with_more
 
 EXAMPLE = """example:
   python3 -m reyes mirror examples/tea.rib --floor checker -o tea.png
@@ -47,15 +46,9 @@ def add_arguments(parser: argparse.ArgumentParser) -> None:
 
 
 def main(arguments: argparse.Namespace) -> int:
-    picture.ending(arguments.output)
-    data, name, place = rendering.scene_of(arguments.scene)
-    if place is None:
-        raise Trouble("mirror wants a scene's file, whose folder has its shaders", USAGE)
-    room = Path(f"{arguments.output}.mirror")
-    with workers.chosen(arguments) as (executor, jobs):
-        settings = replace(rendering.settings(arguments, executor, jobs), given=str(room))
-        link(room, checked(data, name, place, settings))
-        scene = scenes.read(list(requests(data, str(place))), lambda surface: True)
+    with begun(arguments, "mirror", "mirror") as it:
+        place, room, settings = it.place, it.room, it.settings
+        scene = scenes.read(list(requests(it.data, str(place))), lambda surface: True)
         surface = arguments.floor or arguments.ball
         own = text_of_shader(surface, files.folders(place, settings.search)) or surfaces.stock(surface)
         if own is None:
@@ -67,8 +60,7 @@ def main(arguments: argparse.Namespace) -> int:
         else:
             axes = ball.draw_map(scene, surface, room, place, settings)[1]
             text = b"".join(ball.changed(scene, surface, axes, arguments.strength))
-        put(room, {"scene.rib": text})
-        draw(text, name, place, settings, arguments)
+        draw(it, text, arguments)
     return 0
 
 
@@ -109,7 +101,7 @@ def _draw_mirrored(text: bytes, room: Path, place: Path, settings: Settings) -> 
         raise Trouble(f"a picture of {width} by {height} is too large for a mirror: 2,048 each way and {MOST:,} pixels at most", USAGE)
     whole = drawing.picture(drawing.frames[0], None)
     for it in drawing.draw([whole], progress.Silent()):
-        picture.replace(room / NAME, it.kept.whole())
+        places.replace(room / NAME, it.kept.whole())
 
 
 def _changed(scene: scenes.Scene, floor: str, strength: float) -> Iterator[bytes]:
