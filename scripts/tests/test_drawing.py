@@ -39,3 +39,20 @@ def test_a_scene_that_is_not_drawn_is_told(monkeypatch: pytest.MonkeyPatch, tmp_
     monkeypatch.setenv("REYES", os.fspath(program))
     with pytest.raises(Trouble, match="first.rib: status 5: first.rib:3: G5"):
         drawing.drawn("first.rib")
+
+
+def test_readmes_shadows_are_drawn_by_the_words_that_it_shows(monkeypatch: pytest.MonkeyPatch, tmp_path: Path, top: Path) -> None:
+    package = tmp_path / "python"
+    package.write_text("#!/bin/sh\nshift; for it; do last=$it; done; printf '%s' \"$*\" > $last; [ $1 = shadow ]\n")
+    package.chmod(0o755)
+    monkeypatch.setenv("REYES", os.fspath(package))
+    monkeypatch.setattr(drawing.libraries, "python", lambda: os.fspath(package))
+    for name, words in drawing.SHADOWED.items():
+        assert f"pictures/{name.replace('.ppm', '.png')}" in (top / "README.md").read_text()
+        assert f"{words} -o" in (top / "README.md").read_text() and f"{words} -o" in (top / "docs/SHADOWS.md").read_text()
+        monkeypatch.setattr(drawing, "sum_of", lambda path: path.read_text())
+        assert drawing.shadowed(name).startswith(f"{words} -j 1 --bucket 64")
+        assert name in drawing.stored()
+    monkeypatch.setitem(drawing.SHADOWED, "other.ppm", "mirror examples/room.rib")
+    with pytest.raises(Trouble, match="other.ppm: status 1"):
+        drawing.shadowed("other.ppm")

@@ -57,6 +57,13 @@ def test_each_picture_counts(test: ModuleType, monkeypatch: pytest.MonkeyPatch) 
     assert test.examples(lambda count: None) == test.Result(1, 1, "b.ppm: OTHER BYTES\n")
 
 
+def test_each_picture_with_shadows_counts(test: ModuleType, monkeypatch: pytest.MonkeyPatch) -> None:
+    monkeypatch.setattr(drawing, "SHADOWED", {"a.ppm": "", "b.ppm": ""})
+    monkeypatch.setattr(drawing, "stored", lambda: {"a.ppm": "1", "b.ppm": "2"})
+    monkeypatch.setattr(drawing, "shadowed", lambda name: "1")
+    assert test.shadows() == test.Result(1, 1, "b.ppm: OTHER BYTES\n")
+
+
 def test_a_part_that_cannot_run_fails(test: ModuleType) -> None:
     def part() -> object:
         raise Trouble("there is no program")
