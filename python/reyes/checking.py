@@ -4,7 +4,9 @@ from __future__ import annotations
 import difflib
 import os
 import re
+import tempfile
 from collections.abc import Iterable, Mapping, Sequence
+from contextlib import ExitStack
 from dataclasses import dataclass, replace
 from pathlib import Path
 from subprocess import DEVNULL, PIPE, Popen
@@ -65,17 +67,64 @@ class Texts:
         return self.files[name].path.read_bytes() if name in self.files else b""
 
 
-def accepted(data: bytes, name: str, found: Files, program: Path) -> None:
-    """Raises Trouble with the first fault of a scene, where it has one."""
-    texts = Texts(data, name, found, program, {})
-    fault = first(texts)
-    if fault is not None:
-        raise Trouble(str(fault), fault.status)
+class Asked:
+    """The program's `check` of a scene, which runs beside what is done next, until its answer is asked for."""
+
+    def __init__(self, texts: Texts) -> None:
+        self._texts = texts
+        self._stack = ExitStack()
+        folder = self._stack.enter_context(files.folder_of_links(texts.files, texts.replaced))
+        with tempfile.TemporaryFile() as scene:  # and not a pipe, which something would have to fill meanwhile
+            scene.write(texts.data)
+            scene.seek(0)
+            try:
+                self._process = Popen([os.fspath(texts.program), "check", SCENE], cwd=folder, stdin=scene, stdout=DEVNULL, stderr=PIPE)
+            except OSError as fault:
+                self._stack.close()
+                raise Trouble(f"{texts.program}: {fault.strerror or fault}") from fault
+        self._stack.callback(self._end)
+        self._answer: tuple[int, str] | None = None
+
+    def is_there(self) -> bool:
+        """Whether the answer has come."""
+        return self._answer is not None or self._process.poll() is not None
+
+    def answer(self) -> tuple[int, str]:
+        """The status and the note, once they have come."""
+        if self._answer is not None:
+            return self._answer
+        with self._stack:
+            notes = self._process.communicate()[1].decode("utf-8", "replace").splitlines()
+        self._answer = self._process.returncode, notes[-1] if notes else ""
+        return self._answer
+
+    def accepted(self) -> None:
+        """Waits for the answer. Raises Trouble with the scene's first fault, where it has one."""
+        fault = fault_of(self._texts, *self.answer())
+        if fault is not None:
+            raise Trouble(str(fault), fault.status)
+
+    def close(self) -> None:
+        """Ends the program, where nobody waits for its answer any more."""
+        self._stack.close()
+
+    def _end(self) -> None:
+        with self._process as process:
+            process.kill()
 
 
 def first(texts: Texts) -> Fault | None:
     """The first fault of a scene by the program's order, at its place, or None where it is accepted."""
-    status, note = ask(texts)
+    return fault_of(texts, *ask(texts))
+
+
+def ask(texts: Texts) -> tuple[int, str]:
+    """The program's answer to `check`: its status and its note."""
+    return Asked(texts).answer()
+
+
+def fault_of(texts: Texts, status: int, note: str) -> Fault | None:
+    """The fault that an answer tells, at its place; None where the scene is accepted."""
     if status == 0:
         return None
     found = NOTE.fullmatch(note)
@@ -88,21 +137,6 @@ def first(texts: Texts) -> Fault | None:
         return _in_shader(texts, status, file, line, code)
     path = shown(texts.files[file].path) if file in texts.files else file
     return Fault(path, line, 0, 0, code, explain.sentence(code, file), status)
-
-
-def ask(texts: Texts) -> tuple[int, str]:
-    """The program's answer to `check`: its status and its note."""
-    with files.folder_of_links(texts.files, texts.replaced) as folder:
-        try:
-            with Popen([os.fspath(texts.program), "check", SCENE], cwd=folder, stdin=PIPE, stdout=DEVNULL, stderr=PIPE) as process:
-                try:
-                    notes = process.communicate(texts.data)[1].decode("utf-8", "replace").splitlines()
-                except BaseException:
-                    process.kill()
-                    raise
-        except OSError as fault:
-            raise Trouble(f"{texts.program}: {fault.strerror or fault}") from fault
-    return process.returncode, notes[-1] if notes else ""
 
 
 def fault_of_a_band(status: int, notes: tuple[str, ...], rows: tuple[int, int]) -> Trouble:

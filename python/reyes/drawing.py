@@ -45,7 +45,8 @@ class Picture:
 
 
 class Drawing:
-    """A scene that is ready to be drawn: read, checked, its files found. Raises Trouble for the first fault, as the program has it.
+    """A scene that is ready to be drawn: read, and its files found. The program checks it meanwhile: `accepted` waits for that, and so
+    does `draw` before it gives or keeps anything. Raises Trouble.
 
     `name` is what the user calls the scene, `place` its path, where it has one.
     """
@@ -55,15 +56,25 @@ class Drawing:
         self.program = program.ready()
         read = scene.read(data)
         self.files = files.gather(read, [*map(Path, [settings.given] if settings.given else []), *files.folders(place, settings.search)])
-        checking.accepted(data, name, self.files, self.program)
+        self._asked = checking.Asked(checking.Texts(data, name, self.files, self.program, {}))
         self.scene = read
         self.jobs = settings.jobs or len(os.sched_getaffinity(0))
         self.words = settings.words if settings.words is not None else speed(self.jobs, len(data))
         wanted = settings.frames or (lambda number: True)
         self.frames = [replace(it, options=settings.changes.of(it.options)) for it in read.frames if wanted(it.number)]
-        if read.frames and not self.frames:
-            raise Trouble(f"{name}: none of its {len(read.frames)} frames is to be drawn")
+        if not self.frames:
+            self.accepted()
+            if read.frames:
+                raise Trouble(f"{name}: none of its {len(read.frames)} frames is to be drawn")
         self._made_by = hashlib.sha256(self.program.read_bytes() + files.digest(self.files).encode()).hexdigest()
+
+    def accepted(self) -> None:
+        """Raises Trouble for the scene's first fault, as the program has it, where it has one."""
+        self._asked.accepted()
+
+    def is_known(self) -> bool:
+        """Whether the program has answered, so that `accepted` doesn't wait."""
+        return self._asked.is_there()
 
     def picture(self, frame: scene.Frame, folder: Path | None) -> Picture:
         """The picture of a frame, with the bands that are kept in a folder (None: none)."""
@@ -83,6 +94,7 @@ class Drawing:
     def draw(self, pictures: Iterable[Picture], told: Silent) -> Iterator[Picture]:
         """Draws pictures, and gives each when it is whole, in whatever order they come. Raises Trouble where one can't be drawn."""
         with ExitStack() as stack:
+            stack.callback(self._asked.close)
             broken_off = stack.enter_context(breaking.kept())
             executor = self.settings.executor
             if executor is None:
@@ -118,11 +130,16 @@ class _Work:
                         whole.append(following[0])
                     elif following is not None and following[1] is not None:
                         self._submit(following[0], following[1], 1)
+                if whole:
+                    self.drawing.accepted()
                 yield from whole
-                whole = []
                 done = wait(self.under_way, timeout=0.2, return_when=FIRST_COMPLETED).done if self.under_way else ()
-                whole += [it for it in map(self._take, done) if it is not None]
-                self.told.tick([it for it, _, _ in self.under_way.values()])
+                if done:
+                    self.drawing.accepted()
+                whole = [it for it in map(self._take, done) if it is not None]
+                if self.drawing.is_known():
+                    self.drawing.accepted()
+                    self.told.tick([it for it, _, _ in self.under_way.values()])
                 broken_off()
             yield from whole
         finally:

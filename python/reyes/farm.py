@@ -10,7 +10,7 @@ from pathlib import Path
 from reyes import bands, files, scene
 from reyes.drawing import Drawing, Picture
 from reyes.errors import USAGE, Trouble, file_trouble
-from reyes.rendering import add_changes, scene_of, settings, target_of
+from reyes.rendering import NO_FRAME, add_changes, scene_of, settings, target_of
 
 BAND = """#!/bin/sh
 # Draws one band, by its name in the file `list`, into bands/NAME.ppm; one that is there is left as it is. REYES may name the program.
@@ -87,6 +87,9 @@ def main(arguments: argparse.Namespace) -> int:
         raise Trouble(f"--bands {arguments.bands}: it is 1 to 1000", USAGE)
     data, name, place = scene_of(arguments.scene)
     drawing = Drawing(data, name, place, settings(arguments, None, 1))
+    drawing.accepted()
+    if not drawing.frames:
+        raise Trouble(f"{name}: {NO_FRAME}")
     write(drawing, Path(arguments.output), name, arguments.bands)
     return 0
 

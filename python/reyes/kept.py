@@ -10,7 +10,7 @@ import shutil
 from contextlib import suppress
 from pathlib import Path
 
-from reyes import bands, picture
+from reyes import bands, places
 from reyes.errors import Trouble, file_trouble
 
 NAME = re.compile(r"([0-9a-f]{64})\.([0-9]{1,5})-([0-9]{1,5})\.ppm")
@@ -40,7 +40,7 @@ class Kept:
                 self.folder.mkdir(exist_ok=True)
             except OSError as fault:
                 raise file_trouble(f"{self.folder}: its folder" if isinstance(fault, FileNotFoundError) else self.folder, fault) from fault
-            picture.replace(self.folder / f"{self.key}.{rows[0]}-{rows[1]}.ppm", data)
+            places.replace(self.folder / f"{self.key}.{rows[0]}-{rows[1]}.ppm", data)
         self.head = head
         self.parts[rows] = part
 

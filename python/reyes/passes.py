@@ -11,7 +11,7 @@ from pathlib import Path
 
 import numpy as np
 
-from reyes import files, passing, picture, progress, rendering, workers
+from reyes import files, passing, picture, places, progress, rendering, workers
 from reyes.drawing import Drawing, Settings
 from reyes.errors import USAGE, Trouble
 
@@ -51,7 +51,7 @@ def add_arguments(parser: argparse.ArgumentParser) -> None:
 
 def main(arguments: argparse.Namespace) -> int:
     wanted: Sequence[str] = tuple(dict.fromkeys(arguments.passes or ()))
-    form = picture.ending(arguments.output)
+    form = places.ending(arguments.output)
     if not wanted:
         raise Trouble("which passes? --alpha, --depth, --normals, --uv, --ids and --cells", USAGE)
     if form in (".ppm", ".jpg", ".jpeg"):
@@ -79,6 +79,8 @@ def _drawn(
             target.write_bytes(text)
         search = tuple(str(it) for it in files.folders(place, settings.search))
         drawing = Drawing(changed.data, name, place, Settings(settings.changes, settings.frames, settings.jobs, settings.words, search, settings.executor, room))
+        if not drawing.frames:
+            raise Trouble(f"{name}: {rendering.NO_FRAME}")
         pictures = [drawing.picture(frame, None) for frame in drawing.frames]
         told = progress.counted(sum(it.kept.rows[1] - it.kept.rows[0] for it in pictures), False, arguments.quiet)
         try:
@@ -114,7 +116,7 @@ def _with_alpha(colour: picture.Picture, coverage: picture.Picture, gamma: float
 
 def _write(target: str, layers: Sequence[Layer]) -> None:
     """Writes the passes of one frame: as layers of one EXR, else each as a file of its own."""
-    if picture.ending(target) == ".exr":
+    if places.ending(target) == ".exr":
         picture.write_layers(target, {it.name: it.levels for it in layers})
         return
     for it in layers:

@@ -7,7 +7,6 @@ from __future__ import annotations
 import io
 import os
 import re
-import tempfile
 from collections.abc import Mapping
 from pathlib import Path
 from typing import Any
@@ -16,29 +15,12 @@ import numpy as np
 import png
 from numpy.typing import NDArray
 
-from reyes.errors import Trouble, file_trouble, missing_library
+from reyes import places
+from reyes.errors import Trouble, file_trouble
 
 Picture = NDArray[Any]
 SPACE = rb"(?:[ \t\r\n]|#[^\n]*\n)"
 HEADER = re.compile(rb"P6" + (SPACE + rb"+([0-9]{1,20})") * 3 + rb"[ \t\r\n]")
-ENDINGS = (".ppm", ".png", ".tif", ".tiff", ".exr", ".jpg", ".jpeg")
-BY_OIIO = ENDINGS[2:]
-
-
-def ending(path: str | os.PathLike[str]) -> str:
-    """The ending of a picture's path, in small letters; raises Trouble where it isn't one of ENDINGS."""
-    found = Path(path).suffix.lower()
-    if found not in ENDINGS:
-        raise Trouble(f"{path}: a picture's name ends with one of {' '.join(ENDINGS)}", 2)
-    return found
-
-
-def writable(path: str | os.PathLike[str]) -> None:
-    """Raises Trouble where a picture can't be written to a path: no folder is there, or no library for its form."""
-    if not Path(path).absolute().parent.is_dir():
-        raise Trouble(f"{path}: its folder isn't there", 8)
-    if Path(path).suffix.lower() in BY_OIIO:
-        _oiio()
 
 
 def read(path: str | os.PathLike[str]) -> Picture:
@@ -112,44 +94,24 @@ def larger(picture: Picture, side: int) -> Picture:
 
 def write(path: str | os.PathLike[str], picture: Picture) -> None:
     """Writes a picture by the ending of its path, whole or not at all. Raises Trouble where that can't be done."""
-    form = ending(path)
-    if form in BY_OIIO:
+    form = places.ending(path)
+    if form in places.BY_OIIO:
         write_layers(path, {"": picture})
     else:
-        replace(path, to_ppm(picture) if form == ".ppm" else to_png(picture))
-
-
-def replace(path: str | os.PathLike[str], data: bytes) -> None:
-    """Puts a file of these bytes in a path's place in one step; what can't be replaced, such as /dev/stdout, is written to."""
-    target = Path(path)
-    try:
-        if target.exists() and not target.is_file():
-            target.write_bytes(data)
-            return
-        with tempfile.NamedTemporaryFile(dir=target.parent, prefix=f".{target.name}.", delete=False) as out:
-            try:
-                out.write(data)
-                out.flush()
-                os.chmod(out.name, 0o666 & ~_mask())
-                os.replace(out.name, target)
-            except BaseException:
-                os.unlink(out.name)
-                raise
-    except OSError as fault:
-        raise file_trouble(path if not isinstance(fault, FileNotFoundError) else f"{path}: its folder", fault) from fault
+        places.replace(path, to_ppm(picture) if form == ".ppm" else to_png(picture))
 
 
 def write_layers(path: str | os.PathLike[str], layers: Mapping[str, Picture]) -> None:
     """Writes pictures of one size into one TIFF, EXR or JPEG: the layer "" has the channels R, G, B and A, any other its name before
     them (`depth.Y` where it has one channel). EXR gets floats from 0 to 1. Raises Trouble where OpenImageIO is missing or refuses.
     """
-    oiio = _oiio()
+    oiio = places.oiio()
     names, parts = [], []
     for layer, picture in layers.items():
         letters = {1: "Y", 2: "YA", 3: "RGB", 4: "RGBA"}[picture.shape[2]]
         names += [f"{layer}.{letter}" if layer else letter for letter in letters]
         parts.append(picture)
-    if ending(path) == ".exr":
+    if places.ending(path) == ".exr":
         parts = [(it / np.float32(np.iinfo(it.dtype).max)).astype(np.float32) for it in parts]
     whole = np.ascontiguousarray(np.concatenate(parts, axis=2))
     kind = {"uint8": oiio.UINT8, "uint16": oiio.UINT16, "float32": oiio.FLOAT}[whole.dtype.name]
@@ -161,7 +123,7 @@ def write_layers(path: str | os.PathLike[str], layers: Mapping[str, Picture]) ->
 
 
 def _read_by_oiio(path: str | os.PathLike[str]) -> Picture:
-    oiio = _oiio()
+    oiio = places.oiio()
     source = oiio.ImageInput.open(os.fspath(path))
     if source is None:
         raise Trouble(f"{path}: no picture in a form that can be read", 3)
@@ -171,19 +133,3 @@ def _read_by_oiio(path: str | os.PathLike[str]) -> Picture:
     if levels is None:
         raise Trouble(f"{path}: no picture in a form that can be read", 3)
     return np.asarray(levels)
-
-
-def _oiio() -> Any:
-    """OpenImageIO. Raises Trouble where it isn't installed."""
-    try:
-        import OpenImageIO
-    except ModuleNotFoundError as fault:
-        raise missing_library("OpenImageIO") from fault
-    return OpenImageIO
-
-
-def _mask() -> int:
-    """The permissions that new files are denied."""
-    mask = os.umask(0)
-    os.umask(mask)
-    return mask

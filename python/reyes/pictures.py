@@ -11,7 +11,7 @@ from typing import Union
 
 import numpy as np
 
-from reyes import picture, view
+from reyes import picture, places, view
 from reyes.drawing import Drawing, Settings
 from reyes.errors import Trouble, file_trouble
 from reyes.progress import Silent
@@ -40,10 +40,10 @@ class Rendered:
     def save(self, path: str | Path | None = None) -> None:
         """Writes the picture in the form of the path's ending (.ppm, .png, .tif, .exr ..), by default under its name. Raises Trouble."""
         target = self.name if path is None else path
-        if Path(target).suffix.lower() in picture.ENDINGS[1:]:
+        if Path(target).suffix.lower() in places.ENDINGS[1:]:
             picture.write(target, self.array)
         else:
-            picture.replace(target, self.ppm)
+            places.replace(target, self.ppm)
 
     def show(self) -> None:
         """Opens the picture in the desktop's viewer."""

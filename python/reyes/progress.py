@@ -8,9 +8,7 @@ from contextlib import suppress
 from pathlib import Path
 from typing import TYPE_CHECKING, Any
 
-import numpy as np
-
-from reyes import bands, picture
+from reyes import bands, places
 from reyes.errors import Trouble
 
 if TYPE_CHECKING:
@@ -20,6 +18,8 @@ if TYPE_CHECKING:
 PAGE = os.sysconf("SC_PAGE_SIZE")
 EVERY = 10.0  # seconds between lines
 SHARE = 0.05  # of the time, at most, goes into the picture that grows
+FIRST = 4.0  # seconds before the first of them, which loads NumPy
+Part = tuple[bands.Span, tuple[bands.Head, bytes]]  # some rows, with their head and their bytes
 
 
 class Silent:
@@ -46,7 +46,7 @@ class Counted(Silent):
         self.growing = growing
         self.begun_at = time.monotonic()
         self.all: list[Picture] = []
-        self.next_growth = self.begun_at + 1.0
+        self.next_growth = self.begun_at + FIRST
 
     def begin(self, picture: Picture) -> None:
         self.kept_rows += picture.kept.done()
@@ -136,20 +136,28 @@ def grow(it: Picture) -> None:
             parts.append(found)
     parts = [part for part in parts if part[0][0] < part[0][1]]
     if parts:
-        width = max(head[0] for _, (head, _) in parts if head is not None)
-        whole = np.zeros((it.kept.rows[1] - it.kept.rows[0], width, 4), np.uint8)
-        for (first, end), (head, part) in parts:
-            assert head is not None
-            levels = picture.from_ppm(b"P6\n%d %d\n%d\n" % (head[0], end - first, head[1]) + part)
-            place = slice(first - it.kept.rows[0], end - it.kept.rows[0])
-            whole[place, :, :3] = levels >> 8 if levels.dtype == np.uint16 else levels
-            whole[place, :, 3] = 255
         with suppress(OSError, Trouble):
             it.kept.folder.mkdir(exist_ok=True)
-            picture.replace(it.kept.folder / "so_far.png", picture.to_png(whole))
+            places.replace(it.kept.folder / "so_far.png", _png_of(it.kept.rows, parts))
 
 
-def _rows_so_far(run: bands.Run) -> tuple[bands.Span, tuple[bands.Head, bytes]] | None:
+def _png_of(rows: bands.Span, parts: list[Part]) -> bytes:
+    """A PNG of some rows of a picture; the others are transparent."""
+    import numpy as np
+
+    from reyes import picture
+
+    width = max(head[0] for _, (head, _) in parts)
+    whole = np.zeros((rows[1] - rows[0], width, 4), np.uint8)
+    for (first, end), (head, part) in parts:
+        levels = picture.from_ppm(b"P6\n%d %d\n%d\n" % (head[0], end - first, head[1]) + part)
+        place = slice(first - rows[0], end - rows[0])
+        whole[place, :, :3] = levels >> 8 if levels.dtype == np.uint16 else levels
+        whole[place, :, 3] = 255
+    return picture.to_png(whole)
+
+
+def _rows_so_far(run: bands.Run) -> Part | None:
     """The whole rows that a run has given so far."""
     data = bytes(run.data)
     head = bands.HEADER.match(data)

@@ -8,7 +8,7 @@ from collections.abc import Callable, Iterator
 from concurrent.futures import Executor
 from pathlib import Path
 
-from reyes import picture, progress, scene, workers
+from reyes import places, plain, progress, scene, workers
 from reyes.drawing import Drawing, Picture, Settings
 from reyes.errors import USAGE, Trouble, file_trouble
 
@@ -18,6 +18,8 @@ EXAMPLE = """example:
 
 A picture's form is that of its ending: .ppm, .png, .tif, .tiff, .exr or .jpg; another name gets a PPM. While it is drawn, its bands are kept
 in the folder PICTURE.bands, with the picture so far as so_far.png; a run that is broken off goes on with the bands that are missing."""
+
+NO_FRAME = "no picture comes of it, since it has no frame (WorldBegin .. WorldEnd)"
 
 
 def add_arguments(parser: argparse.ArgumentParser) -> None:
@@ -45,7 +47,7 @@ def add_changes(parser: argparse.ArgumentParser) -> None:
 
 def main(arguments: argparse.Namespace) -> int:
     output = arguments.output
-    if len(arguments.scene) > 1 and output and not (output in picture.ENDINGS or output.endswith("/") or Path(output).is_dir()):
+    if len(arguments.scene) > 1 and output and not (output in places.ENDINGS or output.endswith("/") or Path(output).is_dir()):
         raise Trouble(f"-o {output}: {len(arguments.scene)} scenes can't go to one file; a folder or an ending such as .png can be named", USAGE)
     with workers.chosen(arguments) as (executor, jobs):
         for word in arguments.scene:
@@ -57,10 +59,15 @@ def draw(word: str, arguments: argparse.Namespace, executor: Executor | None, jo
     """Draws one scene, and writes its pictures. Raises Trouble."""
     data, name, place = scene_of(word)
     drawing = Drawing(data, name, place, settings(arguments, executor, jobs))
-    pictures = list(begun(drawing, arguments.output, not arguments.no_bands))
-    targets = {id(it): target for it, target in pictures}
-    if place is not None and any(Path(target).exists() and place.samefile(target) for target in targets.values()):
-        raise Trouble(f"{word}: its picture would take the scene's own place", USAGE)
+    tell_if_empty(drawing, word)
+    try:
+        pictures = list(begun(drawing, arguments.output, not arguments.no_bands))
+        targets = {id(it): target for it, target in pictures}
+        if place is not None and any(Path(target).exists() and place.samefile(target) for target in targets.values()):
+            raise Trouble(f"{word}: its picture would take the scene's own place", USAGE)
+    except Trouble:
+        drawing.accepted()  # its own fault is told first
+        raise
     rows = sum(it.kept.rows[1] - it.kept.rows[0] for it, _ in pictures)
     told = progress.counted(rows, not arguments.no_bands, arguments.quiet)
     try:
@@ -69,6 +76,12 @@ def draw(word: str, arguments: argparse.Namespace, executor: Executor | None, jo
             told.whole(targets[id(whole)])
     finally:
         told.close()
+
+
+def tell_if_empty(drawing: Drawing, name: str) -> None:
+    """Says of a scene without a frame that nothing is drawn."""
+    if not drawing.frames:
+        print(f"reyes: {name}: {NO_FRAME}", file=sys.stderr)
 
 
 def settings(arguments: argparse.Namespace, executor: Executor | None, jobs: int) -> Settings:
@@ -101,9 +114,10 @@ def begun(drawing: Drawing, output: str | None, keeps: bool) -> Iterator[tuple[P
     """The pictures of a drawing and where each goes. Of several frames that go to one file the last one counts, as with `reyes render`."""
     targets = {target_of(frame, output, len(drawing.frames)): frame for frame in drawing.frames}
     if len(targets) < len(drawing.frames):
+        drawing.accepted()
         print(f"reyes: {len(drawing.frames)} frames go to {len(targets)} files, and the last of each is kept; -o 'out.####.png' keeps all", file=sys.stderr)
     for target, frame in sorted(targets.items(), key=lambda it: it[1].place):
-        picture.writable(target)
+        places.writable(target)
         regular = not Path(target).exists() or Path(target).is_file()
         yield drawing.picture(frame, Path(f"{target}.bands") if keeps and regular else None), target
 
@@ -115,7 +129,7 @@ def target_of(frame: scene.Frame, output: str | None, frames: int) -> str:
         return display
     if "#" in output:
         return re.sub("#+", lambda found: f"{frame.number:0{len(found.group())}d}", output)
-    if output in picture.ENDINGS:
+    if output in places.ENDINGS:
         return str(Path(display).with_suffix(output))
     if output.endswith("/") or Path(output).is_dir():
         return str(Path(output) / Path(display).name)
@@ -127,10 +141,14 @@ def target_of(frame: scene.Frame, output: str | None, frames: int) -> str:
 def save(whole: Picture, target: str) -> None:
     """Writes a whole picture by the ending of its name, and forgets its bands."""
     data = whole.kept.whole()
-    if Path(target).suffix.lower() in picture.ENDINGS[1:]:
-        picture.write(target, picture.from_ppm(data))
+    ending = Path(target).suffix.lower()
+    png = plain.png(data) if ending == ".png" else None
+    if png is not None or ending not in places.ENDINGS[1:]:
+        places.replace(target, data if png is None else png)
     else:
-        picture.replace(target, data)
+        from reyes import picture  # which loads NumPy
+
+        picture.write(target, picture.from_ppm(data))
     whole.kept.forget()
 
 

@@ -7,7 +7,7 @@ import subprocess
 import tempfile
 from pathlib import Path
 
-from reyes import picture
+from reyes import picture, places
 from reyes.errors import USAGE, Trouble
 
 
@@ -21,12 +21,12 @@ def add_arguments(parser: argparse.ArgumentParser) -> None:
 
 def main(arguments: argparse.Namespace) -> int:
     output = arguments.output
-    if output is not None and len(arguments.pictures) > 1 and output not in picture.ENDINGS:
+    if output is not None and len(arguments.pictures) > 1 and output not in places.ENDINGS:
         raise Trouble(f"-o {output}: {len(arguments.pictures)} pictures can't go to one file; -o .png writes each beside its picture", USAGE)
     for path in arguments.pictures:
         levels = picture.larger(picture.read(path), arguments.side)
         if output is not None:
-            picture.write(Path(path).with_suffix(output) if output in picture.ENDINGS else output, levels)
+            picture.write(Path(path).with_suffix(output) if output in places.ENDINGS else output, levels)
         else:
             show(levels, Path(path).stem)
     return 0

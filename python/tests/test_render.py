@@ -12,7 +12,7 @@ import pytest
 from hypothesis import given, settings
 from hypothesis import strategies as st
 
-from reyes import bands, command, drawing, kept, picture, rendering, scene
+from reyes import bands, checking, command, drawing, kept, picture, plain, rendering, scene
 from reyes.progress import Silent
 
 SMALL = """Format {width} {height} 1
@@ -276,3 +276,47 @@ def test_faults_are_told_in_a_line(line: str, status: int, program: Path, tmp_pa
     assert command.run(["render", "scene.rib"]) == status
     told = capsys.readouterr().err
     assert told.startswith("reyes: scene.rib:1") and told.count("\n") == 1 and sorted(it.name for it in tmp_path.iterdir()) == ["scene.rib"]
+
+
+def test_a_small_picture_needs_no_numpy(program: Path, tmp_path: Path) -> None:
+    (tmp_path / "scene.rib").write_text(small())
+    words = ["import sys", "from reyes.command import run", "status = run(['render', 'scene.rib', '-q', '-o', 'a.png'])", "sys.exit(status or 'numpy' in sys.modules)"]
+    environment = {**os.environ, "PYTHONPATH": str(Path(__file__).resolve().parent.parent)}
+    ended = subprocess.run([sys.executable, "-c", "; ".join(words)], cwd=tmp_path, env=environment, stderr=subprocess.PIPE, check=False)
+    assert ended.returncode == 0 and ended.stderr == b"" and (tmp_path / "a.png").is_file()
+
+
+@pytest.mark.parametrize("most", [255, 65535, 1000])
+def test_a_png_without_numpy_is_the_same(most: int) -> None:
+    data = b"P6\n5 3\n%d\n" % most + bytes(range(3, 3 + 45 * (1 + (most > 255))))
+    made = plain.png(data)
+    assert (made is None) is (most == 1000) and (made is None or made == picture.to_png(picture.from_ppm(data)))
+
+
+class Slow(checking.Asked):
+    """A check whose answer is told as not there yet until it is waited for."""
+
+    def is_there(self) -> bool:
+        return False
+
+
+@pytest.mark.parametrize("kept_folder", [False, True])
+def test_a_refused_scene_that_is_drawn_meanwhile_leaves_nothing(
+    kept_folder: bool, program: Path, tmp_path: Path, monkeypatch: pytest.MonkeyPatch, capsys: pytest.CaptureFixture[str],
+) -> None:
+    monkeypatch.chdir(tmp_path)
+    monkeypatch.setattr(checking, "Asked", Slow)
+    # the first frame is whole, so its bands are drawn before the fault behind it is told
+    (tmp_path / "scene.rib").write_text(small("a.ppm") + "FrameBegin 2 Colr 1 1 1 FrameEnd")
+    assert command.run(["render", "scene.rib", "-q", *([] if kept_folder else ["--no-bands"])]) == 3
+    assert capsys.readouterr().err == "reyes: scene.rib:12:14: S1: no request has the name; the nearest known name is 'Color'\n"
+    assert [it.name for it in tmp_path.iterdir()] == ["scene.rib"]
+
+
+def test_a_scene_without_a_frame_is_told(program: Path, tmp_path: Path, monkeypatch: pytest.MonkeyPatch, capsys: pytest.CaptureFixture[str]) -> None:
+    monkeypatch.chdir(tmp_path)
+    (tmp_path / "none.rib").write_text("Format 9 9 1")
+    for words, status in ((["render", "none.rib"], 0), (["farm", "none.rib", "-o", "none.farm"], 1), (["passes", "none.rib", "--alpha", "-o", "a.png"], 1)):
+        assert command.run(words) == status
+        assert capsys.readouterr().err == "reyes: none.rib: no picture comes of it, since it has no frame (WorldBegin .. WorldEnd)\n"
+    assert [it.name for it in tmp_path.iterdir()] == ["none.rib"]

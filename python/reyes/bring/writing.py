@@ -4,7 +4,7 @@ from __future__ import annotations
 from collections.abc import Mapping, Sequence
 from pathlib import Path
 
-from reyes import picture, program
+from reyes import places, program
 from reyes.errors import Trouble, file_trouble
 
 from .text import Request, written
@@ -56,7 +56,7 @@ def put(folder: Path, files: Mapping[str, bytes]) -> None:
     """Writes files into a folder. Raises Trouble where that can't be done."""
     make_folder(folder)
     for name, data in files.items():
-        picture.replace(folder / name, data)
+        places.replace(folder / name, data)
 
 
 def remove(folder: Path, names: Sequence[str], inputs: Sequence[Path]) -> None:

@@ -6,7 +6,7 @@ from pathlib import Path
 
 import numpy as np
 
-from reyes import picture, progress
+from reyes import picture, places, progress
 from reyes.bring import matrices
 from reyes.bring.text import Floats, number, written
 from reyes.drawing import Drawing, Settings
@@ -45,7 +45,7 @@ def draw_map(scene: scenes.Scene, name: str, room: Path, place: Path, settings: 
     """Draws the sphere map of what wears a surface into the folder, and gives the frame by which it is read."""
     middle, axes = frame(scene, name)
     views = [_drawn(_view(scene, name, middle, face @ axes), room, place, settings) for face in FACES]
-    picture.replace(room / NAME, picture.to_ppm(laid_out(views)))
+    places.replace(room / NAME, picture.to_ppm(laid_out(views)))
     return middle, axes
 
 

@@ -8,7 +8,7 @@ from pathlib import Path
 
 import numpy as np
 
-from reyes import picture
+from reyes import places
 from reyes.bring.text import Request, number, written
 from reyes.drawing import Drawing, Settings
 from reyes.errors import Trouble
@@ -81,10 +81,11 @@ def draw(wanted: Map, folder: Path, place: Path | None, settings: Settings, told
     key = hashlib.sha256(picture_of.kept.key.encode() + wanted.text).hexdigest()
     target, noted = folder / wanted.name, folder / f"{wanted.name}.key"
     if target.is_file() and noted.is_file() and noted.read_text("ascii", "replace") == f"{key} {_sum(target)}":
+        drawing.accepted()
         return False
     for it in drawing.draw([picture_of], told):
-        picture.replace(target, it.kept.whole())
-        picture.replace(noted, f"{key} {_sum(target)}".encode())
+        places.replace(target, it.kept.whole())
+        places.replace(noted, f"{key} {_sum(target)}".encode())
     if not target.is_file():
         raise Trouble(f"{target}: not drawn")
     return True
