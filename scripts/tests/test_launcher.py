@@ -25,6 +25,7 @@ def room(tmp_path: Path) -> Path:
     (tmp_path / "crates.txt").write_text("reyes: base\nbase:\n")
     put(tmp_path / "crates/reyes/src/main.rt", "fn main() {}\n")
     put(tmp_path / "crates/base/src/lib.rt", "// nothing\n")
+    put(tmp_path / "a.rib", "")
     (tmp_path / "CHANGELOG.md").write_text("# Changes\n\n## 0.9 (2026-12-01)\n\n## 0.8 (2026-11-01)\n")
     put(tmp_path / "unproved", SAYS.format(name="unproved"))
     put(tmp_path / "scripts/quick", f"#!/bin/sh\necho {tmp_path}/unproved\n")
@@ -99,3 +100,18 @@ def test_the_version_is_that_of_the_changes(room: Path) -> None:
     assert "not proved" in out
     subprocess.run([room / "scripts/build"], check=True)
     assert "not proved" not in run(room, "--version")[1]
+
+
+@pytest.mark.parametrize(
+    "words, status",
+    [("render a.rib b.rib", 2), ("render", 2), ("demo 5 6", 2), ("--bucket 16 render", 2), ("--stats", 2), ("render a.rib --bucket 16 b.rib", 2), ("render nosuch.rib", 6), ("check nosuch.rib", 6)],
+)
+def test_what_needs_no_program_is_told_before_one_is_built(room: Path, words: str, status: int) -> None:
+    put(room / "scripts/quick", "#!/bin/sh\nexit 99\n")
+    said = "nosuch.rib: missing\n" if status == 6 else (TOP / "docs/usage.txt").read_text()
+    assert run(room, *words.split()) == (status, "", said)
+
+
+@pytest.mark.parametrize("words", ["render -- nosuch.rib", "--bucket 16 render nosuch.rib", "part nosuch.rib", "render a.rib --bucket", "join a --of 2", "render .", "demo x", "render a.rib/b"])
+def test_all_other_words_go_to_the_program(room: Path, words: str) -> None:
+    assert run(room, *words.split())[:2] == (0, f"unproved {words}\n")
