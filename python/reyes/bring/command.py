@@ -16,6 +16,7 @@ from .changes import LEFT, NEAR, NEVER, SAME, Changes
 from .omissions import PRIMITIVES
 from .reading import Folders, Unreadable, load
 from .shaders import alone
+from .telling import Lines, Silent, too_large
 from .text import Request
 from .work import Work
 
@@ -53,25 +54,27 @@ class Brought:
     changes: Changes
 
 
-def bring(scene: Path, may: str, path: Sequence[Path] = ()) -> Brought:
+def bring(scene: Path, may: str, path: Sequence[Path] = (), telling: Silent = Silent()) -> Brought:
     """Brings a scene in. Subdivision surfaces get less room, and then what shows nothing goes, until the limits hold.
 
     Raises Trouble where the scene can't be read.
     """
     try:
-        row, told = load(scene, scene.name)
+        row, told = load(scene, scene.name, telling)
     except Unreadable as it:
         raise Trouble(f"{scene}: {it}", 3) from None
+    if large := too_large(row):
+        telling.say(f"{scene}: {large}")
     with warnings.catch_warnings():
         # numbers of a scene may be anything: what isn't finite is written as 0 or as the greatest number
         warnings.simplefilter("ignore", RuntimeWarning)
-        return brought_row(scene, row, told, may, path)
+        return brought_row(scene, row, told, may, path, telling)
 
 
-def brought_row(scene: Path, row: Sequence[Request], told: Sequence[str], may: str, path: Sequence[Path]) -> Brought:
+def brought_row(scene: Path, row: Sequence[Request], told: Sequence[str], may: str, path: Sequence[Path], telling: Silent) -> Brought:
     """The same for the requests of a scene; `told` is what reading them took."""
     for depth in (3, 2, 1, 0):
-        work = Work(Changes(may), Folders(scene, path), depth)
+        work = Work(Changes(may), Folders(scene, path), depth, telling)
         for words in told:
             work.changes.tell(SAME, scene.name, 0, words)
         found = passes.whole(work, row)
@@ -116,7 +119,7 @@ def main(arguments: argparse.Namespace) -> int:
     may = SAME + (NEAR if arguments.near or arguments.without else "") + (LEFT if arguments.without else "")
     if scene.suffix.lower() == ".sl":
         return alone.main(scene, folder, may, arguments.path)
-    brought = bring(scene, may, arguments.path)
+    brought = bring(scene, may, arguments.path, Lines())
     changes = brought.changes
     files = {writing.SCENE: brought.text, **brought.files}
     given = [scene, *inputs(scene)]

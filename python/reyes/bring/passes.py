@@ -91,7 +91,7 @@ def whole(work: Work, row: Sequence[Request]) -> list[Request]:
     work.textures.pictures = frozenset(name for it in row if it.name == "Display" if (name := (it.word(0) or "").split("/")[-1]))
     work.rows = row
     found: list[Request] = []
-    for group in blocks(work, row):
+    for group in work.telling.through("bringing in", blocks(work, row), len(row)):
         made = motion.block(work, group, lambda it: lowered(work, it)) if len(group) > 1 else lowered(work, group[0])
         for it in made:
             work.state.follow(it)

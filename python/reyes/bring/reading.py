@@ -9,6 +9,7 @@ from collections.abc import Iterable, Sequence
 from pathlib import Path
 
 from . import binary
+from .telling import Silent
 from .text import Request, requests
 
 GREATEST = 1 << 28
@@ -60,7 +61,7 @@ def plain(data: bytes) -> tuple[bytes, list[str]]:
     return text, told
 
 
-def load(path: Path, name: str) -> tuple[list[Request], list[str]]:
+def load(path: Path, name: str, telling: Silent = Silent()) -> tuple[list[Request], list[str]]:
     """The requests of a file, and in words what reading it took. `Unreadable` where it can't be read."""
     try:
         if path.stat().st_size > GREATEST:
@@ -69,7 +70,7 @@ def load(path: Path, name: str) -> tuple[list[Request], list[str]]:
     except OSError as it:
         raise Unreadable(it.strerror or "can't be read") from None
     text, told = plain(data)
-    return list(requests(text, name)), told
+    return list(telling.through(f"reading {name}", requests(text, name))), told
 
 
 class Folders:

@@ -10,6 +10,7 @@ from .changes import Changes
 from .reading import Folders
 from .shelf import Shelf
 from .state import State
+from .telling import Silent
 from .text import Argument, Request
 from .textures import Textures
 from .variables import Kind, Variable
@@ -21,11 +22,11 @@ class Work:
     `depth` is how much room subdivision surfaces have, 3 the most and 0 none; `rows` are all requests and `at` the place of the next one;
     `handles` are the numbers of lights that had names, and `numbers` those that are taken; `solids` says of each open solid whether it was
     turned into a block; `background` is the colour of an imager; `moving` is set in motion blocks; `seen` are the shaders whose textures
-    have been looked for; `refined` says whether a surface was that could be refined less.
+    have been looked for; `refined` says whether a surface was that could be refined less; `telling` hears how far the work is.
     """
 
-    def __init__(self, changes: Changes, folders: Folders, depth: int = 3) -> None:
-        self.changes, self.folders, self.depth = changes, folders, depth
+    def __init__(self, changes: Changes, folders: Folders, depth: int = 3, telling: Silent = Silent()) -> None:
+        self.changes, self.folders, self.depth, self.telling = changes, folders, depth, telling
         self.state = State()
         self.shelf, self.textures = Shelf(folders, changes), Textures(folders)
         self.declared: dict[str, Kind] = {**variables.STANDARD, **variables.START}
