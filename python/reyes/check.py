@@ -69,13 +69,18 @@ def show(found: list[Fault], data: bytes, name: str) -> None:
         out.print(Text(str(it)))
         lines = data.split(b"\n") if it.file == name else _lines_of(it.file)
         if it.column and it.line <= len(lines):
-            text = lines[it.line - 1].decode("latin-1").rstrip("\r")
-            before = "".join("\t" if byte == "\t" else " " for byte in text[: it.column - 1])
-            seen = "".join(byte if byte.isprintable() or byte == "\t" else "?" for byte in text)
-            out.print(Text(f"  {seen}"))
-            out.print(Text(f"  {before}{'^' * min(it.length, max(1, len(text) - it.column + 1))}", style="bold red"))
+            text, mark = marked(lines[it.line - 1].rstrip(b"\r"), it.column - 1, it.length)
+            out.print(Text(f"  {text}"))
+            out.print(Text(f"  {mark}", style="bold red"))
     if not found:
         print(f"{name}: no fault", file=sys.stderr)
+
+
+def marked(line: bytes, start: int, length: int) -> tuple[str, str]:
+    """A line as it is shown, and what marks so many of its bytes from one on below it: a letter of several bytes is one."""
+    before, held, text = (it.decode("utf-8", "replace") for it in (line[:start], line[start : start + length], line))
+    seen = "".join(it if it == "\t" or it.isprintable() and it != "\ufffd" else "?" for it in text)
+    return seen, "".join("\t" if it == "\t" else " " for it in before) + "^" * max(1, len(held))
 
 
 def _lines_of(file: str) -> list[bytes]:

@@ -255,3 +255,29 @@ def test_solids_and_bases(program, tmp_path):
     assert answer.kinds() == "=" and 'PatchMesh' not in answer.text and (found > 0).sum() > 100
 
 
+
+
+HEIGHTS = {
+    "bilinear patch": ('Patch "bilinear" "{}" [{}]', (2, 2), "", 0),
+    "bicubic patch": ('Patch "bicubic" "{}" [{}]', (4, 4), "", 0),
+    "bilinear mesh": ('PatchMesh "bilinear" 3 "nonperiodic" 2 "nonperiodic" "{}" [{}]', (3, 2), "", 0),
+    "b-splines": ('PatchMesh "bicubic" 5 "nonperiodic" 4 "nonperiodic" "{}" [{}]', (5, 4), 'Basis "b-spline" 1 "catmull-rom" 1', 1),
+}
+
+
+@pytest.mark.parametrize("name", HEIGHTS)
+def test_heights_are_points_over_u_and_v(tmp_path, program, name):
+    form, (columns, rows), basis, before = HEIGHTS[name]
+    z = [(3 * k * k + k) % 7 / 10 for k in range(columns * rows)]
+    points = [((k % columns - before) / (columns - 1 - 2 * before), (k // columns - before) / (rows - 1 - 2 * before), it) for k, it in enumerate(z)]
+    given, wanted = (form.format("Pz", " ".join(map(str, z))), form.format("P", " ".join(str(x) for it in points for x in it)))
+    found, answer = brought_and_drawn(tmp_path / "heights", world(f"{basis} {given}"))
+    assert answer.kinds() == "=" and "Pz" not in answer.text
+    assert (found == drawn(tmp_path, world(f"{basis} {wanted}"))).all()
+
+
+@pytest.mark.parametrize("text", [
+    'PatchMesh "bilinear" 3 "periodic" 2 "nonperiodic" "Pz" [0 0 0 0 0 0]', 'Patch "bilinear" "Pz" [0 0 0]', 'Basis "power" 1 "power" 1 Patch "bicubic" "Pz" [0 0 0 0 0 0 0 0 0 0 0 0 0 0 0 0]',
+])
+def test_other_heights_stay_as_they_are(tmp_path, text):
+    assert '"Pz"' in bring(tmp_path, world(text)).text

@@ -115,3 +115,14 @@ def test_what_can_be_brought_in_is_told_so(program: Path, tmp_path: Path, monkey
     (tmp_path / "packed.rib").write_bytes(b"\x1f\x8b\x08 and on")
     assert command.run(["check", "packed.rib"]) == 3
     assert capsys.readouterr().err == "reyes: packed.rib:1: L1: a gzip file; python3 -m reyes bring_in unpacks it\n"
+
+
+@pytest.mark.parametrize("line, start, length, shown", [
+    (b"Color 1 Sides 3", 8, 5, ("Color 1 Sides 3", "        ^^^^^")),
+    ("# \u00e9\u00e8 \u6f22 Sides 3".encode(), 11, 5, ("# \u00e9\u00e8 \u6f22 Sides 3", "       ^^^^^")),
+    ("\tColor \u00e9".encode(), 7, 1, ("\tColor \u00e9", "\t      ^")),
+    (b"Color \xe9 Sides\x07", 8, 5, ("Color ? Sides?", "        ^^^^^")),
+    (b"Sides", 5, 3, ("Sides", "     ^")),
+])
+def test_letters_of_several_bytes_are_marked_as_one(line: bytes, start: int, length: int, shown: tuple[str, str]) -> None:
+    assert check.marked(line, start, length) == shown

@@ -5,7 +5,7 @@ from collections.abc import Iterator, Sequence
 
 import numpy as np
 
-from . import curves, frames, motion, nurbs, omissions, options, polygons, quadrics, shading, subdivision, transforms, types
+from . import curves, frames, heights, motion, nurbs, omissions, options, polygons, quadrics, shading, subdivision, transforms, types
 from .changes import LEFT, NEVER, SAME
 from .state import spaces_of
 from .structure import expanded
@@ -29,7 +29,7 @@ STAGES: Sequence[Passes] = (
     {name: (transforms.bare,) for name in (*transforms.BARE, *transforms.WORDS, "Transform", "ConcatTransform", "MotionBegin")},
     merged(transforms.PASSES, options.PASSES, omissions.PASSES, shading.PASSES),
     merged(quadrics.PASSES, polygons.PASSES, nurbs.PASSES, subdivision.PASSES, curves.PASSES),
-    {name: (transforms.mesh,) for name in ("Patch", "PatchMesh")},
+    {name: (heights.points, transforms.mesh) for name in ("Patch", "PatchMesh")},
     {name: (transforms.with_corners,) for name in types.LISTS},
     polygons.NORMALS,
     types.PASSES,
