@@ -2,6 +2,7 @@
 from __future__ import annotations
 
 import difflib
+import itertools
 import os
 import re
 import tempfile
@@ -12,7 +13,7 @@ from pathlib import Path
 from subprocess import DEVNULL, PIPE, Popen
 from typing import TypeVar
 
-from reyes import explain, files, rib, shader
+from reyes import explain, files, lists, rib, shader
 from reyes.errors import MISSING, Trouble
 from reyes.files import Files
 
@@ -177,6 +178,8 @@ def _in_scene(texts: Texts, status: int, line: int, code: str) -> Fault:
     if token is None:
         return Fault(texts.name, line, 0, 0, code, explain.sentence(code, "scene.rib"), status)
     said = explain.sentence(code, "scene.rib", token.text)
+    if code in ("S5", "B2"):
+        token, said = _listed(texts, token, code, said)
     token, near = _nearer(texts, token, code)
     return _at(texts.name, token, code, said, status, near)
 
@@ -240,6 +243,14 @@ def _nearer(texts: Texts, token: rib.Token, code: str) -> tuple[rib.Token, str]:
         names = {it.name for it in found.parameters} if found else set(explain.parameters(str(strings[0].value)) if strings else ())
         odd = [it for it in _heads(request.arguments) if (str(it.value).split() or [""])[-1] not in names]
     return (odd[0], nearest((str(odd[0].value).split() or [""])[-1], names)) if odd else (token, "")
+
+
+def _listed(texts: Texts, token: rib.Token, code: str, said: str) -> tuple[rib.Token, str]:
+    """Of a fault of a list that is told at a request's name, the token that is meant and what is wrong with it, where that can be said."""
+    rows = list(itertools.takewhile(lambda it: it.start <= token.start, rib.requests(texts.data)))
+    strings = [it for it in rows[-1].arguments if it.kind == "string"] if rows and rows[-1].start == token.start else []
+    text = texts.shader(f"{strings[0].value}.sl") if strings else b""
+    return (lists.fault(rows[-1], rows[:-1], text, code) if strings else None) or (token, said)
 
 
 def _heads(arguments: Sequence[rib.Token]) -> list[rib.Token]:

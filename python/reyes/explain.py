@@ -18,6 +18,7 @@ PAGES = INSTALLED if INSTALLED.is_dir() else program.CLONE / "docs"
 CODE = re.compile(r"[LSNGMPTBJX]\d{1,2}")
 STATUS = {"N": 3, "G": 5, "M": 5}
 REFUSED = "is refused: S2"
+KINDS = {"word": "a string", "whole": "a whole number", "number": "a number"}
 
 
 @dataclass(frozen=True)
@@ -68,8 +69,19 @@ def sentence(code: str, file: str, request: str = "") -> str:
     if takes == REFUSED and code == "S2":
         return f"{request} isn't supported; python3 -m reyes bring_in tells what can stand in its place"
     if takes and code in ("S2", "S3", "S5"):
-        said = f"{said.partition(';')[0]}: {request} {takes.removesuffix('; else S3')}"
+        said = f"{said.partition(';')[0]}: {request} {spelled(takes.removesuffix('; else S3'))}"
     return re.sub(r" \((at|reported at) [^()]*\)$", "", said).replace("`", "") or "a fault"
+
+
+def spelled(takes: str) -> str:
+    """What a request takes, with the kinds of its arguments in words."""
+    found = re.fullmatch(r"takes ((?:(?:word|whole|number)\b ?)*)(?:(,? ?)(list of variables|list|pairs)\b)?(.*)", takes, re.S)
+    if found is None or not (found[1] or found[3]):
+        return takes
+    kinds = [KINDS[it] for it in found[1].split()]
+    kinds += ["tokens in quotes, each with its value"] if found[3] else []
+    ahead = ", ".join(kinds[:-1])
+    return f"takes {f'{ahead} and {kinds[-1]}' if ahead else kinds[-1]}{found[4]}"
 
 
 def unknown(word: str) -> str:

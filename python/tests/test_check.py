@@ -6,7 +6,7 @@ import pytest
 from hypothesis import given, settings
 from hypothesis import strategies as st
 
-from reyes import check, command, explain
+from reyes import check, command, explain, lists, rib
 
 HEAD = 'Display "a.ppm" "file" "rgb"\n'
 
@@ -126,3 +126,33 @@ def test_what_can_be_brought_in_is_told_so(program: Path, tmp_path: Path, monkey
 ])
 def test_letters_of_several_bytes_are_marked_as_one(line: bytes, start: int, length: int, shown: tuple[str, str]) -> None:
     assert check.marked(line, start, length) == shown
+
+
+@pytest.mark.parametrize("request_, column, said", [
+    ('Surface "matte" "Ka" [1 2]', 17, "S5: 'Ka' is a float, of 1 number, and gets 2 numbers"),
+    ('LightSource "distantlight" 1 "from" [1 2 3] "to" [0]', 45, "S5: 'to' is a point, of 3 numbers, and gets 1 number"),
+    ('Projection "perspective" "fov" []', 26, "S5: 'fov' is a float, of 1 number, and gets no numbers"),
+    ('Declare "tint" "uniform color" Surface "s" "tint" [1]', 44, "S5: 'tint' is a color, of 3 numbers, and gets 1 number"),
+    ('Surface "matte" "uniform color Ka" [1 1 1]', 17, "B2: 'Ka' is a float in the shader, and a color here"),
+    ('Surface "s" "x" [1] "uniform float tint" [1]', 21, "B2: 'tint' is a color in the shader, and a float here"),
+    ('Surface 3', 1, "S3: a wrong kind, number or value of arguments: Surface takes a string and tokens in quotes, each with its value"),
+    ('LightSource "pointlight"', 1, "S3: a wrong kind, number or value of arguments: LightSource takes a string, a whole number and tokens in quotes, each with its value"),
+    ('Sides 3', 1, "S3: a wrong kind, number or value of arguments: Sides takes a whole number: 1 or 2"),
+])
+def test_what_is_wrong_is_said(
+    request_: str, column: int, said: str, program: Path, tmp_path: Path, monkeypatch: pytest.MonkeyPatch, capsys: pytest.CaptureFixture[str],
+) -> None:
+    (tmp_path / "s.sl").write_text("surface s(float x = 1; color tint = 1;) { Ci = tint; }")
+    before = "" if request_.startswith("Projection") else "WorldBegin "
+    after = "WorldBegin WorldEnd" if not before else "Sphere 1 -1 1 360 WorldEnd"
+    text = f'Declare "x" "uniform float" {before}\n{request_}\n{after}'
+    found = told(text, tmp_path, monkeypatch, capsys)[0]
+    assert (found["line"], found["column"], f"{found['code']}: {found['sentence']}") == (2, column, said)
+
+
+@given(st.text(alphabet='SurfaceLight "[]1.Ka\\n', max_size=60))
+def test_any_list_is_read(text: str) -> None:
+    for request in rib.requests(f'Surface "s" {text}'.encode()):
+        for code in ("S5", "B2"):
+            found = lists.fault(request, [], b"surface s(float Ka = 1;) { }", code)
+            assert found is None or found[0].kind == "string"
