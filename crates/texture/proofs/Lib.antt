@@ -10,6 +10,6 @@ pub mod Numerals
 pub mod Scans
 pub mod Shares
 pub mod Sides
-pub mod Spots
 pub mod Stored
 pub mod Tables
+pub mod Texels

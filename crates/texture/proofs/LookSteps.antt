@@ -1,21 +1,33 @@
 -- A look-up by its steps.
-use Rattle.std.proofs.Common.{◌≡◌, ◌∙◌, ap, ℕ, ◌^◌, ◌/◌, ℤ, pos, ◌+ℤ◌, List}
+use Rattle.std.proofs.Common.{◌≡◌, ◌∙◌, ap, sym, subst, ℕ, ◌^◌, ◌/◌, ◌<◌, ℤ, pos, ◌+ℤ◌, List, arith}
 use Rattle.std.specs.Prelude.{Option, Some}
 use Rattle.std.proofs.lemmas.List.{set-set}
 use Rattle.fixed_math.specs.declared.vec3.Vec3.{Vec3}
 use Rattle.texture.specs.declared.look.Tile.{Tile}
 use Rattle.texture.specs.Images.{Image}
 use Rattle.texture.specs.Pyramid.{side_at, texel}
-use Rattle.texture.specs.Looks.{place_of, rest_of, put_into, blend_all, mixed, look_of}
+use Rattle.texture.specs.declared.look.Around.{Around}
+use Rattle.texture.specs.Around.{IsTexel, first_tile, mixed_of, mixed_at}
+use Rattle.texture.specs.Looks.{place_of, rest_of, put_into, mixed, look_of}
 use Rattle.texture.specs.Slots.{put, put_four, slot_of, tile_at, slots_after}
 
-pub mixed_through : (p : Image) (l x xx y yy : ℕ) (f g : ℤ) (a b c d m n r : Vec3) → a ≡ texel p l x y → b ≡ texel p l xx y → c ≡ texel p l x yy → d ≡ texel p l xx yy →
-    m ≡ blend_all a b f → n ≡ blend_all c d f → r ≡ blend_all m n g → r ≡ mixed p l x xx y yy f g
-mixed_through p l x xx y yy f g a b c d m n r ea eb ec ed em en er =
-    let F : Vec3 → Vec3 → Vec3 → Vec3 → Vec3 = λ a b c d. blend_all (blend_all a b f) (blend_all c d f) g in
-    er ∙ ap (λ q. blend_all q n g) em ∙ ap (λ q. blend_all (blend_all a b f) q g) en
-    ∙ ap (λ q. F q b c d) ea ∙ ap (λ q. F (texel p l x y) q c d) eb ∙ ap (λ q. F (texel p l x y) (texel p l xx y) q d) ec
-    ∙ ap (λ q. F (texel p l x y) (texel p l xx y) (texel p l x yy) q) ed
+module _ (p : Image) (a : Around) (k : Tile) (is : k ≡ first_tile a) where
+  -- each of the four texels, in the tile of the first
+  pub is_texel : (x y : ℕ) → x < side_at p.width (2 ^ a.level) → y < side_at p.height (2 ^ a.level) → x < 2048 → y < 2048 → x / 32 ≡ a.across.first / 32 → y / 32 ≡ a.up.first / 32 → IsTexel p k x y
+  is_texel x y hx hy mx my ex ey = subst (λ k. IsTexel p k x y) (sym is) (record { column = hx; row = hy; column_most = omega (arith, mx); row_most = omega (arith, my); across = ex; up = ey })
+
+  pub mixed_through : (m n o q r : Vec3) → m ≡ texel p k.level a.across.first a.up.first → n ≡ texel p k.level a.across.second a.up.first → o ≡ texel p k.level a.across.first a.up.second →
+      q ≡ texel p k.level a.across.second a.up.second → r ≡ mixed_of a m n o q → r ≡ mixed_at p a
+  mixed_through m n o q r em en eo eq er =
+      let at : ℕ → ℕ → Vec3 = λ x y. texel p a.level x y in
+      let l : k.level ≡ a.level = ap (λ (k : Tile). k.level) is in
+      let here : (x y : ℕ) → texel p k.level x y ≡ at x y = λ x y. ap (λ l. texel p l x y) l in
+      let x = a.across.first in
+      let xx = a.across.second in
+      let y = a.up.first in
+      let yy = a.up.second in
+      er ∙ ap (λ z. mixed_of a z n o q) (em ∙ here x y) ∙ ap (λ z. mixed_of a (at x y) z o q) (en ∙ here xx y)
+      ∙ ap (λ z. mixed_of a (at x y) (at xx y) z q) (eo ∙ here x yy) ∙ ap (λ z. mixed_of a (at x y) (at xx y) (at x yy) z) (eq ∙ here xx yy)
 
 pub look_through : (p : Image) (l : ℕ) (s t : ℤ) (w h x xx y yy : ℕ) (f g : ℤ) (r : Vec3) →
     w ≡ side_at p.width (2 ^ l) → h ≡ side_at p.height (2 ^ l) →

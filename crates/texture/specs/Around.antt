@@ -6,7 +6,7 @@ use Rattle.texture.specs.declared.look.Around.{Around}
 use Rattle.texture.specs.Images.{Image}
 use Rattle.texture.specs.Pyramid.{side_at}
 use Rattle.texture.specs.declared.look.Tile.{Tile}
-use Rattle.texture.specs.Looks.{mixed}
+use Rattle.texture.specs.Looks.{blend_all, mixed}
 use Rattle.texture.specs.Slots.{tile_at}
 
 -- both texels of a spot stand in a row of so many, at most 2,048
@@ -23,6 +23,15 @@ pub record IsAround (p : Image) (a : Around) : Type 0 where
   pub across : IsSpot (side_at p.width (2 ^ a.level)) a.across
   pub up : IsSpot (side_at p.height (2 ^ a.level)) a.up
 
+-- a texel of the level that a tile of the image is of, in that tile
+pub record IsTexel (p : Image) (k : Tile) (x y : ℕ) : Type 0 where
+  pub column : x < side_at p.width (2 ^ k.level)
+  pub row : y < side_at p.height (2 ^ k.level)
+  pub column_most : x ≤ 2048
+  pub row_most : y ≤ 2048
+  pub across : x / 32 ≡ k.column
+  pub up : y / 32 ≡ k.row
+
 -- one tile has all four
 pub record IsInOneTile (a : Around) : Type 0 where
   pub columns : a.across.second / 32 ≡ a.across.first / 32
@@ -31,6 +40,11 @@ pub record IsInOneTile (a : Around) : Type 0 where
 -- the tile of the first
 abbrev pub first_tile : Around → Tile
 first_tile a = tile_at a.which a.level a.across.first a.up.first
+
+-- the mix of four colours that stand there
+abbrev pub mixed_of : Around → Vec3 → Vec3 → Vec3 → Vec3 → Vec3
+mixed_of a left right below_left below_right =
+    blend_all (blend_all left right (pos a.across.rest)) (blend_all below_left below_right (pos a.across.rest)) (pos a.up.rest)
 
 -- the mix of the four
 abbrev pub mixed_at : Image → Around → Vec3

@@ -7,3 +7,4 @@ pub mod Around
 pub mod Files
 pub mod Scans
 pub mod Tables
+pub mod Channels

@@ -1,8 +1,9 @@
 -- Looking a texture up: the four texels around a place of a level, mixed.
-use Rattle.std.specs.Prelude.{ℕ, ◌-◌, ◌^◌, ℤ, pos, ◌*ℤ◌, ◌-ℤ◌, ◌+ℤ◌, ◌≤ℤ◌, unsigned_abs, ◌≡◌, refl}
+use Rattle.std.specs.Prelude.{ℕ, ◌-◌, ◌^◌, ℤ, pos, ◌*ℤ◌, ◌-ℤ◌, ◌+ℤ◌, unsigned_abs, ◌≡◌, refl}
 use Rattle.fixed_math.specs.declared.vec3.Vec3.{Vec3}
 use Rattle.fixed_math.specs.Fixed.{add, sub, mul}
 use Rattle.fixed_math.specs.Whole.{floor_by, clamp}
+use Rattle.texture.specs.declared.texel.Texel.{Texel}
 use Rattle.texture.specs.Images.{Image}
 use Rattle.texture.specs.Pyramid.{side_at, texel, four, texel_part, square_sum, sum_to, sample}
 
@@ -30,14 +31,9 @@ rest_of s side = exact_of s side -ℤ pos 65536 *ℤ place_of s side
 abbrev pub put_into : ℤ → ℕ → ℕ
 put_into z side = unsigned_abs (clamp (pos 0) (pos (side - 1)) z)
 
--- a part of a whole of 65536
-abbrev pub IsShare : ℤ → Type 0
-IsShare z = (pos 0 ≤ℤ z) × (z ≤ℤ pos 65536)
-
-pub record AreShares (v : Vec3) : Type 0 where
-  pub red : IsShare v.x
-  pub green : IsShare v.y
-  pub blue : IsShare v.z
+-- the colour of a texel
+abbrev pub colour_of : Texel → Vec3
+colour_of t = record { x = pos t.red; y = pos t.green; z = pos t.blue }
 
 -- the mix of the four texels of level l in columns x and xx and rows y and yy
 abbrev pub mixed : Image → ℕ → ℕ → ℕ → ℕ → ℕ → ℤ → ℤ → Vec3

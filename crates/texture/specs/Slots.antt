@@ -1,17 +1,16 @@
 -- The slots of a cache of tiles.
-use Rattle.std.specs.Prelude.{ℕ, ◌+◌, ◌*◌, ◌/◌, ◌%◌, ◌^◌, ◌<◌, ℤ, pos, ◌+ℤ◌, List, [], ◌∷◌, length, get_or, map, slice_set, Option, Some, None, ◌≡◌, refl}
-use Rattle.fixed_math.specs.declared.vec3.Vec3.{Vec3}
-use Rattle.fixed_math.specs.Axes.{origin}
+use Rattle.std.specs.Prelude.{ℕ, ◌+◌, ◌*◌, ◌/◌, ◌%◌, ◌^◌, ℤ, pos, ◌+ℤ◌, List, [], ◌∷◌, length, get_or, map, slice_set, Option, Some, None, ◌≡◌, ◌≢◌, refl}
 use Rattle.fixed_math.specs.Hash.{hash32}
+use Rattle.texture.specs.declared.texel.Texel.{Texel}
 use Rattle.texture.specs.declared.look.Tile.{Tile}
 use Rattle.texture.specs.Images.{Image}
 use Rattle.texture.specs.Pyramid.{side_at, texel, four}
-use Rattle.texture.specs.Looks.{place_of, put_into}
+use Rattle.texture.specs.Looks.{colour_of, place_of, put_into}
 
--- a slot: none or a tile, and its texels by rows
+-- a slot: none or a tile, and by rows those of its texels that are known
 pub record Held : Type 0 where
   pub tile : Option Tile
-  pub texels : List Vec3
+  pub texels : List (Option Texel)
 
 -- a cache: the images of its textures, and the tiles of its slots
 pub record Kept : Type 0 where
@@ -21,19 +20,18 @@ pub record Kept : Type 0 where
 abbrev pub no_image : Image
 no_image = record { width = 1; height = 1; most = 1; samples = [] }
 
--- the first n texels of a tile, by rows, as far as the level has them
-pub record IsFilledTo (n : ℕ) (p : Image) (k : Tile) (xs : List Vec3) : Type 0 where
-  pub size : length xs ≡ 1024
-  pub each : (i : ℕ) → i < n → k.column * 32 + i % 32 < side_at p.width (2 ^ k.level) → k.row * 32 + i / 32 < side_at p.height (2 ^ k.level) →
-      get_or xs i origin ≡ texel p k.level (k.column * 32 + i % 32) (k.row * 32 + i / 32)
+-- the slot of a tile, by its hash
+abbrev pub slot_of : Tile → ℕ
+slot_of k = hash32 (k.which ∷ k.level ∷ k.column ∷ k.row ∷ []) % 256
 
--- these are all texels of a tile
-abbrev pub IsFilled : Image → Tile → List Vec3 → Type 0
-IsFilled p k xs = IsFilledTo 1024 p k xs
+-- those that are known are the tile's texels, by rows
+abbrev pub AreOf : Image → Tile → List (Option Texel) → Type 0
+AreOf p k xs = (i : ℕ) (t : Texel) → get_or xs i None ≡ Some t → colour_of t ≡ texel p k.level (k.column * 32 + i % 32) (k.row * 32 + i / 32)
 
--- a slot with a tile has the texels of that tile of that texture
-pub record IsKept (ps : List Image) (h : Held) : Type 0 where
-  pub filled : (k : Tile) → h.tile ≡ Some k → IsFilled (get_or ps k.which no_image) k h.texels
+-- a tile stands in its own slot, with texels of that tile of that texture
+pub record IsKept (ps : List Image) (i : ℕ) (h : Held) : Type 0 where
+  pub own : (k : Tile) → h.tile ≡ Some k → i ≡ slot_of k
+  pub texels : (k : Tile) → h.tile ≡ Some k → AreOf (get_or ps k.which no_image) k h.texels
 
 abbrev pub empty : Held
 empty = record { tile = None; texels = [] }
@@ -41,19 +39,23 @@ empty = record { tile = None; texels = [] }
 -- 256 slots, each empty or with the tile that belongs there
 pub record AreKept (ps : List Image) (hs : List Held) : Type 0 where
   pub size : length hs ≡ 256
-  pub each : (i : ℕ) → IsKept ps (get_or hs i empty)
+  pub each : (i : ℕ) → IsKept ps i (get_or hs i empty)
 
 -- which tiles the slots hold
 abbrev pub keys_of : List Held → List (Option Tile)
 keys_of hs = map (λ (h : Held). h.tile) hs
 
--- the slot of a tile, by its hash
-abbrev pub slot_of : Tile → ℕ
-slot_of k = hash32 (k.which ∷ k.level ∷ k.column ∷ k.row ∷ []) % 256
-
 -- the slots after a tile is put into its own
 abbrev pub put : List (Option Tile) → Tile → List (Option Tile)
 put ss k = slice_set ss (slot_of k) (Some k)
+
+-- a tile of an image was put into its slot, of which some texels are known then
+pub record IsBrought (p : Image) (k : Tile) (place : ℕ) (old new : List Held) : Type 0 where
+  pub size : length new ≡ length old
+  pub keys : keys_of new ≡ put (keys_of old) k
+  pub tile : (get_or new place empty).tile ≡ Some k
+  pub texels : AreOf p k (get_or new place empty).texels
+  pub rest : (i : ℕ) → i ≢ place → get_or new i empty ≡ get_or old i empty
 
 -- the tile of a texel
 abbrev pub tile_at : ℕ → ℕ → ℕ → ℕ → Tile

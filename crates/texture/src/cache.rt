@@ -1,23 +1,24 @@
 // A cache of tiles.
 ghost use Rattle.std.specs.Prelude.{◌≡◌, ◌≢◌, ◌≤◌, ◌<◌, ◌%◌, ◌*◌, ◌+◌, ◌^◌, ℕ, Some, None, cond, length, get_or, is_some, IsTrue, IfOk};
 ghost use Rattle.std.specs.List.{count_by};
-ghost use Rattle.fixed_math.specs.Axes.{origin};
+ghost use Rattle.texture.specs.Images.{Image};
 ghost use Rattle.texture.specs.Pyramid.{side_at, texel};
-ghost use Rattle.texture.specs.Around.{IsAround, IsInOneTile, first_tile, mixed_at};
-ghost use Rattle.texture.specs.Looks.{AreShares, look_of};
-ghost use Rattle.texture.specs.Slots.{Held, Kept, AreEmpty, IsFilled, AreKept, slot_of, keys_of, put as put_key, put_four, slots_after, tile_at, no_image, empty};
+ghost use Rattle.texture.specs.Around.{IsAround, IsInOneTile, IsTexel, first_tile, mixed_at};
+ghost use Rattle.texture.specs.Looks.{colour_of, look_of};
+ghost use Rattle.texture.specs.Slots.{Held, Kept, AreEmpty, AreKept, AreOf, IsBrought, slot_of, keys_of, put as put_key, put_four, slots_after, tile_at, no_image, empty};
 
-use crate::look::{Around, Tile, mix_all, spot_of};
+use crate::look::{Around, Tile, spot_of};
+use crate::texel::Texel;
 use crate::texture::Texture;
 use fixed_math::{NoMemory, Num, Vec3, hash32};
 use std::alloc::Global;
 use std::marker::Model;
 
-/// A slot of the cache: nothing, or a tile with its texels by rows.
+/// A slot of the cache: nothing, or a tile with those of its texels, by rows, that were asked for.
 #[derive(Drop)]
 pub(crate) struct Slot {
     tile: Option<Tile>,
-    texels: Vec<Vec3>,
+    texels: Vec<Option<Texel>>,
 }
 
 impl Model for Slot {
@@ -35,7 +36,7 @@ impl Slot {
     {
         let mut texels = Vec::new(alloc);
         for _ in 0..1024u32 {
-            texels.push(Vec3::default())?;
+            texels.push(None)?;
         }
         Ok(Slot { tile: None, texels })
     }
@@ -66,25 +67,71 @@ impl Slot {
         }
     }
 
-    /// Fills the slot with the tile's texels.
-    #[tactic(auto, using(crate::proofs::Filled::filled_none, crate::proofs::Filled::filled_more))]
-    fn fill(&mut self, texture: &Texture, tile: Tile)
-        requires level { tile.level ≤ 11 }
-        requires column { tile.column ≤ 64 }
-        requires row { tile.row ≤ 64 }
+    /// Gives the slot to a tile, of which no texel is known yet.
+    #[tactic(auto, using(crate::proofs::Filled::cleared_none, crate::proofs::Filled::cleared_more))]
+    fn take_up(&mut self, tile: Tile)
         ensures tile { self.new.tile ≡ Some tile }
-        ensures filled { IsFilled texture.now tile self.new.texels }
+        ensures none { (i : ℕ) → get_or self.new.texels i None ≡ None }
     {
-        let columns = texture.columns(tile.level);
-        let rows = texture.rows(tile.level);
         for i in 0..1024u32 {
-            let x = tile.column * 32 + i % 32;
-            let y = tile.row * 32 + i / 32;
-            if x < columns && y < rows {
-                self.texels[i as usize] = texture.texel(tile.level, x, y);
-            }
+            self.texels[i as usize] = None;
         }
         self.tile = Some(tile);
+    }
+
+    /// The texel in column `x` and row `y` of the level of the slot's tile, where it is known.
+    #[inline(always)]
+    fn known(&self, x: u32, y: u32) -> Option<Texel>
+        ensures { result ≡ get_or self.now.texels (y % 32 * 32 + x % 32) None }
+    {
+        self.texels[(y % 32 * 32 + x % 32) as usize]
+    }
+
+    // The same, which is worked out and kept.
+    fn learn(&mut self, texture: &Texture, tile: Tile, x: u32, y: u32) -> Texel
+        requires texels { AreOf texture.now tile self.old.texels }
+        requires level { tile.level ≤ 11 }
+        requires inside { IsTexel texture.now tile x y }
+        ensures value { colour_of result ≡ texel texture.now tile.level x y }
+        ensures tile { self.new.tile ≡ self.old.tile }
+        ensures texels { AreOf texture.now tile self.new.texels }
+    {
+        let texel = texture.texel(tile.level, x, y);
+        self.texels[(y % 32 * 32 + x % 32) as usize] = Some(texel);
+        texel
+    }
+
+    /// The same, which is worked out where it isn't known.
+    #[inline(always)]
+    fn texel(&mut self, texture: &Texture, tile: Tile, x: u32, y: u32) -> Texel
+        requires texels { AreOf texture.now tile self.old.texels }
+        requires level { tile.level ≤ 11 }
+        requires inside { IsTexel texture.now tile x y }
+        ensures value { colour_of result ≡ texel texture.now tile.level x y }
+        ensures tile { self.new.tile ≡ self.old.tile }
+        ensures texels { AreOf texture.now tile self.new.texels }
+    {
+        match self.known(x, y) {
+            Some(texel) => texel,
+            None => self.learn(texture, tile, x, y),
+        }
+    }
+
+    /// The mix of four texels of the slot's tile.
+    fn mixed(&mut self, texture: &Texture, a: Around) -> Texel
+        requires texels { AreOf texture.now (first_tile a) self.old.texels }
+        requires around { IsAround texture.now a }
+        requires one { IsInOneTile a }
+        ensures value { colour_of result ≡ mixed_at texture.now a }
+        ensures tile { self.new.tile ≡ self.old.tile }
+        ensures texels { AreOf texture.now (first_tile a) self.new.texels }
+    {
+        let tile = a.tile();
+        let left = self.texel(texture, tile, a.across.first, a.up.first);
+        let right = self.texel(texture, tile, a.across.second, a.up.first);
+        let below_left = self.texel(texture, tile, a.across.first, a.up.second);
+        let below_right = self.texel(texture, tile, a.across.second, a.up.second);
+        a.mixed(left, right, below_left, below_right)
     }
 }
 
@@ -98,50 +145,50 @@ fn slot_at(tile: Tile) -> usize
 }
 
 /// Sees to it that a tile is in its slot.
-fn bring(slots: &mut Vec<Slot>, place: usize, texture: &Texture, tile: Tile)
+fn bring(slots: &mut Vec<Slot>, place: usize, tile: Tile)
     requires there { place < length slots.old.items }
     requires own { place ≡ slot_of tile }
-    requires level { tile.level ≤ 11 }
-    requires column { tile.column ≤ 64 }
-    requires row { tile.row ≤ 64 }
-    requires kept { (get_or slots.old.items place empty).tile ≡ Some tile → IsFilled texture.now tile (get_or slots.old.items place empty).texels }
-    ensures size { length slots.new.items ≡ length slots.old.items }
-    ensures keys { keys_of slots.new.items ≡ put_key (keys_of slots.old.items) tile }
-    ensures tile { (get_or slots.new.items place empty).tile ≡ Some tile }
-    ensures filled { IsFilled texture.now tile (get_or slots.new.items place empty).texels }
-    ensures rest { (i : ℕ) → i ≢ place → get_or slots.new.items i empty ≡ get_or slots.old.items i empty }
+    ensures { (p : Image) → ((get_or slots.old.items place empty).tile ≡ Some tile → AreOf p tile (get_or slots.old.items place empty).texels) → IsBrought p tile place slots.old.items slots.new.items }
 {
     if slots[place].keeps(tile) {
         return;
     }
-    slots[place].fill(texture, tile);
+    slots[place].take_up(tile);
 }
 
-/// A texel of a slot, by its column and row in the level.
-fn texel_in(slots: &[Slot], place: usize, x: u32, y: u32) -> Vec3
-    requires { place < length slots.now }
-    ensures { result ≡ get_or (get_or slots.now place empty).texels (y % 32 * 32 + x % 32) origin }
+/// A texel of a tile, which is brought into its slot.
+fn texel_in(
+    slots: &mut Vec<Slot>,
+    place: usize,
+    texture: &Texture,
+    tile: Tile,
+    x: u32,
+    y: u32,
+) -> Texel
+    requires there { place < length slots.old.items }
+    requires own { place ≡ slot_of tile }
+    requires kept { (get_or slots.old.items place empty).tile ≡ Some tile → AreOf texture.now tile (get_or slots.old.items place empty).texels }
+    requires level { tile.level ≤ 11 }
+    requires inside { IsTexel texture.now tile x y }
+    ensures value { colour_of result ≡ texel texture.now tile.level x y }
+    ensures slots { IsBrought texture.now tile place slots.old.items slots.new.items }
 {
-    let slot = &slots[place];
-    slot.texels[(y % 32 * 32 + x % 32) as usize]
+    bring(slots, place, tile);
+    slots[place].texel(texture, tile, x, y)
 }
 
-/// The mix of four texels of the tile that a slot keeps.
-fn mix_in_tile(slots: &[Slot], place: usize, texture: &Texture, a: Around) -> Vec3
-    requires there { place < length slots.now }
-    requires filled { IsFilled texture.now (first_tile a) (get_or slots.now place empty).texels }
+/// The mix of four texels of a tile, which is brought into its slot.
+fn mix_in(slots: &mut Vec<Slot>, place: usize, texture: &Texture, a: Around) -> Texel
+    requires there { place < length slots.old.items }
+    requires own { place ≡ slot_of (first_tile a) }
+    requires kept { (get_or slots.old.items place empty).tile ≡ Some (first_tile a) → AreOf texture.now (first_tile a) (get_or slots.old.items place empty).texels }
     requires around { IsAround texture.now a }
     requires one { IsInOneTile a }
-    ensures { result ≡ mixed_at texture.now a }
+    ensures value { colour_of result ≡ mixed_at texture.now a }
+    ensures slots { IsBrought texture.now (first_tile a) place slots.old.items slots.new.items }
 {
-    texture.recall();
-    let left = texel_in(slots, place, a.across.first, a.up.first);
-    let right = texel_in(slots, place, a.across.second, a.up.first);
-    let below_left = texel_in(slots, place, a.across.first, a.up.second);
-    let below_right = texel_in(slots, place, a.across.second, a.up.second);
-    let first = mix_all(left, right, a.across.rest);
-    let second = mix_all(below_left, below_right, a.across.rest);
-    mix_all(first, second, a.up.rest)
+    bring(slots, place, a.tile());
+    slots[place].mixed(texture, a)
 }
 
 /// Look-ups of textures through a cache of at most 256 tiles. Contracts see it as its textures and the tiles of its slots.
@@ -149,6 +196,7 @@ fn mix_in_tile(slots: &[Slot], place: usize, texture: &Texture, a: Around) -> Ve
 pub struct Cache<'t> {
     textures: &'t [Texture],
     slots: Vec<Slot>,
+    last: usize,
 }
 
 impl<'t> Model for Cache<'t> {
@@ -156,11 +204,11 @@ impl<'t> Model for Cache<'t> {
 
     ghost view = { λ c. record { textures = c.textures.now; slots = keys_of c.slots.items } };
 
-    ghost invariant = { λ c. AreKept c.textures.now c.slots.items };
+    ghost invariant = { λ c. AreKept c.textures.now c.slots.items × (c.last < 256) };
 }
 
 impl<'t> Cache<'t> {
-    /// A cache of these textures that keeps no tile, or want of memory. It takes 6 MB, and no later call takes any.
+    /// A cache of these textures that keeps no tile, or want of memory. It takes 4 MB, and no later call takes any.
     #[tactic(auto, using(crate::proofs::Filled::bare_none, crate::proofs::Filled::bare_more, crate::proofs::Filled::bare_kept, crate::proofs::Filled::bare_empty))]
     pub fn new(alloc: Global, textures: &'t [Texture]) -> Result<Cache<'t>, NoMemory>
         ensures textures { IfOk result (λ c. c.textures ≡ textures.now) }
@@ -170,19 +218,34 @@ impl<'t> Cache<'t> {
         for _ in 0..256u32 {
             slots.push(Slot::empty(alloc)?)?;
         }
-        Ok(Cache { textures, slots })
+        Ok(Cache {
+            textures,
+            slots,
+            last: 0,
+        })
+    }
+
+    /// The place of a tile's slot: that of the last look-up where it keeps the tile, for which no hash is to be made.
+    fn place_of(&self, tile: Tile) -> usize
+        ensures value { result ≡ slot_of tile }
+        ensures bound { result < 256 }
+    {
+        let slot = &self.slots[self.last];
+        if slot.keeps(tile) {
+            return self.last;
+        }
+        slot_at(tile)
     }
 
     /// The texel of level `l` of texture `which` in column `x` and row `y`, through the cache.
-    fn texel(&mut self, which: u32, l: u32, x: u32, y: u32) -> Vec3
+    fn texel(&mut self, which: u32, l: u32, x: u32, y: u32) -> Texel
         requires there { which < length self.old.textures }
         requires level { l ≤ 11 }
         requires column { x < side_at (get_or self.old.textures which no_image).width (2 ^ l) }
         requires row { y < side_at (get_or self.old.textures which no_image).height (2 ^ l) }
         requires left { x ≤ 2048 }
         requires up { y ≤ 2048 }
-        ensures value { result ≡ texel (get_or self.old.textures which no_image) l x y }
-        ensures shares { AreShares result }
+        ensures value { colour_of result ≡ texel (get_or self.old.textures which no_image) l x y }
         ensures slots { self.new.slots ≡ put_key self.old.slots (tile_at which l x y) }
         ensures textures { self.new.textures ≡ self.old.textures }
     {
@@ -194,9 +257,7 @@ impl<'t> Cache<'t> {
         };
         let place = slot_at(tile);
         let texture = self.texture(which);
-        texture.recall();
-        bring(&mut self.slots, place, texture, tile);
-        texel_in(&self.slots, place, x, y)
+        texel_in(&mut self.slots, place, texture, tile, x, y)
     }
 
     /// The colour at `s` and `t` of level `l` of texture `which`: the four texels around the place, mixed. 0 and 1 are the edges of the
@@ -232,11 +293,10 @@ impl<'t> Cache<'t> {
         ensures slots { self.new.slots ≡ put_key self.old.slots (first_tile a) }
         ensures textures { self.new.textures ≡ self.old.textures }
     {
-        let tile = a.tile();
-        let place = slot_at(tile);
+        let place = self.place_of(a.tile());
         let texture = self.texture(a.which);
-        bring(&mut self.slots, place, texture, tile);
-        mix_in_tile(&self.slots, place, texture, a)
+        self.last = place;
+        mix_in(&mut self.slots, place, texture, a).colour()
     }
 
     // The mix of four texels, each through the cache.
@@ -251,9 +311,7 @@ impl<'t> Cache<'t> {
         let right = self.texel(a.which, a.level, a.across.second, a.up.first);
         let below_left = self.texel(a.which, a.level, a.across.first, a.up.second);
         let below_right = self.texel(a.which, a.level, a.across.second, a.up.second);
-        let first = mix_all(left, right, a.across.rest);
-        let second = mix_all(below_left, below_right, a.across.rest);
-        mix_all(first, second, a.up.rest)
+        a.mixed(left, right, below_left, below_right).colour()
     }
 
     /// The texture of a number.

@@ -5,6 +5,7 @@
 #![tactic(auto)]
 
 mod cache;
+mod channels;
 mod fault;
 mod header;
 mod laws;
@@ -15,6 +16,7 @@ mod reading;
 mod samples;
 mod steps;
 mod sums;
+mod texel;
 mod texture;
 
 pub use cache::Cache;

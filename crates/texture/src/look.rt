@@ -1,9 +1,11 @@
 // Where a look-up falls, and the mix of texels.
-ghost use Rattle.std.specs.Prelude.{◌≡◌, ◌≤◌, ◌<◌, ◌*◌, ◌/◌, ◌+ℤ◌, pos, unsigned_abs, IsTrue};
-ghost use Rattle.texture.specs.Around.{IsSpot, IsInOneTile, first_tile};
-ghost use Rattle.texture.specs.Looks.{blend, blend_all, place_of, rest_of, put_into, IsShare, AreShares};
+ghost use Rattle.std.specs.Prelude.{◌≡◌, ◌≤◌, ◌<◌, ◌^◌, ◌+ℤ◌, ◌-ℤ◌, ◌*ℤ◌, pos, unsigned_abs, IsTrue};
+ghost use Rattle.fixed_math.specs.Whole.{floor_by};
+ghost use Rattle.texture.specs.Around.{IsSpot, IsInOneTile, first_tile, mixed_of};
+ghost use Rattle.texture.specs.Looks.{blend, blend_all, colour_of, exact_of, place_of, rest_of, put_into};
 
-use fixed_math::{Num, Vec3};
+use crate::texel::Texel;
+use fixed_math::Num;
 
 /// Where a look-up falls between the columns or rows of a level: the two whose texels it mixes, and how far it lies beyond the middle of
 /// the first, in 65536ths of a texel.
@@ -54,6 +56,32 @@ impl Around {
     }
 }
 
+/// The whole texels in 65536ths of one, rounded down. A shift needs no test of the sign.
+fn place_at(exact: i64) -> i64
+    ensures { result ≡ floor_by exact 65536 }
+{
+    exact >> 16
+}
+
+/// How far it lies beyond that.
+fn beyond(exact: i64, place: i64) -> u32
+    requires place { place ≡ floor_by exact 65536 }
+    requires small { unsigned_abs exact ≤ 2 ^ 43 }
+    ensures value { pos result ≡ exact -ℤ pos 65536 *ℤ place }
+    ensures bound { result < 65536 }
+{
+    (exact - 65536 * place) as u32
+}
+
+/// How far `s` lies from the middle of the first of `side` columns, in 65536ths of one.
+fn exact_at(s: Num, side: u32) -> i64
+    requires { side ≤ 2048 }
+    ensures value { result ≡ exact_of s side }
+    ensures small { unsigned_abs result ≤ 2 ^ 43 }
+{
+    side as i64 * s.raw() - 32768
+}
+
 /// Where `s` falls among `side` columns.
 pub(crate) fn spot_of(s: Num, side: u32) -> Spot
     requires some { 0 < side }
@@ -63,12 +91,12 @@ pub(crate) fn spot_of(s: Num, side: u32) -> Spot
     ensures rest { pos result.rest ≡ rest_of s side }
     ensures inside { IsSpot side result }
 {
-    let exact = side as i64 * s.raw() - 32768;
-    let place = exact.div_euclid(65536);
+    let exact = exact_at(s, side);
+    let place = place_at(exact);
     Spot {
         first: put(place, side),
         second: put(place + 1, side),
-        rest: exact.rem_euclid(65536) as u32,
+        rest: beyond(exact, place),
     }
 }
 
@@ -88,38 +116,44 @@ fn put(place: i64, side: u32) -> u32
     place as u32
 }
 
-/// A number from 0 to 65536 times `t` over 65536, rounded down.
-fn part(a: Num, t: u32) -> u64
-    requires whole { IsShare a }
-    requires way { t ≤ 65536 }
-    ensures { result ≡ unsigned_abs a * t / 65536 }
+/// From `a` to `b`, `t` of the way: what `a` loses is rounded up, so that what it keeps is rounded down, and nothing passes 32 bits.
+fn mix(a: u32, b: u32, t: u32) -> u32
+    requires from { a ≤ 65536 }
+    requires to { b ≤ 65536 }
+    requires way { t < 65536 }
+    ensures value { pos result ≡ blend (pos a) (pos b) (pos t) }
+    ensures most { result ≤ 65536 }
 {
-    a.raw() as u64 * t as u64 / 65536
-}
-
-/// From `a` to `b`, `t` of the way.
-#[tactic(auto, using(crate::proofs::Shares::blend_is, crate::proofs::Shares::blend_most))]
-fn mix(a: Num, b: Num, t: u32) -> Num
-    requires from { IsShare a }
-    requires to { IsShare b }
-    requires way { t ≤ 65536 }
-    ensures value { result ≡ blend a b (pos t) }
-    ensures share { IsShare result }
-{
-    Num::from_raw((part(a, 65536 - t) + part(b, t)) as i64)
+    a - (a * t + 65535) / 65536 + b * t / 65536
 }
 
 /// The same for each channel.
-pub(crate) fn mix_all(a: Vec3, b: Vec3, t: u32) -> Vec3
-    requires from { AreShares a }
-    requires to { AreShares b }
-    requires way { t ≤ 65536 }
-    ensures value { result ≡ blend_all a b (pos t) }
-    ensures shares { AreShares result }
+fn mix_all(a: Texel, b: Texel, t: u32) -> Texel
+    requires { t < 65536 }
+    ensures { colour_of result ≡ blend_all (colour_of a) (colour_of b) (pos t) }
 {
-    Vec3 {
-        x: mix(a.x, b.x, t),
-        y: mix(a.y, b.y, t),
-        z: mix(a.z, b.z, t),
+    Texel {
+        red: mix(a.red, b.red, t),
+        green: mix(a.green, b.green, t),
+        blue: mix(a.blue, b.blue, t),
+    }
+}
+
+impl Around {
+    /// The mix of the four, by rows.
+    pub(crate) fn mixed(
+        &self,
+        left: Texel,
+        right: Texel,
+        below_left: Texel,
+        below_right: Texel,
+    ) -> Texel
+        requires across { self.now.across.rest < 65536 }
+        requires up { self.now.up.rest < 65536 }
+        ensures { colour_of result ≡ mixed_of self.now (colour_of left) (colour_of right) (colour_of below_left) (colour_of below_right) }
+    {
+        let first = mix_all(left, right, self.across.rest);
+        let second = mix_all(below_left, below_right, self.across.rest);
+        mix_all(first, second, self.up.rest)
     }
 }

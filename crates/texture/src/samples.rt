@@ -110,6 +110,7 @@ impl Samples {
     }
 
     /// The sample of channel `c` in column `x` and row `y`, and 0 outside.
+    #[inline(always)]
     #[tactic(auto, unfolding(crate::specs::Pyramid::sample))]
     pub(crate) fn sample(&self, c: usize, x: u32, y: u32) -> u64
         requires { c < 3 }

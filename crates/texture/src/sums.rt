@@ -1,8 +1,10 @@
 // Sums of samples over squares.
 ghost use Rattle.std.specs.Prelude.{◌≡◌, ◌≤◌, ◌<◌, ◌*◌, ◌+◌, IfOk};
+ghost use Rattle.texture.specs.Channels.{AreOf, AreAtMost};
 ghost use Rattle.texture.specs.Tables.{Table, AreSums};
 ghost use Rattle.texture.specs.Pyramid.{square_sum, side_at};
 
+use crate::channels::Channels;
 use crate::samples::{Samples, direct_sum};
 use fixed_math::NoMemory;
 use std::alloc::Global;
@@ -26,7 +28,7 @@ impl Model for Sums {
 
 impl Sums {
     /// The sum of channel `c` over the square in column `x` and row `y`, 0 outside.
-    pub(crate) fn at(&self, image: &Samples, m: u32, c: usize, x: u32, y: u32) -> u64
+    fn at(&self, image: &Samples, m: u32, c: usize, x: u32, y: u32) -> u64
         requires sums { AreSums image.now m self.now }
         requires some { 0 < m }
         requires side { m ≤ 2048 }
@@ -43,6 +45,23 @@ impl Sums {
         }
         let place = y as usize * self.width as usize + x as usize;
         self.cells[place * 3 + c]
+    }
+}
+
+impl Sums {
+    /// The sums of all channels over the square in column `x` and row `y`, 0 outside.
+    pub(crate) fn all_at(&self, image: &Samples, m: u32, x: u32, y: u32) -> Channels
+        requires sums { AreSums image.now m self.now }
+        requires some { 0 < m }
+        requires side { m ≤ 2048 }
+        ensures each { AreOf (λ c. square_sum image.now c m x y) result }
+        ensures most { AreAtMost (65535 * 4194304) result }
+    {
+        Channels {
+            red: self.at(image, m, 0, x, y),
+            green: self.at(image, m, 1, x, y),
+            blue: self.at(image, m, 2, x, y),
+        }
     }
 }
 

@@ -1,13 +1,17 @@
 // Textures, and their texels.
-ghost use Rattle.std.specs.Prelude.{◌≡◌, ◌≤◌, ◌<◌, ◌*◌, ◌/◌, ◌^◌, IfOk, pos};
+ghost use Rattle.std.specs.Prelude.{◌≡◌, ◌≤◌, ◌<◌, ◌*◌, ◌/◌, ◌^◌, IfOk};
+ghost use Rattle.texture.specs.Looks.{colour_of};
 ghost use Rattle.texture.specs.Images.{Image, IsImage, image_bytes, most_side};
+ghost use Rattle.texture.specs.Channels.{AreOf, AreAtMost};
 ghost use Rattle.texture.specs.Tables.{AreFirst};
-ghost use Rattle.texture.specs.Pyramid.{square_sum, inside as inside_of, side_at, texel_part, texel};
+ghost use Rattle.texture.specs.Pyramid.{square_sum, inside as inside_of, side_at, texel};
 
+use crate::channels::{Channels, square_sums};
 use crate::places::inside;
-use crate::samples::{Samples, direct_sum};
+use crate::samples::Samples;
 use crate::sums::{Sums, doubled, first, squares};
-use fixed_math::{NoMemory, Num, Vec3};
+use crate::texel::Texel;
+use fixed_math::NoMemory;
 use std::alloc::Global;
 use std::marker::Model;
 
@@ -67,21 +71,19 @@ impl Texture {
         self.image.byte_count()
     }
 
-    /// The sum of channel `c` over the square of level `l` in column `x` and row `y`.
-    fn sum(&self, l: u32, c: usize, x: u32, y: u32) -> u64
+    /// The sums over the square of level `l` in column `x` and row `y`.
+    fn sums(&self, l: u32, x: u32, y: u32) -> Channels
         requires level { l ≤ 11 }
-        requires channel { c < 3 }
         requires column { x ≤ 2048 }
         requires row { y ≤ 2048 }
-        ensures value { result ≡ square_sum self.now c (2 ^ l) x y }
-        ensures bound { result ≤ 65535 * 4194304 }
+        ensures each { AreOf (λ c. square_sum self.now c (2 ^ l) x y) result }
+        ensures most { AreAtMost (65535 * 4194304) result }
     {
-        self.image.recall();
         let m = side_of(l);
         if l < 3 {
-            return direct_sum(&self.image, c, m, x, y);
+            return square_sums(&self.image, m, x, y);
         }
-        self.tables[l as usize - 3].at(&self.image, m, c, x, y)
+        self.tables[l as usize - 3].all_at(&self.image, m, x, y)
     }
 
     /// The number of the image's samples of a channel in a square, times the greatest value.
@@ -100,35 +102,22 @@ impl Texture {
         self.image.most() as u64 * (across as u64 * up as u64)
     }
 
-    /// A channel of the texel of level `l` in column `x` and row `y`, whose square has `whole` samples, times the greatest value.
-    fn part(&self, l: u32, x: u32, y: u32, c: usize, whole: u64) -> Num
-        requires level { l ≤ 11 }
-        requires channel { c < 3 }
-        requires column { x ≤ 2048 }
-        requires row { y ≤ 2048 }
-        requires whole { whole ≡ self.now.most * (inside_of self.now.width (2 ^ l) x * inside_of self.now.height (2 ^ l) y) }
-        requires some { 0 < whole }
-        ensures { result ≡ pos (texel_part self.now (2 ^ l) x y c) }
-    {
-        self.image.recall();
-        mean(self.sum(l, c, x, y), whole)
-    }
-
     /// The texel of level `l` in column `x` and row `y`.
-    pub(crate) fn texel(&self, l: u32, x: u32, y: u32) -> Vec3
+    pub(crate) fn texel(&self, l: u32, x: u32, y: u32) -> Texel
         requires level { l ≤ 11 }
         requires column { x < side_at self.now.width (2 ^ l) }
         requires row { y < side_at self.now.height (2 ^ l) }
         requires left { x ≤ 2048 }
         requires up { y ≤ 2048 }
-        ensures { result ≡ texel self.now l x y }
+        ensures { colour_of result ≡ texel self.now l x y }
     {
+        self.image.recall();
         let whole = self.whole(side_of(l), x, y);
-        Vec3 {
-            x: self.part(l, x, y, 0, whole),
-            y: self.part(l, x, y, 1, whole),
-            z: self.part(l, x, y, 2, whole),
-        }
+        let sums = self.sums(l, x, y);
+        let red = mean(sums.red, whole);
+        let green = mean(sums.green, whole);
+        let blue = mean(sums.blue, whole);
+        Texel { red, green, blue }
     }
 
     /// The greater side.
@@ -186,11 +175,12 @@ pub(crate) fn side_of(l: u32) -> u32
 
 /// `sum` as a part of `whole`, over 65536 and rounded down.
 #[tactic(auto, using(crate::proofs::Sides::mean_most))]
-fn mean(sum: u64, whole: u64) -> Num
+fn mean(sum: u64, whole: u64) -> u32
     requires some { 0 < whole }
     requires part { sum ≤ whole }
     requires small { sum ≤ 2 ^ 40 }
-    ensures { result ≡ pos (65536 * sum / whole) }
+    ensures value { result ≡ 65536 * sum / whole }
+    ensures most { result ≤ 65536 }
 {
-    Num::from_raw((65536 * sum / whole) as i64)
+    (65536 * sum / whole) as u32
 }

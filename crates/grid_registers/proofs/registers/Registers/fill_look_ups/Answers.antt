@@ -1,32 +1,29 @@
-use Rattle.std.proofs.Common.{◌∙◌, ap, arith}
+use Rattle.std.proofs.Common.{sym, ap, ◌∙◌, Some}
+use Rattle.fixed_math.specs.Axes.{origin}
+use Rattle.sl_ast.specs.declared.typed.Value.TheVariants.{Triple}
 use Rattle.builtins.specs.Textures.{looked_up, image_named}
-use Rattle.builtins.specs.declared.shape.Shape.TheVariants as shapes
-use Rattle.place_values.specs.declared.cell.Cell.TheVariants as cells
 use Rattle.grid_registers.specs.Held.{texts_of}
-use Rattle.grid_registers.specs.Frames.{lines_of, images_of}
+use Rattle.grid_registers.specs.Frames.{lines_of, look_up_of}
 use Rattle.grid_registers.specs.Operands.{operand_number}
-use Rattle.grid_registers.proofs.Filled.{filled_next}
+use Rattle.grid_registers.proofs.LookUps.{looked_nowhere, holds_same}
 use Rattle.grid_registers.proofs.registers.Registers.fill_look_ups.Goals as goal
 
-pub set-requires : goal.set-requires
-set-requires t c =
-    let same = c.loop-place.invariant.0 shapes.Triple in
-    let room = c.requires.room shapes.Triple in
-    omega (arith, same, room, c.loop-place-test.true)
-
-pub loop-place-preserved : goal.loop-place-preserved
-loop-place-preserved t c =
+pub returns-in-Some-clause-each : goal.returns-in-Some-clause-each
+returns-in-Some-clause-each g c =
     let r = c.args.self.now in
-    let ps = t.T.Textures.images c.args.textures.now in
+    let lines = lines_of r.frame.now in
+    let ps = g.T.Textures.images c.args.textures.now in
     let s = operand_number r c.args.of.s in
-    let q = operand_number r c.args.of.t in
-    let f = looked_up (lines_of r.frame.now) (images_of r.frame.now ps c.args.node) s q in
-    let is = c.look_up-colour.ensures.value
-    ∙ ap (λ x. looked_up (lines_of r.frame.now) (image_named x c.entry-entry.result) s q c.loop-place.place) c.loop-place.invariant.1.1
-    ∙ ap (λ e. looked_up (lines_of r.frame.now) (image_named ps e) s q c.loop-place.place) c.entry-entry.ensures in (
-      λ k. c.set.ensures.size k ∙ c.loop-place.invariant.0 k,
-      (
-        filled_next (texts_of r) c.loop-place.row c.set.new.self f c.loop-place.place (cells.Triple c.look_up-colour.result) c.loop-place.invariant.1.0 is c.set.ensures.value,
-        c.look_up-colour.ensures.same ∙ c.loop-place.invariant.1.1,
-      ),
-    )
+    let t = operand_number r c.args.of.t in
+    holds_same (texts_of r) c.fill_named.new.row c.args.count (looked_up lines (image_named ps (Some c.in-Some.which)) s t) (look_up_of r.frame.now ps c.args.node s t)
+    (λ i. ap (λ e. looked_up lines (image_named ps e) s t i) (sym c.in-Some.is ∙ c.entry.ensures)) c.fill_named.ensures.each
+
+pub returns-in-None-clause-each : goal.returns-in-None-clause-each
+returns-in-None-clause-each g c =
+    let r = c.args.self.now in
+    let lines = lines_of r.frame.now in
+    let ps = g.T.Textures.images c.args.textures.now in
+    let s = operand_number r c.args.of.s in
+    let t = operand_number r c.args.of.t in
+    holds_same (texts_of r) c.blacken.new.row c.args.count (λ i. Triple origin) (look_up_of r.frame.now ps c.args.node s t)
+    (λ i. looked_nowhere lines ps s t i ∙ ap (λ e. looked_up lines (image_named ps e) s t i) (sym c.in-None.is ∙ c.entry.ensures)) (c.blacken.ensures.each (texts_of r))

@@ -1,25 +1,37 @@
-use Rattle.std.proofs.Common.{◌∙◌, ap, refl, sym, subst, ◌<◌, ◌^◌, ◌%◌, ◌*◌, ◌+◌, List, get_or}
-use Rattle.fixed_math.specs.Axes.{origin}
-use Rattle.texture.specs.declared.cache.Slot.{Slot}
+use Rattle.std.proofs.Common.{◌∙◌, ap, refl, sym, subst, ◌<◌, ◌^◌, get_or}
 use Rattle.texture.specs.Images.{Image}
 use Rattle.texture.specs.Pyramid.{side_at}
-use Rattle.texture.specs.Slots.{Kept, IsFilled, no_image, empty, tile_at}
+use Rattle.texture.specs.Slots.{Kept, AreOf, IsBrought, put, no_image, empty, tile_at}
 use Rattle.texture.proofs.Filled.{kept_after}
-use Rattle.texture.proofs.Shares.{kept_shares}
 use Rattle.texture.proofs.cache.Cache.texel.Goals as goal
+
+pub texel_in-requires-clause-kept : goal.texel_in-requires-clause-kept
+texel_in-requires-clause-kept c t =
+    let image = c.texture-texture.ensures ∙ ap (λ (k : Kept). get_or k.textures c.args.which no_image) (sym c.self.view_is) in
+    let place = c.slot_at-place.result in
+    let k = tile_at c.args.which c.args.l c.args.x c.args.y in
+    subst (λ p. AreOf p k (get_or c.self.inside.slots.items place empty).texels) (sym image) ((c.self.invariant.0.each place).texels k t)
+
+pub texel_in-requires-clause-inside : goal.texel_in-requires-clause-inside
+texel_in-requires-clause-inside c = record {
+  column = subst (λ (p : Image). c.args.x < side_at p.width (2 ^ c.args.l)) (sym c.texture-texture.ensures) c.requires.column;
+  row = subst (λ (p : Image). c.args.y < side_at p.height (2 ^ c.args.l)) (sym c.texture-texture.ensures) c.requires.row;
+  column_most = c.requires.left;
+  row_most = c.requires.up;
+  across = refl;
+  up = refl;
+}
 
 pub invariant_of-self : goal.invariant_of-self
 invariant_of-self c =
-    let k = tile_at c.args.which c.args.l c.args.x c.args.y in
-    let texels = (get_or c.bring.new.slots.items c.slot_at-place.result empty).texels in
     let image = c.texture-texture.ensures ∙ ap (λ (k : Kept). get_or k.textures c.args.which no_image) (sym c.self.view_is) in
-    kept_after c.self.inside.textures.now c.self.inside.slots.items c.bring.new.slots.items c.slot_at-place.result k c.self.invariant c.bring.ensures.size c.bring.ensures.tile
-    (subst (λ p. IsFilled p k texels) image c.bring.ensures.filled) c.bring.ensures.rest
+    let k = tile_at c.args.which c.args.l c.args.x c.args.y in
+    let old = c.self.inside.slots.items in
+    let new = c.texel_in.new.slots.items in
+    let place = c.slot_at-place.result in (
+      kept_after c.self.inside.textures.now old new place k c.self.invariant.0 c.slot_at-place.ensures.value (subst (λ p. IsBrought p k place old new) image c.texel_in.ensures.slots),
+      c.self.invariant.1,
+    )
 
-pub returns-clause-shares : goal.returns-clause-shares
-returns-clause-shares c =
-    let texels = (get_or c.bring.new.slots.items c.slot_at-place.result empty).texels in
-    kept_shares c.texture-texture.result.now c.args.which c.args.l c.args.x c.args.y c.args.x c.args.y texels c.texel_in.result c.recall.ensures c.bring.ensures.filled refl refl
-    (subst (λ (p : Image). c.args.x < side_at p.width (2 ^ c.args.l)) (sym c.texture-texture.ensures) c.requires.column)
-    (subst (λ (p : Image). c.args.y < side_at p.height (2 ^ c.args.l)) (sym c.texture-texture.ensures) c.requires.row)
-    (c.texel_in.ensures ∙ ap (λ (hs : List Slot). get_or (get_or hs c.slot_at-place.result empty).texels (c.args.y % 32 * 32 + c.args.x % 32) origin) c.deref.ensures.value)
+pub returns-clause-slots : goal.returns-clause-slots
+returns-clause-slots c = c.texel_in.ensures.slots.keys ∙ ap (λ (k : Kept). put k.slots (tile_at c.args.which c.args.l c.args.x c.args.y)) c.self.view_is

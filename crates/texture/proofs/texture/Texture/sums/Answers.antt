@@ -1,7 +1,7 @@
 use Rattle.std.proofs.Common.{◌≡◌, ◌∙◌, ap, sym, subst, ◌+◌, ◌-◌, ◌^◌, ◌<◌, get_or, length, arith}
 use Rattle.texture.specs.Tables.{AreSums, no_table}
 use Rattle.texture.proofs.Tables.{same_default}
-use Rattle.texture.proofs.texture.Texture.sum.Goals as goal
+use Rattle.texture.proofs.texture.Texture.sums.Goals as goal
 
 pub index-requires : goal.index-requires
 index-requires c =
@@ -10,8 +10,8 @@ index-requires c =
     let whole = c.self.inside.tables.ok.0 in
     omega (arith, size, far, whole)
 
-pub at-requires-clause-sums : goal.at-requires-clause-sums
-at-requires-clause-sums c =
+pub all_at-requires-clause-sums : goal.all_at-requires-clause-sums
+all_at-requires-clause-sums c =
     let ts = c.self.inside.tables.items in
     let size = c.self.invariant.size in
     let far = c.if-l-lt3.false in
