@@ -1,12 +1,9 @@
 pub mod Products
 pub mod Choices
-pub mod Places
 pub mod Signs
 pub mod Quotients
 pub mod Roots
-pub mod Bits
 pub mod Numbers
-pub mod Fours
 pub mod Sides
 pub mod Inverses
-pub mod Words
+pub mod NearUnits

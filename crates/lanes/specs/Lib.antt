@@ -3,5 +3,4 @@ pub mod Kernels
 pub mod Rows
 pub mod Signs
 pub mod Directions
-pub mod Powers
 pub mod Edges

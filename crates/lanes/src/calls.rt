@@ -7,9 +7,19 @@ ghost use Rattle.lanes.specs.Kernels.{least, greatest};
 ghost use Rattle.lanes.specs.Masks.{less, less_equal, equal, both, either, turned, choose, is_set};
 
 use crate::kernels::{
-    Add, And, Choose, Equal, Greatest, Least, Less, LessEqual, Multiply, Not, Or, Subtract,
+    Add, And, Equal, Greatest, Least, Less, LessEqual, Multiply, Or, Subtract, Two,
 };
-use crate::rows::{one_row, three_rows, two_rows};
+use crate::mask;
+
+fn two_rows<K: Two>(a: &[i32], b: &[i32], out: &mut [i32])
+    requires same { (length b.now ≡ length a.now) × (length out.old ≡ length a.now) }
+    ensures long { length out.new ≡ length out.old }
+    ensures each { (i : ℕ) → i < length a.now → at out.new i ≡ K.formula (at a.now i) (at b.now i) }
+{
+    for i in 0..a.len() {
+        out[i] = K::apply(a[i], b[i]);
+    }
+}
 
 /// The sums, saturated.
 pub fn add(a: &[i32], b: &[i32], out: &mut [i32])
@@ -107,7 +117,9 @@ pub fn not(a: &[i32], out: &mut [i32])
     ensures long { length out.new ≡ length out.old }
     ensures each { (i : ℕ) → i < length a.now → at out.new i ≡ turned (at a.now i) }
 {
-    one_row::<Not>(a, out);
+    for i in 0..a.len() {
+        out[i] = mask::not(a[i]);
+    }
 }
 
 /// The numbers of `a` where the mask is set, else those of `b`.
@@ -116,7 +128,9 @@ pub fn select(mask: &[i32], a: &[i32], b: &[i32], out: &mut [i32])
     ensures long { length out.new ≡ length out.old }
     ensures each { (i : ℕ) → i < length mask.now → at out.new i ≡ choose (at mask.now i) (at a.now i) (at b.now i) }
 {
-    three_rows::<Choose>(mask, a, b, out);
+    for i in 0..mask.len() {
+        out[i] = mask::chosen(mask[i], a[i], b[i]);
+    }
 }
 
 /// Whether the mask is set at some place.

@@ -1,91 +1,22 @@
-// Kernels as types, so that one generic function goes over rows for each.
+// Operations on two numbers as types, so that one generic loop goes over rows for each.
 ghost use Rattle.std.specs.Prelude.{◌≡◌, ℤ};
-ghost use Rattle.fixed_math.specs.Fixed.{IsRaw, add, sub, mul};
-ghost use Rattle.lanes.specs.Kernels.{negated, magnitude, least, greatest, floor};
-ghost use Rattle.lanes.specs.Masks.{less, less_equal, equal, both, either, turned, choose};
+ghost use Rattle.fixed_math.specs.Fixed.{add, sub, mul};
+ghost use Rattle.lanes.specs.Kernels.{least, greatest};
+ghost use Rattle.lanes.specs.Masks.{less, less_equal, equal, both, either};
 
 use crate::{mask, raw};
 
-/// An operation on one number.
-pub trait One {
-    ghost formula: { ℤ → ℤ };
-
-    /// The operation's answer.
-    fn apply(a: i32) -> i32
-        ensures value { result ≡ formula a }
-        ensures raw { IsRaw a → IsRaw result };
-}
-
 /// An operation on two numbers.
-pub trait Two {
+pub(crate) trait Two {
     ghost formula: { ℤ → ℤ → ℤ };
 
     /// The operation's answer.
     fn apply(a: i32, b: i32) -> i32
-        ensures value { result ≡ formula a b }
-        ensures raw { IsRaw a → IsRaw b → IsRaw result };
-}
-
-/// An operation on three numbers.
-pub trait Three {
-    ghost formula: { ℤ → ℤ → ℤ → ℤ };
-
-    /// The operation's answer.
-    fn apply(a: i32, b: i32, c: i32) -> i32
-        ensures value { result ≡ formula a b c }
-        ensures raw { IsRaw a → IsRaw b → IsRaw c → IsRaw result };
-}
-
-/// The number with the other sign.
-pub struct Negate;
-
-impl One for Negate {
-    ghost formula = { negated };
-
-    #[inline(always)]
-    fn apply(a: i32) -> i32 {
-        raw::neg(a)
-    }
-}
-
-/// The number without its sign.
-pub struct Magnitude;
-
-impl One for Magnitude {
-    ghost formula = { magnitude };
-
-    #[inline(always)]
-    fn apply(a: i32) -> i32 {
-        raw::abs(a)
-    }
-}
-
-/// The greatest whole number not above.
-pub struct Floor;
-
-impl One for Floor {
-    ghost formula = { floor };
-
-    #[inline(always)]
-    fn apply(a: i32) -> i32 {
-        raw::floor(a)
-    }
-}
-
-/// The mask that is set where the other isn't.
-pub struct Not;
-
-impl One for Not {
-    ghost formula = { turned };
-
-    #[inline(always)]
-    fn apply(a: i32) -> i32 {
-        mask::not(a)
-    }
+        ensures { result ≡ formula a b };
 }
 
 /// The sum.
-pub struct Add;
+pub(crate) struct Add;
 
 impl Two for Add {
     ghost formula = { add };
@@ -97,7 +28,7 @@ impl Two for Add {
 }
 
 /// The difference.
-pub struct Subtract;
+pub(crate) struct Subtract;
 
 impl Two for Subtract {
     ghost formula = { sub };
@@ -109,7 +40,7 @@ impl Two for Subtract {
 }
 
 /// The product.
-pub struct Multiply;
+pub(crate) struct Multiply;
 
 impl Two for Multiply {
     ghost formula = { mul };
@@ -121,7 +52,7 @@ impl Two for Multiply {
 }
 
 /// The lesser of two.
-pub struct Least;
+pub(crate) struct Least;
 
 impl Two for Least {
     ghost formula = { least };
@@ -133,7 +64,7 @@ impl Two for Least {
 }
 
 /// The greater of two.
-pub struct Greatest;
+pub(crate) struct Greatest;
 
 impl Two for Greatest {
     ghost formula = { greatest };
@@ -145,7 +76,7 @@ impl Two for Greatest {
 }
 
 /// The mask of `a < b`.
-pub struct Less;
+pub(crate) struct Less;
 
 impl Two for Less {
     ghost formula = { less };
@@ -157,7 +88,7 @@ impl Two for Less {
 }
 
 /// The mask of `a <= b`.
-pub struct LessEqual;
+pub(crate) struct LessEqual;
 
 impl Two for LessEqual {
     ghost formula = { less_equal };
@@ -169,7 +100,7 @@ impl Two for LessEqual {
 }
 
 /// The mask of `a == b`.
-pub struct Equal;
+pub(crate) struct Equal;
 
 impl Two for Equal {
     ghost formula = { equal };
@@ -181,7 +112,7 @@ impl Two for Equal {
 }
 
 /// The mask that is set where both are.
-pub struct And;
+pub(crate) struct And;
 
 impl Two for And {
     ghost formula = { both };
@@ -193,7 +124,7 @@ impl Two for And {
 }
 
 /// The mask that is set where one is.
-pub struct Or;
+pub(crate) struct Or;
 
 impl Two for Or {
     ghost formula = { either };
@@ -201,17 +132,5 @@ impl Two for Or {
     #[inline(always)]
     fn apply(a: i32, b: i32) -> i32 {
         mask::or(a, b)
-    }
-}
-
-/// The first of two numbers where the mask is set, else the second.
-pub struct Choose;
-
-impl Three for Choose {
-    ghost formula = { choose };
-
-    #[inline(always)]
-    fn apply(a: i32, b: i32, c: i32) -> i32 {
-        mask::chosen(a, b, c)
     }
 }

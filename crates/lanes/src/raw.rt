@@ -1,10 +1,10 @@
 // Operations on single numbers.
-ghost use Rattle.std.specs.Prelude.{◌≡◌, ◌≤◌, ℤ, pos, neg_ℤ, ◌≤ℤ◌, ◌<ℤ◌, ◌+ℤ◌, ◌*ℤ◌, unsigned_abs, cond, int_lt};
+ghost use Rattle.std.specs.Prelude.{◌≡◌, ◌≤◌, ℤ, pos, neg_ℤ, ◌≤ℤ◌, ◌<ℤ◌, ◌*ℤ◌, unsigned_abs, cond, int_lt};
 ghost use Rattle.fixed_math.specs.Fixed.{sat, IsRaw, add, sub, mul};
 ghost use Rattle.fixed_math.specs.Whole.{floor_by};
-ghost use Rattle.lanes.specs.Kernels.{negated, magnitude, least, greatest, floor};
+ghost use Rattle.lanes.specs.Kernels.{least, greatest};
 
-pub use crate::power::{Four, exp2, log2, pow, pow_of_four};
+pub use crate::power::{exp2, log2, pow};
 pub use crate::quotient::div;
 pub use crate::root::sqrt;
 pub use crate::sine::{cos, sin};
@@ -38,24 +38,6 @@ pub fn sub(a: i32, b: i32) -> i32
     a.saturating_sub(b).max(-LIMIT)
 }
 
-/// The number with the other sign.
-#[inline(always)]
-pub fn neg(a: i32) -> i32
-    ensures value { result ≡ negated a }
-    ensures raw { IsRaw result }
-{
-    0 - a.max(-LIMIT)
-}
-
-/// The number without its sign.
-#[inline(always)]
-pub fn abs(a: i32) -> i32
-    ensures value { result ≡ magnitude a }
-    ensures raw { IsRaw result }
-{
-    a.max(neg(a))
-}
-
 /// The lesser of two.
 #[inline(always)]
 pub fn min(a: i32, b: i32) -> i32
@@ -72,15 +54,6 @@ pub fn max(a: i32, b: i32) -> i32
     ensures raw { IsRaw a → IsRaw b → IsRaw result }
 {
     if a < b { b } else { a }
-}
-
-/// The greatest number that stands for a whole one and isn't above `a`.
-#[inline(always)]
-pub fn floor(a: i32) -> i32
-    ensures value { result ≡ floor a }
-    ensures raw { IsRaw result }
-{
-    (a & -65536).max(-LIMIT)
 }
 
 // A product's bits from the 32nd on.
@@ -126,35 +99,13 @@ fn cut(p: i64) -> i32
     below(high, above(high, middle_of(p))).max(-LIMIT)
 }
 
-// The word of a number, which is 2^32 more than it where it is negative.
 #[inline(always)]
-fn word_of(a: i32) -> i64
-    ensures above { pos 0 ≤ℤ a → result ≡ a }
-    ensures below { a <ℤ pos 0 → result ≡ a +ℤ pos 4294967296 }
-    ensures small { unsigned_abs result ≤ 4294967296 }
-{
-    a.cast_unsigned() as i64
-}
-
-// `x` where `a` is negative, else 0.
-#[inline(always)]
-fn where_negative(a: i32, x: i64) -> i64
-    ensures above { pos 0 ≤ℤ a → result ≡ pos 0 }
-    ensures below { a <ℤ pos 0 → result ≡ x }
-    ensures small { unsigned_abs result ≤ unsigned_abs x }
-{
-    if a < 0 { x } else { 0 }
-}
-
-// The product, by that of words, since lanes of the processor multiply no others.
-#[inline(always)]
+#[tactic(auto, using(crate::proofs::Products::product_small))]
 fn product(a: i32, b: i32) -> i64
     ensures value { result ≡ a *ℤ b }
     ensures small { unsigned_abs result ≤ 4611686018427387904 }
 {
-    let (x, y) = (word_of(a), word_of(b));
-    let (m, n) = (where_negative(a, y), where_negative(b, a as i64));
-    (x as i128 * y as i128 - (m + n) as i128 * 4294967296) as i64
+    a as i64 * b as i64
 }
 
 /// The product, rounded down and saturated.

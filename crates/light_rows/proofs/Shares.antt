@@ -37,6 +37,11 @@ truth_back : (b : Bool) → is_nonzero (truth b) ≡ b
 truth_back true = refl
 truth_back false = refl
 
+-- no share, where none is shown
+pub none_shown : (s : ℤ) (t c : Vec3) (w : ℤ) → s ≡ pos 0 → t ≡ with_shares s t c w
+unfolding with_share
+none_shown s t c w e = rw e refl
+
 -- a share that is looked at where it is shown
 shown_once : (b : Bool) (t c : Vec3) (w : ℤ) → cond b (each_two add t (scaled_by (cond b w (pos 0)) c)) t ≡ cond b (each_two add t (scaled_by w c)) t
 shown_once true t c w = refl

@@ -1,15 +1,11 @@
 -- For private contracts alone: what the loops of sums over lights compute at a place.
-use Rattle.std.specs.Prelude.{ℕ, ℤ, pos, Bool, int_le, cond, ◌&&◌, List, get_or}
+use Rattle.std.specs.Prelude.{ℤ, pos, Bool, int_le, cond, ◌&&◌}
 use Rattle.fixed_math.specs.Fixed.{add, mul}
 use Rattle.fixed_math.specs.Power.{pow}
 use Rattle.fixed_math.specs.declared.vec3.Vec3.{Vec3}
 use Rattle.builtins.specs.Numbers.{max}
 use Rattle.builtins.specs.Triples.{each_two, dot, normalize}
 use Rattle.builtins.specs.Values.{is_nonzero}
-use Rattle.number_rows.specs.declared.plane.Planes.{Planes}
-use Rattle.number_rows.specs.Planes.{triple_at}
-use Rattle.light_rows.specs.declared.triples.Triples.{Triples}
-use Rattle.light_rows.specs.Seen.{at_place}
 
 -- the vector of length 1 half way between two
 abbrev pub half_way : Vec3 → Vec3 → Vec3
@@ -23,14 +19,13 @@ weight a b = max (pos 0) (dot a b)
 unfoldable pub is_before : ℤ → Vec3 → Vec3 → Bool
 is_before lit u n = is_nonzero lit && int_le (pos 0) (dot u n)
 
+-- a weight raised to a power where it is shown
+abbrev pub raised : ℤ → ℤ → ℤ → ℤ
+raised shown weight exponent = cond (is_nonzero shown) (pow weight exponent) (pos 0)
+
 -- the weight of a highlight where it is shown, by the units of the normal and of the direction to the light, seen from v
 unfoldable pub shown_highlight : ℤ → Vec3 → Vec3 → Vec3 → ℤ → ℤ
-shown_highlight shown normal unit v exponent = cond (is_nonzero shown) (pow (weight normal (half_way unit v)) exponent) (pos 0)
-
--- the same at place i of rows of them
-abbrev pub highlight_at : List ℤ → Triples → Triples → Planes → List ℤ → ℕ → ℤ
-highlight_at shown normals units v exponents i =
-    shown_highlight (get_or shown i (pos 0)) (at_place normals i) (at_place units i) (triple_at v i) (get_or exponents i (pos 0))
+shown_highlight shown normal unit v exponent = raised shown (weight normal (half_way unit v)) exponent
 
 -- a number with a share of another one, where that is shown
 unfoldable pub with_share : ℤ → ℤ → ℤ → ℤ → ℤ

@@ -151,6 +151,8 @@ pub record HasRows (c : ℕ) (w : Workroom) : Type 0 where
   pub exponents : length w.exponents.items ≡ c
   pub weights : length w.weights.items ≡ c
   pub shown : length w.shown.items ≡ c
+  pub sums : size w.sums ≡ c
+  pub half_way : size w.half_way ≡ c
   pub units : w.known ≡ true → (i : ℕ) → i < c → at_place w.normals i ≡ normalize (at_place w.sources i)
 
 -- it has the units of normals, and the exponents of highlights of that roughness

@@ -12,7 +12,7 @@ use crate::units::{cosine, one_unit, unit_of};
 use crate::viewing::Cone;
 use builtins::dot;
 use fixed_math::Vec3;
-use number_rows::{Normalize, Plane, Planes, Raw, ToTriple};
+use number_rows::{Plane, Planes, Raw, unit};
 use place_rows::Mask;
 
 /// The cone of each place by the unit of its axis and the cosine of its angle; where none is given, all directions lie in it.
@@ -57,10 +57,10 @@ impl Points {
         ensures { (i : ℕ) → i < count → triple_in self.new.x.row self.new.y.row self.new.z.row i ≡ normalize (triple_at planes.now i) }
     {
         for place in 0..count {
-            let unit = Normalize::apply(planes.at(place));
-            self.x.row[place] = Raw::of(unit.x);
-            self.y.row[place] = Raw::of(unit.y);
-            self.z.row[place] = Raw::of(unit.z);
+            let one = unit(planes.at(place));
+            self.x.row[place] = Raw::of(one.x);
+            self.y.row[place] = Raw::of(one.y);
+            self.z.row[place] = Raw::of(one.z);
         }
     }
 
@@ -118,7 +118,7 @@ impl Cones {
     {
         let mut mask = Mask::none();
         for place in 0..count {
-            mask.places[place] = self.holds(place, Normalize::apply(directions.at(place)));
+            mask.places[place] = self.holds(place, unit(directions.at(place)));
         }
         mask
     }
@@ -148,7 +148,7 @@ impl OneCone {
     {
         let mut mask = Mask::none();
         for place in 0..count {
-            mask.places[place] = self.holds(Normalize::apply(directions.at(place)));
+            mask.places[place] = self.holds(unit(directions.at(place)));
         }
         mask
     }

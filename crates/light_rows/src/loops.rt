@@ -1,78 +1,36 @@
 // Loops of sums over lights, one formula a place.
 ghost use Rattle.std.specs.Prelude.{◌≡◌, ℕ, ◌<◌, ◌&&◌, pos, int_le, cond, length, get_or};
 ghost use Rattle.fixed_math.specs.Fixed.{add, mul};
-ghost use Rattle.fixed_math.specs.Power.{pow};
 ghost use Rattle.builtins.specs.Numbers.{max};
-ghost use Rattle.builtins.specs.Triples.{each_two, dot};
 ghost use Rattle.builtins.specs.Values.{is_nonzero};
-ghost use Rattle.number_rows.specs.Planes.{ArePlanes};
 ghost use Rattle.number_rows.specs.Truths as truths;
-ghost use Rattle.light_rows.specs.Loops.{half_way, weight, is_before, with_share, shown_highlight, highlight_at};
+ghost use Rattle.light_rows.specs.Loops.{raised, weight, is_before, with_share};
 ghost use Rattle.light_rows.specs.Seen.{size, at_place};
 
 use crate::triples::Triples;
-use builtins::{dot, max};
-use fixed_math::{Num, Vec3};
-use number_rows::{
-    Add, Dot, Multiply, Normalize, OfTriples, Planes, Power, Raw, ToTriple, ToTriples, Two,
-    number_of_triples,
-};
-
-// The sum of two triples.
-#[inline(always)]
-fn plus(a: Vec3, b: Vec3) -> Vec3
-    ensures { result ≡ each_two add a b }
-{
-    Vec3 {
-        x: a.x.add(b.x),
-        y: a.y.add(b.y),
-        z: a.z.add(b.z),
-    }
-}
-
-/// The vector of length 1 half way between two directions.
-pub struct HalfWay;
-
-impl ToTriples for HalfWay {
-    ghost formula = { half_way };
-
-    #[inline(always)]
-    fn apply(a: Vec3, b: Vec3) -> Vec3 {
-        Normalize::apply(plus(a, b))
-    }
-}
+use fixed_math::Num;
+use number_rows::{Add, Dot, Multiply, Planes, Power, Raw, Two, number_of_triples};
 
 // A number where it isn't negative, else 0.
 #[inline(always)]
-fn positive(x: Num) -> Num
+fn positive(x: Raw) -> Raw
     ensures { result ≡ max (pos 0) x }
 {
-    max(Num::sat(0), x)
+    if x.raw() < 0 { Raw::zero() } else { x }
 }
 
-// The product of two triples where it isn't negative, else 0.
-#[inline(always)]
-#[tactic(auto, unfolding(crate::specs::Loops::weight))]
-fn weight_of(a: Vec3, b: Vec3) -> Raw
-    ensures { result ≡ weight a b }
+// Numbers that are negative become 0.
+fn make_positive(out: &mut [Raw])
+    ensures long { length out.new ≡ length out.old }
+    ensures each { (i : ℕ) → i < length out.old → get_or out.new i (pos 0) ≡ max (pos 0) (get_or out.old i (pos 0)) }
 {
-    Raw::of(positive(dot(a, b)))
-}
-
-// The same of triples in rows.
-struct Weight;
-
-impl OfTriples for Weight {
-    ghost formula = { weight };
-
-    #[inline(always)]
-    #[tactic(auto, unfolding(crate::specs::Loops::weight))]
-    fn apply(a: Vec3, b: Vec3) -> Num {
-        positive(Dot::apply(a, b))
+    for i in 0..out.len() {
+        out[i] = positive(out[i]);
     }
 }
 
 /// The products of triples where they aren't negative, else 0.
+#[tactic(auto, unfolding(crate::specs::Loops::weight))]
 pub fn weigh(a: &Triples, b: &Triples, out: &mut [Raw])
     requires a { size a.now ≡ length out.old }
     requires b { size b.now ≡ length out.old }
@@ -81,7 +39,8 @@ pub fn weigh(a: &Triples, b: &Triples, out: &mut [Raw])
 {
     let Planes { x, y, z } = a.planes();
     let Planes { x: u, y: v, z: w } = b.planes();
-    number_of_triples::<Weight>(&Planes { x, y, z }, &Planes { x: u, y: v, z: w }, out);
+    number_of_triples::<Dot>(&Planes { x, y, z }, &Planes { x: u, y: v, z: w }, out);
+    make_positive(out);
 }
 
 // Whether a number isn't 0.
@@ -203,46 +162,26 @@ pub fn add_whole(colours: &[Raw], totals: &mut [Raw])
     }
 }
 
-// The weight of a highlight, by the units of the normal and of the direction to the light, seen from v.
+// The power of a weight where it is shown, else 0.
 #[inline(always)]
-fn highlight(normal: Vec3, unit: Vec3, v: Vec3, exponent: Raw) -> Raw
-    ensures { result ≡ pow (weight normal (half_way unit v)) exponent }
-{
-    Power::apply(weight_of(normal, HalfWay::apply(unit, v)), exponent)
-}
-
-// The same where it is shown, else 0.
-#[inline(always)]
-#[tactic(auto, unfolding(crate::specs::Loops::shown_highlight))]
-fn shown_highlight(shown: Raw, normal: Vec3, unit: Vec3, v: Vec3, exponent: Raw) -> Raw
-    ensures { result ≡ shown_highlight shown normal unit v exponent }
+fn raised(shown: Raw, weight: Raw, exponent: Raw) -> Raw
+    ensures { result ≡ raised shown weight exponent }
 {
     if is_nonzero(shown) {
-        highlight(normal, unit, v, exponent)
+        Power::apply(weight, exponent)
     } else {
         Raw::zero()
     }
 }
 
-/// The weights of highlights where they are shown, else 0, by the units of the normals and of the directions to a light, seen from v.
-#[tactic(auto, using(number_rows::proofs::Shorter::all_shorter))]
-pub fn shine(
-    shown: &[Raw],
-    normals: &Triples,
-    units: &Triples,
-    v: &Planes,
-    exponents: &[Raw],
-    out: &mut [Raw],
-)
-    requires shown { length shown.now ≡ length out.old }
-    requires normals { size normals.now ≡ length out.old }
-    requires units { size units.now ≡ length out.old }
-    requires v { ArePlanes (length out.old) v.now }
-    requires exponents { length exponents.now ≡ length out.old }
-    ensures long { length out.new ≡ length out.old }
-    ensures each { (i : ℕ) → i < length out.old → get_or out.new i (pos 0) ≡ highlight_at shown.now normals.now units.now v.now exponents.now i }
+/// Raises weights to powers where they are shown; elsewhere they become 0.
+pub fn raise(shown: &[Raw], exponents: &[Raw], weights: &mut [Raw])
+    requires shown { length shown.now ≡ length weights.old }
+    requires exponents { length exponents.now ≡ length weights.old }
+    ensures long { length weights.new ≡ length weights.old }
+    ensures each { (i : ℕ) → i < length weights.old → get_or weights.new i (pos 0) ≡ raised (get_or shown.now i (pos 0)) (get_or weights.old i (pos 0)) (get_or exponents.now i (pos 0)) }
 {
-    for i in 0..out.len() {
-        out[i] = shown_highlight(shown[i], normals.at(i), units.at(i), v.at(i), exponents[i]);
+    for i in 0..weights.len() {
+        weights[i] = raised(shown[i], weights[i], exponents[i]);
     }
 }

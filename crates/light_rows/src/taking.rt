@@ -1,6 +1,7 @@
 // What rows of triples take and give.
 ghost use Rattle.std.specs.Prelude.{◌≡◌, ℕ, ◌<◌, ◌≤◌, true, pos, length, get_or, IfOk};
-ghost use Rattle.builtins.specs.Triples.{negated, normalize};
+ghost use Rattle.builtins.specs.Triples.{each_two, negated, normalize};
+ghost use Rattle.fixed_math.specs.Fixed.{add};
 ghost use Rattle.number_rows.specs.Planes.{plane_at, triple_at, IsPlane, ArePlanes};
 ghost use Rattle.light_rows.specs.Seen.{size, at_place};
 
@@ -8,7 +9,9 @@ use crate::triples::Triples;
 use crate::units::one_unit;
 use bumpalo::Bump;
 use fixed_math::{NoMemory, Vec3};
-use number_rows::{Normalize, Plane, Planes, Raw, copy, part_row, triple_of_triple};
+use number_rows::{
+    Add, Normalize, Plane, Planes, Raw, copy, part_row, triple_of_triple, two_planes,
+};
 use sl_ast::ValueOperation;
 
 // So many zeros, or want of memory.
@@ -30,8 +33,8 @@ fn are_same(a: &[Raw], b: &[Raw]) -> bool
     same
 }
 
-// Whether a row is one number throughout.
-fn are_value(a: &[Raw], x: Raw) -> bool
+/// Whether a row is one number throughout.
+pub(crate) fn are_value(a: &[Raw], x: Raw) -> bool
     ensures { result ≡ true → (i : ℕ) → i < length a.now → get_or a.now i (pos 0) ≡ x }
 {
     let mut same = true;
@@ -141,6 +144,18 @@ impl Triples<'_> {
             }
             _ => triple_of_triple::<Normalize>(planes, &mut self.x, &mut self.y, &mut self.z),
         }
+    }
+
+    /// Takes the sums of others and of the triples of planes.
+    pub fn take_sums(&mut self, others: &Triples, planes: &Planes)
+        requires others { size others.now ≡ size self.old }
+        requires planes { ArePlanes (size self.old) planes.now }
+        ensures size { size self.new ≡ size self.old }
+        ensures each { (i : ℕ) → i < size self.old → at_place self.new i ≡ each_two add (at_place others.now i) (triple_at planes.now i) }
+    {
+        two_planes::<Add>(&Plane::Row(&others.x), &planes.x, &mut self.x);
+        two_planes::<Add>(&Plane::Row(&others.y), &planes.y, &mut self.y);
+        two_planes::<Add>(&Plane::Row(&others.z), &planes.z, &mut self.z);
     }
 
     // The first triple at all places.

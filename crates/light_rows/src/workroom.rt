@@ -1,21 +1,21 @@
 // What sums over lights are worked out in.
 ghost use Rattle.std.specs.Prelude.{◌≡◌, ℕ, ◌<◌, pos, true, false, length, get_or, IfOk};
 ghost use Rattle.number_rows.specs.Planes.{plane_at, triple_at, triple_in, IsPlane, ArePlanes};
-ghost use Rattle.light_rows.specs.Shares.{matte_at, shining_at, HaveGained};
+ghost use Rattle.light_rows.specs.Shares.{matte_at, shown_at, highlight_at, shining_at, HaveGained};
 ghost use Rattle.light_rows.specs.Seen.{size, at_place, counts_in, HasPlaces, HasRows, HasBegun, AreNormals, AreExponents, IsSum};
 
 use crate::answers::Answers;
-use crate::loops::{add_shares, add_whole, mark, shine, weigh};
+use crate::loops::{add_shares, add_whole, mark, raise, weigh};
 use crate::sums::Sum;
-use crate::taking::zeros;
+use crate::taking::{are_value, zeros};
 use crate::triples::Triples;
 use bumpalo::Bump;
 use fixed_math::{NoMemory, Num};
 use number_rows::{Plane, Planes, Raw, parts_rows};
 use sl_ast::ValueOperation;
 
-/// Rows for sums over lights: the units of the normals of the last sum that had any, with those where they are known, its exponents, and the
-/// weights of one light with where its highlights are shown.
+/// Rows for sums over lights: the units of the normals of the last sum that had any, with those where they are known, its exponents, and of
+/// one light the weights, where its highlights are shown, and the vectors half way to it, as sums and as units.
 #[derive(Drop)]
 pub struct Workroom<'a> {
     pub known: bool,
@@ -24,6 +24,8 @@ pub struct Workroom<'a> {
     pub exponents: Vec<Raw, &'a Bump>,
     pub weights: Vec<Raw, &'a Bump>,
     pub shown: Vec<Raw, &'a Bump>,
+    pub sums: Triples<'a>,
+    pub half_way: Triples<'a>,
 }
 
 impl<'a> Workroom<'a> {
@@ -38,6 +40,8 @@ impl<'a> Workroom<'a> {
             exponents: zeros(arena, count)?,
             weights: zeros(arena, count)?,
             shown: zeros(arena, count)?,
+            sums: Triples::zeros(arena, count)?,
+            half_way: Triples::zeros(arena, count)?,
         })
     }
 }
@@ -117,7 +121,57 @@ impl Workroom<'_> {
         add_shares(&answers.lit, &self.weights, &answers.colours.z, z);
     }
 
-    // Adds highlights.
+    // The weights of highlights where they are shown, seen from v.
+    #[tactic(auto, unfolding(crate::specs::Loops::shown_highlight))]
+    fn weigh_highlights(&mut self, answers: &Answers, v: &Planes)
+        requires rows { HasRows (size answers.now.colours) self.old }
+        requires answers { HasPlaces (size answers.now.colours) answers.now }
+        requires v { ArePlanes (size answers.now.colours) v.now }
+        ensures rows { HasRows (size answers.now.colours) self.new }
+        ensures normals { self.new.normals ≡ self.old.normals }
+        ensures exponents { self.new.exponents ≡ self.old.exponents }
+        ensures shown { self.new.shown ≡ self.old.shown }
+        ensures each { (i : ℕ) → i < size answers.now.colours → get_or self.new.weights.items i (pos 0) ≡ highlight_at (get_or self.old.shown.items i (pos 0)) answers.now self.old v.now i }
+    {
+        self.sums.take_sums(&answers.units, v);
+        let Planes { x, y, z } = self.sums.planes();
+        self.half_way.take_units(&Planes { x, y, z });
+        weigh(&self.normals, &self.half_way, &mut self.weights);
+        raise(&self.shown, &self.exponents, &mut self.weights);
+    }
+
+    // Adds highlights, where it is known where they are shown.
+    fn add_shown(
+        &mut self,
+        answers: &Answers,
+        v: &Planes,
+        x: &mut [Raw],
+        y: &mut [Raw],
+        z: &mut [Raw],
+    )
+        requires rows { HasRows (size answers.now.colours) self.old }
+        requires answers { HasPlaces (size answers.now.colours) answers.now }
+        requires v { ArePlanes (size answers.now.colours) v.now }
+        requires shown { (i : ℕ) → i < size answers.now.colours → get_or self.old.shown.items i (pos 0) ≡ shown_at answers.now self.old i }
+        requires x { length x.old ≡ size answers.now.colours }
+        requires y { length y.old ≡ size answers.now.colours }
+        requires z { length z.old ≡ size answers.now.colours }
+        ensures rows { HasRows (size answers.now.colours) self.new }
+        ensures normals { self.new.normals ≡ self.old.normals }
+        ensures exponents { self.new.exponents ≡ self.old.exponents }
+        ensures x { length x.new ≡ length x.old }
+        ensures y { length y.new ≡ length y.old }
+        ensures z { length z.new ≡ length z.old }
+        ensures each { (i : ℕ) → i < size answers.now.colours → triple_in x.new y.new z.new i ≡ shining_at answers.now self.old v.now (triple_in x.old y.old z.old i) i }
+    {
+        self.weigh_highlights(answers, v);
+        add_shares(&self.shown, &self.weights, &answers.colours.x, x);
+        add_shares(&self.shown, &self.weights, &answers.colours.y, y);
+        add_shares(&self.shown, &self.weights, &answers.colours.z, z);
+    }
+
+    // Adds highlights. A grid that is turned away from the light has none.
+    #[tactic(auto, using(crate::proofs::Shares::none_shown))]
     fn add_specular(
         &mut self,
         answers: &Answers,
@@ -141,17 +195,9 @@ impl Workroom<'_> {
         ensures each { (i : ℕ) → i < size answers.now.colours → triple_in x.new y.new z.new i ≡ shining_at answers.now self.old v.now (triple_in x.old y.old z.old i) i }
     {
         mark(&answers.lit, &answers.units, &self.normals, &mut self.shown);
-        shine(
-            &self.shown,
-            &self.normals,
-            &answers.units,
-            v,
-            &self.exponents,
-            &mut self.weights,
-        );
-        add_shares(&self.shown, &self.weights, &answers.colours.x, x);
-        add_shares(&self.shown, &self.weights, &answers.colours.y, y);
-        add_shares(&self.shown, &self.weights, &answers.colours.z, z);
+        if !are_value(&self.shown, Raw::zero()) {
+            self.add_shown(answers, v, x, y, z);
+        }
     }
 
     /// Adds what a light gives to a sum that has begun, where it counts.

@@ -1,6 +1,8 @@
 -- Numbers and triples at the places of a grid: in rows, or one at all places.
-use Rattle.std.specs.Prelude.{ℕ, ◌≤◌, ◌<◌, ◌≡◌, ℤ, pos, List, length, get_or}
+use Rattle.std.specs.Prelude.{ℕ, ◌≤◌, ◌<◌, ◌≡◌, ℤ, pos, List, length, get_or, unsigned_abs}
 use Rattle.fixed_math.specs.declared.vec3.Vec3.{Vec3}
+use Rattle.lanes.specs.Directions.{IsNearUnit}
+use Rattle.number_rows.specs.declared.plane.Parts.{Parts}
 use Rattle.number_rows.specs.declared.plane.Plane.{Plane}
 use Rattle.number_rows.specs.declared.plane.Plane.TheVariants.{Row, Value}
 use Rattle.number_rows.specs.declared.plane.Planes.{Planes}
@@ -48,3 +50,21 @@ pub record AreLonger (n : ℕ) (r : TripleRows) : Type 0 where
 pub record IsInRows (r : TripleRows) (p : Planes) : Type 0 where
   pub same : (i : ℕ) → triple_at p i ≡ rows_at r i
   pub long : (n i : ℕ) → ArePlanes n p → i < n → AreLonger i r
+
+-- the triple of these parts
+abbrev pub triple_of : Parts → Vec3
+triple_of p = record { x = p.x; y = p.y; z = p.z }
+
+-- For private contracts alone: the length is nearly 1
+abbrev pub IsNear : Vec3 → Type 0
+IsNear v = IsNearUnit v.x v.y v.z
+
+-- For private contracts alone: a number below 64
+abbrev pub IsSmall : ℤ → Type 0
+IsSmall x = unsigned_abs x ≤ 4194304
+
+-- the same of the parts of a triple
+pub record AreSmall (v : Vec3) : Type 0 where
+  pub x : IsSmall v.x
+  pub y : IsSmall v.y
+  pub z : IsSmall v.z

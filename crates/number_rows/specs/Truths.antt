@@ -1,5 +1,5 @@
 -- Truths as numbers, 1 or 0, and what is made of them.
-use Rattle.std.specs.Prelude.{ℤ, pos, Bool, cond, not, ◌&&◌, ◌||◌}
+use Rattle.std.specs.Prelude.{ℤ, pos, neg_ℤ, Bool, cond, not, int_lt, ◌&&◌, ◌||◌}
 use Rattle.std.specs.Ordering.{int_eq}
 use Rattle.builtins.specs.Values.{is_nonzero}
 
@@ -29,3 +29,7 @@ differs x y = truth (not (int_eq x y))
 -- the second where the first isn't 0, else the third
 abbrev pub chosen : ℤ → ℤ → ℤ → ℤ
 chosen t x y = cond (is_nonzero t) x y
+
+-- the second with the other sign where the first is above 0
+abbrev pub turned : ℤ → ℤ → ℤ
+turned x y = cond (int_lt (pos 0) x) (neg_ℤ y) y

@@ -1,11 +1,12 @@
 // Operations on rows, one loop each.
-ghost use Rattle.std.specs.Prelude.{◌≡◌, ℕ, ◌+◌, ◌<◌, ◌≤◌, pos, length, get_or};
+ghost use Rattle.std.specs.Prelude.{◌≡◌, ℕ, ℤ, ◌+◌, ◌<◌, ◌≤◌, pos, false, length, get_or, cond};
 ghost use Rattle.fixed_math.specs.Fixed.{IsRaw};
 ghost use Rattle.number_rows.specs.Planes.{plane_at, IsPlane};
 
 use crate::kernels::{One, Three, Two};
 use crate::plane::Plane;
 use crate::raw::Raw;
+use lanes::mask;
 
 /// Each place of a row takes one number.
 pub fn fill(x: Raw, out: &mut [Raw])
@@ -154,5 +155,37 @@ pub fn three_planes<K: Three>(a: &Plane, b: &Plane, c: &Plane, out: &mut [Raw])
 {
     for i in 0..out.len() {
         out[i] = K::apply(a.at(i), b.at(i), c.at(i));
+    }
+}
+
+/// A row takes what an operation makes of it and a plane.
+pub(crate) fn with_plane<K: Two>(b: &Plane, out: &mut [Raw])
+    requires { IsPlane (length out.old) b.now }
+    ensures long { length out.new ≡ length out.old }
+    ensures each { (i : ℕ) → i < length out.old → get_or out.new i (pos 0) ≡ K.formula (get_or out.old i (pos 0)) (plane_at b.now i) }
+{
+    for i in 0..out.len() {
+        out[i] = K::apply(out[i], b.at(i));
+    }
+}
+
+// One of two numbers, by bits: the compiler turns no choice between elements of rows into lanes.
+#[inline(always)]
+fn one_of(first: bool, x: Raw, y: Raw) -> Raw
+    ensures { result ≡ cond first x y }
+{
+    let all = if first { -1 } else { 0 };
+    Raw::from_bits(mask::chosen(all, x.bits(), y.bits()))
+}
+
+/// A row takes another one's numbers at the places that are live.
+pub fn blend(live: &[bool], row: &[Raw], out: &mut [Raw])
+    requires live { length out.old ≤ length live.now }
+    requires row { length out.old ≤ length row.now }
+    ensures long { length out.new ≡ length out.old }
+    ensures each { (d : ℤ) (i : ℕ) → i < length out.old → get_or out.new i d ≡ cond (get_or live.now i false) (get_or row.now i d) (get_or out.old i d) }
+{
+    for i in 0..out.len() {
+        out[i] = one_of(live[i], row[i], out[i]);
     }
 }

@@ -1,6 +1,6 @@
 // Numbers at the places of a grid.
 ghost use Rattle.std.specs.Prelude.{◌≡◌, ℕ, ◌+◌, ◌<◌, pos, length, get_or, IfSome};
-ghost use Rattle.number_rows.specs.Planes.{plane_at, triple_at, rows_at, IsPlane, ArePlanes, IsRow, AreLonger, IsInRows};
+ghost use Rattle.number_rows.specs.Planes.{plane_at, triple_at, triple_of, rows_at, IsPlane, ArePlanes, IsRow, AreLonger, IsInRows};
 
 use crate::raw::Raw;
 use fixed_math::Vec3;
@@ -18,6 +18,14 @@ pub struct Planes<'a> {
     pub x: Plane<'a>,
     pub y: Plane<'a>,
     pub z: Plane<'a>,
+}
+
+/// The parts of a triple, as rows hold them.
+#[derive(Clone, Copy)]
+pub(crate) struct Parts {
+    pub(crate) x: Raw,
+    pub(crate) y: Raw,
+    pub(crate) z: Raw,
 }
 
 #[inline(always)]
@@ -68,6 +76,21 @@ impl Planes<'_> {
     }
 }
 
+impl Planes<'_> {
+    // The parts of the triple of a place.
+    #[inline(always)]
+    pub(crate) fn parts(&self, place: usize) -> Parts
+        requires { ArePlanes (place + 1) self.now }
+        ensures { triple_of result ≡ triple_at self.now place }
+    {
+        Parts {
+            x: self.x.at(place),
+            y: self.y.at(place),
+            z: self.z.at(place),
+        }
+    }
+}
+
 /// The parts of a triple for each place, where all are rows.
 #[derive(Clone, Copy)]
 pub(crate) struct TripleRows<'a> {
@@ -77,16 +100,16 @@ pub(crate) struct TripleRows<'a> {
 }
 
 impl TripleRows<'_> {
-    /// The triple of a place.
+    /// The parts of the triple of a place.
     #[inline(always)]
-    pub(crate) fn at(&self, place: usize) -> Vec3
+    pub(crate) fn parts(&self, place: usize) -> Parts
         requires { AreLonger place self.now }
-        ensures { result ≡ rows_at self.now place }
+        ensures { triple_of result ≡ rows_at self.now place }
     {
-        Vec3 {
-            x: number_at(self.x, place).number(),
-            y: number_at(self.y, place).number(),
-            z: number_at(self.z, place).number(),
+        Parts {
+            x: number_at(self.x, place),
+            y: number_at(self.y, place),
+            z: number_at(self.z, place),
         }
     }
 }
@@ -106,14 +129,14 @@ impl Planes<'_> {
 
     /// The triple of all places, where all parts are the same at all places.
     #[inline(always)]
-    pub(crate) fn value(&self) -> Option<Vec3>
-        ensures { IfSome result (λ t. (i : ℕ) → triple_at self.now i ≡ t) }
+    pub(crate) fn value(&self) -> Option<Parts>
+        ensures { IfSome result (λ p. (i : ℕ) → triple_at self.now i ≡ triple_of p) }
     {
         match (&self.x, &self.y, &self.z) {
-            (Plane::Value(x), Plane::Value(y), Plane::Value(z)) => Some(Vec3 {
-                x: x.number(),
-                y: y.number(),
-                z: z.number(),
+            (Plane::Value(x), Plane::Value(y), Plane::Value(z)) => Some(Parts {
+                x: *x,
+                y: *y,
+                z: *z,
             }),
             _ => None,
         }

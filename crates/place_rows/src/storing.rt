@@ -1,5 +1,5 @@
 // Values of registers by shape, read and stored.
-ghost use Rattle.std.specs.Prelude.{◌≡◌, ℕ, ◌+◌, ◌*◌, ◌&&◌, ◌==◌, ◌<◌, ◌≤◌, cond, true, false, pos, length, get_or, IfOk};
+ghost use Rattle.std.specs.Prelude.{◌≡◌, ℕ, ◌+◌, ◌*◌, ◌&&◌, ◌==◌, ◌<◌, ◌≤◌, ℤ, cond, true, false, pos, length, get_or, IfOk};
 ghost use Rattle.builtins.specs.declared.shape.Shape.{Shape as AnyShape};
 ghost use Rattle.builtins.specs.declared.shape.Shape.TheVariants as shapes;
 ghost use Rattle.grid_code.specs.Masked.{same_shape};
@@ -10,7 +10,7 @@ use crate::mask::both;
 use builtins::Shape;
 use bumpalo::Bump;
 use fixed_math::{NoMemory, Vec3};
-use number_rows::{Raw, fill};
+use number_rows::{Raw, blend as blend_numbers, fill};
 use place_values::Cell;
 
 fn chosen<T: Copy>(taken: bool, a: T, b: T) -> T
@@ -56,6 +56,33 @@ fn store_row<T: Copy>(rows: &mut [T], register: usize, all: bool, live: &[bool],
 {
     let start = register * row.len();
     store_in(&mut rows[start..start + row.len()], all, live, row);
+}
+
+// A row of numbers takes another one's at the places that are live, all of which may be known to be.
+fn store_numbers_in(target: &mut [Raw], all: bool, live: &[bool], row: &[Raw])
+    requires live { length row.now ≤ length live.now }
+    requires all { all ≡ true → (i : ℕ) → i < length row.now → get_or live.now i false ≡ true }
+    requires long { length target.old ≡ length row.now }
+    ensures long { length target.new ≡ length target.old }
+    ensures each { (d : ℤ) (j : ℕ) → j < length row.now → get_or target.new j d ≡ cond (get_or live.now j false) (get_or row.now j d) (get_or target.old j d) }
+{
+    if all {
+        target.copy_from_slice(row);
+    } else {
+        blend_numbers(live, row, target);
+    }
+}
+
+// Writes a row of numbers into the row of a register, at the places that are live, all of which may be known to be.
+fn store_numbers(rows: &mut [Raw], register: usize, all: bool, live: &[bool], row: &[Raw])
+    requires live { length row.now ≤ length live.now }
+    requires all { all ≡ true → (i : ℕ) → i < length row.now → get_or live.now i false ≡ true }
+    requires fits { register * length row.now + length row.now ≤ length rows.old }
+    ensures long { length rows.new ≡ length rows.old }
+    ensures each { IsRowStored ℤ register live.now row.now rows.old rows.new }
+{
+    let start = register * row.len();
+    store_numbers_in(&mut rows[start..start + row.len()], all, live, row);
 }
 
 // Whether the first places are all live.
@@ -227,11 +254,11 @@ impl Bank<'_> {
     {
         let all = are_live(live, length_of(row, shape));
         match shape {
-            Shape::Number => store_row(&mut self.numbers, register, all, live, &row.numbers),
+            Shape::Number => store_numbers(&mut self.numbers, register, all, live, &row.numbers),
             Shape::Triple => {
-                store_row(&mut self.xs, register, all, live, &row.xs);
-                store_row(&mut self.ys, register, all, live, &row.ys);
-                store_row(&mut self.zs, register, all, live, &row.zs);
+                store_numbers(&mut self.xs, register, all, live, &row.xs);
+                store_numbers(&mut self.ys, register, all, live, &row.ys);
+                store_numbers(&mut self.zs, register, all, live, &row.zs);
             }
             Shape::Word => store_row(&mut self.words, register, all, live, &row.words),
         }

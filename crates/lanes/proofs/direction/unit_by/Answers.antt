@@ -1,9 +1,8 @@
-use Rattle.std.proofs.Common.{arith, ◌∙◌, sym, ◌<◌, w32, FitsSigned, ◌≡◌, ap}
-use Rattle.std.specs.Int.RustNames.{unsigned_abs}
+use Rattle.std.proofs.Common.{arith, ◌∙◌, ◌≡◌, w32, FitsSigned}
 use Rattle.std.proofs.lemmas.Int.{ints, to_z-of_z}
-use Rattle.fixed_math.specs.Unit.{norm, part}
-use Rattle.fixed_math.proofs.Units.{norm_ge, part_none}
-use Rattle.fixed_math.proofs.Units.{unit_part_is}
+use Rattle.fixed_math.specs.Unit.{norm}
+use Rattle.fixed_math.proofs.Units.{part_none}
+use Rattle.lanes.proofs.NearUnits.{parts_within, unit_is}
 use Rattle.lanes.proofs.direction.unit_by.Goals as goal
 
 pub returns-then-n-eq0-clause-x : goal.returns-then-n-eq0-clause-x
@@ -11,108 +10,75 @@ returns-then-n-eq0-clause-x c =
     let x_is : FitsSigned w32 c.args.x = c.ranges.x in
     let y_is : FitsSigned w32 c.args.y = c.ranges.y in
     let z_is : FitsSigned w32 c.args.z = c.ranges.z in
-    let x_small : unsigned_abs c.args.x < 4611686018427387904 = omega (arith, ints) in
-    let y_small : unsigned_abs c.args.y < 4611686018427387904 = omega (arith, ints) in
-    let z_small : unsigned_abs c.args.z < 4611686018427387904 = omega (arith, ints) in
     let is : c.args.n ≡ norm c.args.x c.args.y c.args.z = c.requires.length in
-    let none : norm c.args.x c.args.y c.args.z ≡ 0 = sym is ∙ c.if-n-eq0.true in
-    part_none c.args.x (norm c.args.x c.args.y c.args.z) none ∙ unit_part_is c.args.x c.args.x c.args.y c.args.z x_small y_small z_small
+    part_none c.args.x c.args.n c.if-n-eq0.true ∙ unit_is c.args.x c.args.x c.args.y c.args.z c.args.n x_is y_is z_is is
 
 pub returns-then-n-eq0-clause-y : goal.returns-then-n-eq0-clause-y
 returns-then-n-eq0-clause-y c =
     let x_is : FitsSigned w32 c.args.x = c.ranges.x in
     let y_is : FitsSigned w32 c.args.y = c.ranges.y in
     let z_is : FitsSigned w32 c.args.z = c.ranges.z in
-    let x_small : unsigned_abs c.args.x < 4611686018427387904 = omega (arith, ints) in
-    let y_small : unsigned_abs c.args.y < 4611686018427387904 = omega (arith, ints) in
-    let z_small : unsigned_abs c.args.z < 4611686018427387904 = omega (arith, ints) in
     let is : c.args.n ≡ norm c.args.x c.args.y c.args.z = c.requires.length in
-    let none : norm c.args.x c.args.y c.args.z ≡ 0 = sym is ∙ c.if-n-eq0.true in
-    part_none c.args.y (norm c.args.x c.args.y c.args.z) none ∙ unit_part_is c.args.y c.args.x c.args.y c.args.z x_small y_small z_small
+    part_none c.args.y c.args.n c.if-n-eq0.true ∙ unit_is c.args.y c.args.x c.args.y c.args.z c.args.n x_is y_is z_is is
 
 pub returns-then-n-eq0-clause-z : goal.returns-then-n-eq0-clause-z
 returns-then-n-eq0-clause-z c =
     let x_is : FitsSigned w32 c.args.x = c.ranges.x in
     let y_is : FitsSigned w32 c.args.y = c.ranges.y in
     let z_is : FitsSigned w32 c.args.z = c.ranges.z in
-    let x_small : unsigned_abs c.args.x < 4611686018427387904 = omega (arith, ints) in
-    let y_small : unsigned_abs c.args.y < 4611686018427387904 = omega (arith, ints) in
-    let z_small : unsigned_abs c.args.z < 4611686018427387904 = omega (arith, ints) in
     let is : c.args.n ≡ norm c.args.x c.args.y c.args.z = c.requires.length in
-    let none : norm c.args.x c.args.y c.args.z ≡ 0 = sym is ∙ c.if-n-eq0.true in
-    part_none c.args.z (norm c.args.x c.args.y c.args.z) none ∙ unit_part_is c.args.z c.args.x c.args.y c.args.z x_small y_small z_small
+    part_none c.args.z c.args.n c.if-n-eq0.true ∙ unit_is c.args.z c.args.x c.args.y c.args.z c.args.n x_is y_is z_is is
 
 pub part-requires-clause-le : goal.part-requires-clause-le
 part-requires-clause-le c =
     let x_is : FitsSigned w32 c.args.x = c.ranges.x in
     let y_is : FitsSigned w32 c.args.y = c.ranges.y in
     let z_is : FitsSigned w32 c.args.z = c.ranges.z in
-    let x_small : unsigned_abs c.args.x < 4611686018427387904 = omega (arith, ints) in
-    let y_small : unsigned_abs c.args.y < 4611686018427387904 = omega (arith, ints) in
-    let z_small : unsigned_abs c.args.z < 4611686018427387904 = omega (arith, ints) in
     let is : c.args.n ≡ norm c.args.x c.args.y c.args.z = c.requires.length in
-    let le = (norm_ge c.args.x c.args.y c.args.z x_small y_small z_small).0 in
-    simp (to_z-of_z, is) le
+    let within = parts_within c.args.x c.args.y c.args.z c.args.n x_is y_is z_is is in simp to_z-of_z within.0
 
 pub part-requires-2-clause-le : goal.part-requires-2-clause-le
 part-requires-2-clause-le c =
     let x_is : FitsSigned w32 c.args.x = c.ranges.x in
     let y_is : FitsSigned w32 c.args.y = c.ranges.y in
     let z_is : FitsSigned w32 c.args.z = c.ranges.z in
-    let x_small : unsigned_abs c.args.x < 4611686018427387904 = omega (arith, ints) in
-    let y_small : unsigned_abs c.args.y < 4611686018427387904 = omega (arith, ints) in
-    let z_small : unsigned_abs c.args.z < 4611686018427387904 = omega (arith, ints) in
     let is : c.args.n ≡ norm c.args.x c.args.y c.args.z = c.requires.length in
-    let le = (norm_ge c.args.x c.args.y c.args.z x_small y_small z_small).1 in
-    simp (to_z-of_z, is) le
+    let within = parts_within c.args.x c.args.y c.args.z c.args.n x_is y_is z_is is in simp to_z-of_z within.1
 
 pub part-requires-3-clause-le : goal.part-requires-3-clause-le
 part-requires-3-clause-le c =
     let x_is : FitsSigned w32 c.args.x = c.ranges.x in
     let y_is : FitsSigned w32 c.args.y = c.ranges.y in
     let z_is : FitsSigned w32 c.args.z = c.ranges.z in
-    let x_small : unsigned_abs c.args.x < 4611686018427387904 = omega (arith, ints) in
-    let y_small : unsigned_abs c.args.y < 4611686018427387904 = omega (arith, ints) in
-    let z_small : unsigned_abs c.args.z < 4611686018427387904 = omega (arith, ints) in
     let is : c.args.n ≡ norm c.args.x c.args.y c.args.z = c.requires.length in
-    let le = (norm_ge c.args.x c.args.y c.args.z x_small y_small z_small).2 in
-    simp (to_z-of_z, is) le
+    let within = parts_within c.args.x c.args.y c.args.z c.args.n x_is y_is z_is is in simp to_z-of_z within.2
 
 pub returns-clause-x : goal.returns-clause-x
 returns-clause-x c =
     let x_is : FitsSigned w32 c.args.x = c.ranges.x in
     let y_is : FitsSigned w32 c.args.y = c.ranges.y in
     let z_is : FitsSigned w32 c.args.z = c.ranges.z in
-    let x_small : unsigned_abs c.args.x < 4611686018427387904 = omega (arith, ints) in
-    let y_small : unsigned_abs c.args.y < 4611686018427387904 = omega (arith, ints) in
-    let z_small : unsigned_abs c.args.z < 4611686018427387904 = omega (arith, ints) in
     let is : c.args.n ≡ norm c.args.x c.args.y c.args.z = c.requires.length in
-    let part_fits : FitsSigned w32 c.part.result = omega (arith, ints, c.part.ensures.raw.0, c.part.ensures.raw.1) in
+    let fits : FitsSigned w32 c.part.result = omega (arith, ints, c.part.ensures.raw.0, c.part.ensures.raw.1) in
     let value = simp to_z-of_z at c.part.ensures.value in
-    simp to_z-of_z (value ∙ ap (part c.args.x) is ∙ unit_part_is c.args.x c.args.x c.args.y c.args.z x_small y_small z_small)
+    simp to_z-of_z (value ∙ unit_is c.args.x c.args.x c.args.y c.args.z c.args.n x_is y_is z_is is)
 
 pub returns-clause-y : goal.returns-clause-y
 returns-clause-y c =
     let x_is : FitsSigned w32 c.args.x = c.ranges.x in
     let y_is : FitsSigned w32 c.args.y = c.ranges.y in
     let z_is : FitsSigned w32 c.args.z = c.ranges.z in
-    let x_small : unsigned_abs c.args.x < 4611686018427387904 = omega (arith, ints) in
-    let y_small : unsigned_abs c.args.y < 4611686018427387904 = omega (arith, ints) in
-    let z_small : unsigned_abs c.args.z < 4611686018427387904 = omega (arith, ints) in
     let is : c.args.n ≡ norm c.args.x c.args.y c.args.z = c.requires.length in
-    let part_fits : FitsSigned w32 c.part-2.result = omega (arith, ints, c.part-2.ensures.raw.0, c.part-2.ensures.raw.1) in
+    let fits : FitsSigned w32 c.part-2.result = omega (arith, ints, c.part-2.ensures.raw.0, c.part-2.ensures.raw.1) in
     let value = simp to_z-of_z at c.part-2.ensures.value in
-    simp to_z-of_z (value ∙ ap (part c.args.y) is ∙ unit_part_is c.args.y c.args.x c.args.y c.args.z x_small y_small z_small)
+    simp to_z-of_z (value ∙ unit_is c.args.y c.args.x c.args.y c.args.z c.args.n x_is y_is z_is is)
 
 pub returns-clause-z : goal.returns-clause-z
 returns-clause-z c =
     let x_is : FitsSigned w32 c.args.x = c.ranges.x in
     let y_is : FitsSigned w32 c.args.y = c.ranges.y in
     let z_is : FitsSigned w32 c.args.z = c.ranges.z in
-    let x_small : unsigned_abs c.args.x < 4611686018427387904 = omega (arith, ints) in
-    let y_small : unsigned_abs c.args.y < 4611686018427387904 = omega (arith, ints) in
-    let z_small : unsigned_abs c.args.z < 4611686018427387904 = omega (arith, ints) in
     let is : c.args.n ≡ norm c.args.x c.args.y c.args.z = c.requires.length in
-    let part_fits : FitsSigned w32 c.part-3.result = omega (arith, ints, c.part-3.ensures.raw.0, c.part-3.ensures.raw.1) in
+    let fits : FitsSigned w32 c.part-3.result = omega (arith, ints, c.part-3.ensures.raw.0, c.part-3.ensures.raw.1) in
     let value = simp to_z-of_z at c.part-3.ensures.value in
-    simp to_z-of_z (value ∙ ap (part c.args.z) is ∙ unit_part_is c.args.z c.args.x c.args.y c.args.z x_small y_small z_small)
+    simp to_z-of_z (value ∙ unit_is c.args.z c.args.x c.args.y c.args.z c.args.n x_is y_is z_is is)

@@ -1,8 +1,7 @@
-use Rattle.std.proofs.Common.{arith, ◌∙◌, ◌<◌, w32, FitsSigned, ◌≡◌, ap}
-use Rattle.std.specs.Int.RustNames.{unsigned_abs}
+use Rattle.std.proofs.Common.{arith, ◌∙◌, ◌≡◌, w32, FitsSigned}
 use Rattle.std.proofs.lemmas.Int.{ints, to_z-of_z}
-use Rattle.fixed_math.specs.Unit.{norm, part}
-use Rattle.fixed_math.proofs.Units.{norm_ge, unit_part_is}
+use Rattle.fixed_math.specs.Unit.{norm}
+use Rattle.lanes.proofs.NearUnits.{parts_within, unit_is}
 use Rattle.lanes.proofs.direction.unit_fine.Goals as goal
 
 pub fine_part-requires-clause-le : goal.fine_part-requires-clause-le
@@ -10,72 +9,51 @@ fine_part-requires-clause-le c =
     let x_is : FitsSigned w32 c.args.x = c.ranges.x in
     let y_is : FitsSigned w32 c.args.y = c.ranges.y in
     let z_is : FitsSigned w32 c.args.z = c.ranges.z in
-    let x_small : unsigned_abs c.args.x < 4611686018427387904 = omega (arith, ints) in
-    let y_small : unsigned_abs c.args.y < 4611686018427387904 = omega (arith, ints) in
-    let z_small : unsigned_abs c.args.z < 4611686018427387904 = omega (arith, ints) in
     let is : c.args.n ≡ norm c.args.x c.args.y c.args.z = c.requires.length in
-    let le = (norm_ge c.args.x c.args.y c.args.z x_small y_small z_small).0 in
-    simp (to_z-of_z, is) le
+    let within = parts_within c.args.x c.args.y c.args.z c.args.n x_is y_is z_is is in simp to_z-of_z within.0
 
 pub fine_part-requires-2-clause-le : goal.fine_part-requires-2-clause-le
 fine_part-requires-2-clause-le c =
     let x_is : FitsSigned w32 c.args.x = c.ranges.x in
     let y_is : FitsSigned w32 c.args.y = c.ranges.y in
     let z_is : FitsSigned w32 c.args.z = c.ranges.z in
-    let x_small : unsigned_abs c.args.x < 4611686018427387904 = omega (arith, ints) in
-    let y_small : unsigned_abs c.args.y < 4611686018427387904 = omega (arith, ints) in
-    let z_small : unsigned_abs c.args.z < 4611686018427387904 = omega (arith, ints) in
     let is : c.args.n ≡ norm c.args.x c.args.y c.args.z = c.requires.length in
-    let le = (norm_ge c.args.x c.args.y c.args.z x_small y_small z_small).1 in
-    simp (to_z-of_z, is) le
+    let within = parts_within c.args.x c.args.y c.args.z c.args.n x_is y_is z_is is in simp to_z-of_z within.1
 
 pub fine_part-requires-3-clause-le : goal.fine_part-requires-3-clause-le
 fine_part-requires-3-clause-le c =
     let x_is : FitsSigned w32 c.args.x = c.ranges.x in
     let y_is : FitsSigned w32 c.args.y = c.ranges.y in
     let z_is : FitsSigned w32 c.args.z = c.ranges.z in
-    let x_small : unsigned_abs c.args.x < 4611686018427387904 = omega (arith, ints) in
-    let y_small : unsigned_abs c.args.y < 4611686018427387904 = omega (arith, ints) in
-    let z_small : unsigned_abs c.args.z < 4611686018427387904 = omega (arith, ints) in
     let is : c.args.n ≡ norm c.args.x c.args.y c.args.z = c.requires.length in
-    let le = (norm_ge c.args.x c.args.y c.args.z x_small y_small z_small).2 in
-    simp (to_z-of_z, is) le
+    let within = parts_within c.args.x c.args.y c.args.z c.args.n x_is y_is z_is is in simp to_z-of_z within.2
 
 pub returns-clause-x : goal.returns-clause-x
 returns-clause-x c =
     let x_is : FitsSigned w32 c.args.x = c.ranges.x in
     let y_is : FitsSigned w32 c.args.y = c.ranges.y in
     let z_is : FitsSigned w32 c.args.z = c.ranges.z in
-    let x_small : unsigned_abs c.args.x < 4611686018427387904 = omega (arith, ints) in
-    let y_small : unsigned_abs c.args.y < 4611686018427387904 = omega (arith, ints) in
-    let z_small : unsigned_abs c.args.z < 4611686018427387904 = omega (arith, ints) in
     let is : c.args.n ≡ norm c.args.x c.args.y c.args.z = c.requires.length in
-    let part_fits : FitsSigned w32 c.fine_part.result = omega (arith, ints, c.fine_part.ensures.raw.0, c.fine_part.ensures.raw.1) in
+    let fits : FitsSigned w32 c.fine_part.result = omega (arith, ints, c.fine_part.ensures.raw.0, c.fine_part.ensures.raw.1) in
     let value = simp to_z-of_z at c.fine_part.ensures.value in
-    simp to_z-of_z (value ∙ ap (part c.args.x) is ∙ unit_part_is c.args.x c.args.x c.args.y c.args.z x_small y_small z_small)
+    simp to_z-of_z (value ∙ unit_is c.args.x c.args.x c.args.y c.args.z c.args.n x_is y_is z_is is)
 
 pub returns-clause-y : goal.returns-clause-y
 returns-clause-y c =
     let x_is : FitsSigned w32 c.args.x = c.ranges.x in
     let y_is : FitsSigned w32 c.args.y = c.ranges.y in
     let z_is : FitsSigned w32 c.args.z = c.ranges.z in
-    let x_small : unsigned_abs c.args.x < 4611686018427387904 = omega (arith, ints) in
-    let y_small : unsigned_abs c.args.y < 4611686018427387904 = omega (arith, ints) in
-    let z_small : unsigned_abs c.args.z < 4611686018427387904 = omega (arith, ints) in
     let is : c.args.n ≡ norm c.args.x c.args.y c.args.z = c.requires.length in
-    let part_fits : FitsSigned w32 c.fine_part-2.result = omega (arith, ints, c.fine_part-2.ensures.raw.0, c.fine_part-2.ensures.raw.1) in
+    let fits : FitsSigned w32 c.fine_part-2.result = omega (arith, ints, c.fine_part-2.ensures.raw.0, c.fine_part-2.ensures.raw.1) in
     let value = simp to_z-of_z at c.fine_part-2.ensures.value in
-    simp to_z-of_z (value ∙ ap (part c.args.y) is ∙ unit_part_is c.args.y c.args.x c.args.y c.args.z x_small y_small z_small)
+    simp to_z-of_z (value ∙ unit_is c.args.y c.args.x c.args.y c.args.z c.args.n x_is y_is z_is is)
 
 pub returns-clause-z : goal.returns-clause-z
 returns-clause-z c =
     let x_is : FitsSigned w32 c.args.x = c.ranges.x in
     let y_is : FitsSigned w32 c.args.y = c.ranges.y in
     let z_is : FitsSigned w32 c.args.z = c.ranges.z in
-    let x_small : unsigned_abs c.args.x < 4611686018427387904 = omega (arith, ints) in
-    let y_small : unsigned_abs c.args.y < 4611686018427387904 = omega (arith, ints) in
-    let z_small : unsigned_abs c.args.z < 4611686018427387904 = omega (arith, ints) in
     let is : c.args.n ≡ norm c.args.x c.args.y c.args.z = c.requires.length in
-    let part_fits : FitsSigned w32 c.fine_part-3.result = omega (arith, ints, c.fine_part-3.ensures.raw.0, c.fine_part-3.ensures.raw.1) in
+    let fits : FitsSigned w32 c.fine_part-3.result = omega (arith, ints, c.fine_part-3.ensures.raw.0, c.fine_part-3.ensures.raw.1) in
     let value = simp to_z-of_z at c.fine_part-3.ensures.value in
-    simp to_z-of_z (value ∙ ap (part c.args.z) is ∙ unit_part_is c.args.z c.args.x c.args.y c.args.z x_small y_small z_small)
+    simp to_z-of_z (value ∙ unit_is c.args.z c.args.x c.args.y c.args.z c.args.n x_is y_is z_is is)

@@ -1,0 +1,10 @@
+use Rattle.std.proofs.Common.{◌≡◌, ℕ, ◌<◌, length}
+use Rattle.lanes.specs.Masks.{choose}
+use Rattle.lanes.specs.Rows.{at}
+use Rattle.lanes.proofs.calls.select.Given as goal
+
+abbrev pub invariant-loop-i : goal.invariant-loop-i
+invariant-loop-i l = record {
+  long : length l.out ≡ length l.initial.out;
+  each : (k : ℕ) → k < l.i → at l.out k ≡ choose (at l.mask k) (at l.a k) (at l.b k);
+}
