@@ -55,7 +55,7 @@ mix_step s a b h =
 difference : (q p a b c x y z u v w : ℤ) → q ≡ a +ℤ (b +ℤ c) → p ≡ x +ℤ (y +ℤ z) → u ≡ a -ℤ x → v ≡ b -ℤ y → w ≡ c -ℤ z → q -ℤ p ≡ u +ℤ (v +ℤ w)
 difference q p a b c x y z u v w e f g h k = rw (e, f, g, h, k) (omega (arith, ints))
 
-quad_ring : (s : ℕ) (a b c x y p : ℤ) → x ≡ pos 4096 *ℤ a +ℤ pos s *ℤ (b -ℤ a) → y ≡ pos 4096 *ℤ b +ℤ pos s *ℤ (c -ℤ b) → p ≡ pos 4096 *ℤ x +ℤ pos s *ℤ (y -ℤ x) →
+pub quad_ring : (s : ℕ) (a b c x y p : ℤ) → x ≡ pos 4096 *ℤ a +ℤ pos s *ℤ (b -ℤ a) → y ≡ pos 4096 *ℤ b +ℤ pos s *ℤ (c -ℤ b) → p ≡ pos 4096 *ℤ x +ℤ pos s *ℤ (y -ℤ x) →
     p ≡ pos (2 ^ 24) *ℤ a +ℤ (pos (2 ^ 13 * s) *ℤ (b -ℤ a) +ℤ pos (s * s) *ℤ ((c -ℤ b) -ℤ (b -ℤ a)))
 quad_ring s a b c x y p e f g = rw (g, e, f) (simp (expand, mul-mul) (omega (arith, ints)))
 

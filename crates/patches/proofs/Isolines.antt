@@ -16,17 +16,18 @@ use Rattle.patches.specs.Boxes.{IsWithin}
 use Rattle.patches.specs.BoxLaws.{part-by_axes, by_axes_same, blossom_point-within, bilinear_point-blossom, bicubic_point-blossom}
 use Rattle.patches.specs.Curves.{value_at, slope_at, along, place_at, IsCurve}
 use Rattle.patches.specs.declared.curve.Coordinate.{Coordinate}
-use Rattle.patches.specs.declared.curve.Curve.{Curve}
+use Rattle.patches.specs.declared.curve.PolynomialCurve.{PolynomialCurve}
+use Rattle.patches.specs.declared.curve.Curve.TheVariants.{Polynomial}
 use Rattle.patches.specs.Nets.{control, bilinear_point, bicubic_point}
 use Rattle.patches.specs.Slopes.{triple, AreBelow, steps_u, steps_v, weights_0, weights_2, bilinear_du, bilinear_dv, bicubic_du, bicubic_dv}
 use Rattle.patches.proofs.Cubics.{weighted_net_2_3, weighted_net_3_2}
 use Rattle.patches.proofs.Curves.{floor_scale}
 use Rattle.patches.proofs.Fractions.{one_weight, one_column, same_wide}
 
-triple_same : (f g : Axis → ℤ) → ((a : Axis) → f a ≡ g a) → triple f ≡ triple g
+pub triple_same : (f g : Axis → ℤ) → ((a : Axis) → f a ≡ g a) → triple f ≡ triple g
 triple_same f g e = let x = e X in let y = e Y in let z = e Z in cc
 
-triple_below : (f : Axis → ℤ) (m : ℕ) → ((a : Axis) → unsigned_abs (f a) ≤ m) → AreBelow m (triple f)
+pub triple_below : (f : Axis → ℤ) (m : ℕ) → ((a : Axis) → unsigned_abs (f a) ≤ m) → AreBelow m (triple f)
 triple_below f m h zero = h X
 triple_below f m h (suc zero) = h Y
 triple_below f m h (suc (suc zero)) = h Z
@@ -85,11 +86,11 @@ bicubic_dv-below ps u v hu hv h =
     (omega arith, hu, (omega arith, hu, (omega arith, hu, tt))) (omega arith, hv, (omega arith, hv, tt))
     (λ x y. let s = step_abs (control 4 ps a x y) (control 4 ps a x (y + 1)) (2 ^ 30) (h (4 * y + x) a) (h (4 * (y + 1) + x) a) in omega (arith, s)) in omega (arith, b))))
 
-pub bicubic_curve : (c : Curve) (ps : List Vec3) (v : ℕ) → v ≤ 4096 → AreWithin (2 ^ 30) ps →
+pub bicubic_curve : (c : PolynomialCurve) (ps : List Vec3) (v : ℕ) → v ≤ 4096 → AreWithin (2 ^ 30) ps →
     ((a : Axis) (u : ℕ) → u ≤ 4096 → value_at (along a c).place u ≡ weighted_net (weights_3 u) (weights_3 v) (control 4 ps a)) →
     ((a : Axis) (u : ℕ) → u ≤ 4096 → slope_at (along a c).place u ≡ pos 3 *ℤ weighted_net (weights_2 u) (weights_3 v) (steps_u (control 4 ps a))) →
     ((a : Axis) (u : ℕ) → u ≤ 4096 → value_at (along a c).rise u ≡ pos 3 *ℤ weighted_net (weights_3 u) (weights_2 v) (steps_v (control 4 ps a))) →
-    IsCurve c (λ u. bicubic_point ps u v) (λ u. bicubic_du ps u v) (λ u. bicubic_dv ps u v)
+    IsCurve (Polynomial c) (λ u. bicubic_point ps u v) (λ u. bicubic_du ps u v) (λ u. bicubic_dv ps u v)
 bicubic_curve c ps v hv h place across up = record {
   points = λ u k. by_axes_same (λ a. place_at (along a c) u) (λ a. floor_by (weighted_net (weights_3 u) (weights_3 v) (control 4 ps a)) (denominator ^ 6))
       (λ a. place_is (along a c) u _ (ap (λ z. floor_by z (denominator ^ 6)) (place a u k))
@@ -127,11 +128,11 @@ bilinear_dv-below ps u v hu h =
     let far = step_abs (P 1 0) (P 1 1) (2 ^ 30) (h 1 a) (h 3 a) in
     edge_below u (P 0 1 -ℤ P 0 0) (P 1 1 -ℤ P 1 0) _ hu (omega (arith, near)) (omega (arith, far)) (one_column (denominator - u) u (P 0 1 -ℤ P 0 0) (P 1 1 -ℤ P 1 0)))
 
-pub bilinear_curve : (c : Curve) (ps : List Vec3) (v : ℕ) → v ≤ 4096 → AreWithin (2 ^ 30) ps →
+pub bilinear_curve : (c : PolynomialCurve) (ps : List Vec3) (v : ℕ) → v ≤ 4096 → AreWithin (2 ^ 30) ps →
     ((a : Axis) (u : ℕ) → u ≤ 4096 → value_at (along a c).place u ≡ pos (2 ^ 48) *ℤ weighted_net (weights_1 u) (weights_1 v) (control 2 ps a)) →
     ((a : Axis) (u : ℕ) → slope_at (along a c).place u ≡ pos (2 ^ 48) *ℤ weighted_net weights_0 (weights_1 v) (steps_u (control 2 ps a))) →
     ((a : Axis) (u : ℕ) → u ≤ 4096 → value_at (along a c).rise u ≡ pos (2 ^ 48) *ℤ weighted_net (weights_1 u) weights_0 (steps_v (control 2 ps a))) →
-    IsCurve c (λ u. bilinear_point ps u v) (λ u. bilinear_du ps u v) (λ u. bilinear_dv ps u v)
+    IsCurve (Polynomial c) (λ u. bilinear_point ps u v) (λ u. bilinear_du ps u v) (λ u. bilinear_dv ps u v)
 bilinear_curve c ps v hv h place across up = record {
   points = λ u k. by_axes_same (λ a. place_at (along a c) u) (λ a. floor_by (weighted_net (weights_1 u) (weights_1 v) (control 2 ps a)) (denominator ^ 2))
       (λ a. place_is (along a c) u _

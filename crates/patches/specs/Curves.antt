@@ -1,4 +1,4 @@
--- Isoparametric curves: a surface at one v, by polynomials of u over the denominator.
+-- Isoparametric curves: a surface at one v, by polynomials of u over the denominator or by quotients of polynomials.
 use Rattle.std.specs.Prelude.{ℕ, ◌*◌, ◌^◌, ◌≤◌, ◌≡◌, ℤ, pos, ◌+ℤ◌, ◌*ℤ◌, List}
 use Rattle.fixed_math.specs.declared.vec3.Vec3.{Vec3}
 use Rattle.fixed_math.specs.declared.vec3.Axis.{Axis}
@@ -9,8 +9,11 @@ use Rattle.fixed_math.specs.Fixed.{sat}
 use Rattle.fixed_math.specs.Whole.{floor_by}
 use Rattle.patches.specs.declared.cubic.Cubic.{Cubic}
 use Rattle.patches.specs.declared.curve.Coordinate.{Coordinate}
+use Rattle.patches.specs.declared.curve.PolynomialCurve.{PolynomialCurve}
 use Rattle.patches.specs.declared.curve.Curve.{Curve}
+use Rattle.patches.specs.declared.curve.Curve.TheVariants.{Polynomial, Rational}
 use Rattle.patches.specs.Boxes.{IsWithin}
+use Rattle.patches.specs.RationalCurves.{rational_along, rational_place, rational_across, rational_up}
 use Rattle.patches.specs.Slopes.{triple, AreBelow}
 
 -- a polynomial and its derivative
@@ -33,22 +36,25 @@ across_at c u = floor_by (slope_at c.place u) (denominator ^ 5)
 abbrev pub up_at : Coordinate → ℕ → ℤ
 up_at c u = floor_by (value_at c.rise u) (denominator ^ 5)
 
-abbrev pub along : Axis → Curve → Coordinate
+abbrev pub along : Axis → PolynomialCurve → Coordinate
 along X c = c.x
 along Y c = c.y
 along Z c = c.z
 
 -- the point of a curve at u
 abbrev pub curve_point : Curve → ℕ → Vec3
-curve_point c u = by_axes (λ a. place_at (along a c) u)
+curve_point (Polynomial c) u = by_axes (λ a. place_at (along a c) u)
+curve_point (Rational c) u = by_axes (λ a. rational_place c.under (rational_along a c) u)
 
 -- the derivative along u there
 abbrev pub curve_du : Curve → ℕ → List ℤ
-curve_du c u = triple (λ a. across_at (along a c) u)
+curve_du (Polynomial c) u = triple (λ a. across_at (along a c) u)
+curve_du (Rational c) u = triple (λ a. rational_across c.across_under (rational_along a c) u)
 
 -- the derivative along v there
 abbrev pub curve_dv : Curve → ℕ → List ℤ
-curve_dv c u = triple (λ a. up_at (along a c) u)
+curve_dv (Polynomial c) u = triple (λ a. up_at (along a c) u)
+curve_dv (Rational c) u = triple (λ a. rational_up c.up_under (rational_along a c) u)
 
 -- the curve has these points and derivatives, of which none is large
 pub record IsCurve (c : Curve) (point : ℕ → Vec3) (du dv : ℕ → List ℤ) : Type 0 where

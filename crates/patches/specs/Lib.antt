@@ -4,6 +4,7 @@ pub mod Lists
 pub mod Nets
 pub mod Slopes
 pub mod Boxes
+pub mod RationalCurves
 pub mod Curves
 pub mod BoxLaws
 pub mod ListLaws

@@ -15,7 +15,7 @@ ghost use Rattle.patches.specs.Slopes.{bicubic_du, bicubic_dv, weights_2, steps_
 use crate::blossoms::{Arguments, Column, blossom_3, column_at, ends_of};
 use crate::boxes::box_of_points;
 use crate::cubic::Cubic;
-use crate::curve::{Coordinate, Curve};
+use crate::curve::{Coordinate, Curve, PolynomialCurve};
 use crate::piece::{Dyadic, Piece, Span, span_at};
 use crate::surface::Surface;
 use arrayvec::ArrayVec;
@@ -184,11 +184,11 @@ impl Bicubic {
         ensures { IsCurve result (λ u. bicubic_point self.now u v) (λ u. bicubic_du self.now u v) (λ u. bicubic_dv self.now u v) }
     {
         let v = v.numerator();
-        Curve {
+        Curve::Polynomial(PolynomialCurve {
             x: coordinate_along(&self.points, Axis::X, v),
             y: coordinate_along(&self.points, Axis::Y, v),
             z: coordinate_along(&self.points, Axis::Z, v),
-        }
+        })
     }
 }
 

@@ -13,7 +13,7 @@ ghost use Rattle.patches.specs.Slopes.{bilinear_du, bilinear_dv, weights_0, step
 
 use crate::boxes::box_of_points;
 use crate::cubic::Cubic;
-use crate::curve::{Coordinate, Curve};
+use crate::curve::{Coordinate, Curve, PolynomialCurve};
 use crate::mixing::mix_short;
 use crate::piece::{Dyadic, Piece, span_at};
 use crate::surface::Surface;
@@ -131,11 +131,11 @@ impl Bilinear {
         ensures { IsCurve result (λ u. bilinear_point self.now u v) (λ u. bilinear_du self.now u v) (λ u. bilinear_dv self.now u v) }
     {
         let v = v.numerator();
-        Curve {
+        Curve::Polynomial(PolynomialCurve {
             x: coordinate_along(&self.points, Axis::X, v),
             y: coordinate_along(&self.points, Axis::Y, v),
             z: coordinate_along(&self.points, Axis::Z, v),
-        }
+        })
     }
 }
 

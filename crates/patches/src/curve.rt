@@ -1,12 +1,15 @@
-// Isoparametric curves: a surface at one v, by polynomials of u.
+// Isoparametric curves: a surface at one v, by polynomials of u or by their quotients.
 ghost use Rattle.std.specs.Prelude.{◌≡◌, ◌≤◌, ◌<◌, ◌*◌, ◌+◌, ◌^◌, ℕ, ℤ, pos, ◌*ℤ◌, ◌+ℤ◌, ◌-ℤ◌, [], ◌∷◌, unsigned_abs};
 ghost use Rattle.fixed_math.specs.Blossom.{blossom, denominator, mix as mix_of};
+ghost use Rattle.fixed_math.specs.Axes.{by_axes};
 ghost use Rattle.fixed_math.specs.Whole.{floor_by as floor_of};
-ghost use Rattle.patches.specs.Curves.{value_at, slope_at, place_at, across_at, up_at, curve_point, curve_du, curve_dv};
+ghost use Rattle.patches.specs.Slopes.{triple};
+ghost use Rattle.patches.specs.Curves.{value_at, slope_at, place_at, across_at, up_at, along, curve_point, curve_du, curve_dv};
 
 use crate::cubic::Cubic;
 use crate::mixing::raised;
 use crate::piece::Dyadic;
+use crate::quadratic::RationalCurve;
 use fixed_math::{Num, Vec3, floor_by, minus, scaled};
 
 impl Cubic {
@@ -113,12 +116,46 @@ impl Coordinate {
     }
 }
 
-/// The curve of a surface at one v. Points and derivatives along it cost much less than one by one.
+/// The curve of a polynomial surface at one v.
 #[derive(Clone, Copy)]
-pub struct Curve {
+pub struct PolynomialCurve {
     pub x: Coordinate,
     pub y: Coordinate,
     pub z: Coordinate,
+}
+
+impl PolynomialCurve {
+    fn point(&self, u: u16) -> Vec3
+        requires { u ≤ 4096 }
+        ensures { result ≡ by_axes (λ a. place_at (along a self.now) u) }
+    {
+        Vec3 {
+            x: self.x.place_at(u),
+            y: self.y.place_at(u),
+            z: self.z.place_at(u),
+        }
+    }
+
+    fn du(&self, u: u16) -> [i64; 3]
+        requires { u ≤ 4096 }
+        ensures { result ≡ triple (λ a. across_at (along a self.now) u) }
+    {
+        [self.x.du_at(u), self.y.du_at(u), self.z.du_at(u)]
+    }
+
+    fn dv(&self, u: u16) -> [i64; 3]
+        requires { u ≤ 4096 }
+        ensures { result ≡ triple (λ a. up_at (along a self.now) u) }
+    {
+        [self.x.dv_at(u), self.y.dv_at(u), self.z.dv_at(u)]
+    }
+}
+
+/// The curve of a surface at one v. Points and derivatives along it cost much less than one by one.
+#[derive(Clone, Copy)]
+pub enum Curve {
+    Polynomial(PolynomialCurve),
+    Rational(RationalCurve),
 }
 
 impl Curve {
@@ -128,10 +165,9 @@ impl Curve {
         ensures within { u ≤ 4096 }
     {
         let u = u.numerator();
-        Vec3 {
-            x: self.x.place_at(u),
-            y: self.y.place_at(u),
-            z: self.z.place_at(u),
+        match self {
+            Curve::Polynomial(curve) => curve.point(u),
+            Curve::Rational(curve) => curve.point(u),
         }
     }
 
@@ -141,7 +177,10 @@ impl Curve {
         ensures within { u ≤ 4096 }
     {
         let u = u.numerator();
-        [self.x.du_at(u), self.y.du_at(u), self.z.du_at(u)]
+        match self {
+            Curve::Polynomial(curve) => curve.du(u),
+            Curve::Rational(curve) => curve.du(u),
+        }
     }
 
     /// The partial derivative along v at `u`.
@@ -150,6 +189,9 @@ impl Curve {
         ensures within { u ≤ 4096 }
     {
         let u = u.numerator();
-        [self.x.dv_at(u), self.y.dv_at(u), self.z.dv_at(u)]
+        match self {
+            Curve::Polynomial(curve) => curve.dv(u),
+            Curve::Rational(curve) => curve.dv(u),
+        }
     }
 }

@@ -10,12 +10,16 @@ mod curve;
 mod mixing;
 mod patch;
 mod piece;
+mod quadratic;
+mod rational;
 mod surface;
 
 pub use bicubic::Bicubic;
 pub use bilinear::Bilinear;
 pub use cubic::Cubic;
-pub use curve::{Coordinate, Curve};
+pub use curve::{Coordinate, Curve, PolynomialCurve};
 pub use patch::Patch;
 pub use piece::{Dyadic, Piece};
+pub use quadratic::{Quadratic, RationalCoordinate, RationalCurve};
+pub use rational::factor_at;
 pub use surface::Surface;

@@ -3,3 +3,5 @@ mod Derivatives
 mod Mixes
 mod Quadratics
 mod SlopeSteps
+mod Columns
+mod QuadricCurves

@@ -91,8 +91,11 @@ impl Surface for Quadric {
         }
     }
 
-    fn curve_at(&self, _v: Dyadic) -> Option<Curve> {
-        None
+    fn curve_at(&self, v: Dyadic) -> Option<Curve> {
+        match self {
+            Quadric::Round(patch) => patch.curve_at(v),
+            Quadric::Ruled(patch) => patch.curve_at(v),
+        }
     }
 
     fn net(&self, piece: &Piece) -> ArrayVec<Vec3, 16> {

@@ -1,12 +1,10 @@
-// Quotients: blossoms of three control numbers, denominators, and slopes.
+// Blossoms of three control numbers, and denominators.
 ghost use Rattle.std.specs.Prelude.{◌≡◌, ◌≤◌, ◌<◌, ◌*◌, ◌+◌, ◌^◌, ℕ, List, [], ◌∷◌, pos, ◌*ℤ◌, unsigned_abs, slice_index_or};
 ghost use Rattle.fixed_math.specs.Blossom.{blossom};
 ghost use Rattle.quadrics.specs.Rational.{quarter, spread};
-ghost use Rattle.quadrics.specs.QuadricSlopes.{slope as slope_of};
 
 use crate::mixing::mix;
 use crate::spans::Span;
-use fixed_math::{floor_by, minus, scaled};
 
 /// Two arguments of a blossom.
 #[derive(Clone, Copy)]
@@ -74,26 +72,4 @@ pub(crate) fn under(a: u128, b: u64) -> u128
     ensures bound { result ≤ 2 ^ 75 }
 {
     a * b as u128
-}
-
-/// The slope of a quotient, rounded down: `s` and `n` are its numerator's derivative and its numerator, `a` and `d` the
-/// denominator's factor along the same parameter and that factor's derivative, `b` the other factor.
-pub(crate) fn slope(s: i128, a: u64, n: i128, d: u64, b: u64) -> i64
-    requires some_a { 0 < a }
-    requires some_b { 0 < b }
-    requires small_a { a ≤ 2 ^ 25 }
-    requires small_b { b ≤ 2 ^ 25 }
-    requires fits { a * unsigned_abs s + d * unsigned_abs n ≤ 2 ^ 100 }
-    requires room { 4096 * (a * unsigned_abs s + d * unsigned_abs n) ≤ a * a * b * 2 ^ 40 }
-    ensures value { result ≡ slope_of s a n (pos d) b }
-    ensures bound { unsigned_abs result ≤ 2 ^ 40 }
-{
-    let rise = scaled(a as u128, s);
-    let fall = scaled(d as u128, n);
-    let run = minus(rise, fall);
-    let exact = scaled(4096, run);
-    let square = under(a as u128, a);
-    let cube = under(square, b);
-    let floor = floor_by(exact, cube);
-    floor as i64
 }

@@ -2,21 +2,24 @@
 ghost use Rattle.std.specs.Prelude.{◌≡◌, ◌≤◌, ◌<◌, ◌*◌, ◌+◌, ◌-◌, ◌^◌, ℕ, ℤ, List, [], ◌∷◌, ◌++◌, map, length, pos, ◌*ℤ◌, unsigned_abs};
 ghost use Rattle.fixed_math.specs.declared.vec3.Vec3.{Vec3};
 ghost use Rattle.fixed_math.specs.Axes.{AreWithin};
-ghost use Rattle.fixed_math.specs.Tensor.{blossom_net, weighted_net, weights_1};
+ghost use Rattle.fixed_math.specs.Tensor.{blossom_net, weighted_net};
 ghost use Rattle.patches.specs.Boxes.{IsWithin};
+ghost use Rattle.patches.specs.Curves.{IsCurve};
+ghost use Rattle.patches.specs.RationalCurves.{quadratic_at};
 ghost use Rattle.patches.specs.Nets.{control, all_ends};
-ghost use Rattle.patches.specs.Slopes.{AreBelow, weights_2, steps_u, steps_v};
+ghost use Rattle.patches.specs.Slopes.{AreBelow, weights_2};
 ghost use Rattle.quadrics.specs.Rational.{quarter, heavy, spread, rational_coordinate, rational_blossom, round_point, round_net};
 ghost use Rattle.quadrics.specs.RationalLaws.{round_box, round_inside, round_parts, round_rows};
-ghost use Rattle.quadrics.specs.QuadricSlopes.{round_slope_u, round_slope_v, round_du, round_dv};
+ghost use Rattle.quadrics.specs.QuadricSlopes.{round_rise_u, round_rise_v, round_du, round_dv};
 
-use crate::mixing::mix;
-use crate::quotient::{Pair, blossom_2, quarter_at, slope, under};
-use crate::rows::{off_pole, row, steps_across};
+use crate::quotient::{Pair, blossom_2, quarter_at, under};
+use crate::rows::{column, off_pole, row, turn};
 use crate::spans::{Span, box_of_points, span_at};
 use arrayvec::ArrayVec;
-use fixed_math::{Axis, Num, Vec3, floor_by, minus, scaled};
-use patches::{Curve, Dyadic, Piece, Surface};
+use fixed_math::{Axis, Num, Vec3, floor_by, scaled};
+use patches::{
+    Curve, Dyadic, Piece, Quadratic, RationalCoordinate, RationalCurve, Surface, factor_at,
+};
 use std::marker::Model;
 
 /// A patch of a surface of revolution whose rows and columns are quarters of circles: nine control points by rows of three, u fastest,
@@ -88,66 +91,75 @@ fn point_at(points: &[Vec3; 9], us: Pair, vs: Pair) -> Vec3
     }
 }
 
-/// The numerator's derivative along u.
-fn rise_along_u(points: &[Vec3; 9], axis: Axis, u: u16, v: u16) -> i128
-    requires across { u ≤ 4096 }
-    requires up { v ≤ 4096 }
-    ensures value { result ≡ pos 2 *ℤ weighted_net (weights_1 u) (weights_2 v) (steps_u (heavy quarter quarter (control 3 points.now axis))) }
-    ensures bound { unsigned_abs result ≤ 2 ^ 72 }
+/// The numerator of a coordinate's places along the curve at `v`.
+fn place(points: &[Vec3; 9], axis: Axis, v: u16) -> Quadratic
+    requires { v ≤ 4096 }
+    ensures { (u : ℕ) → u ≤ 4096 → quadratic_at result u ≡ weighted_net (weights_2 u) (weights_2 v) (heavy quarter quarter (control 3 points.now axis)) }
 {
-    let vs = Pair::equal(v);
-    let a = steps_across(points, axis, 0, u);
-    let b = steps_across(points, axis, 1, u);
-    let c = steps_across(points, axis, 2, u);
+    let a = column(points, axis, 0, v);
+    let b = column(points, axis, 1, v);
+    let c = column(points, axis, 2, v);
     let twice = scaled(2, c);
-    let exact = blossom_2(vs, a, b, twice);
-    scaled(2, exact)
+    Quadratic::of_control(a, b, twice)
 }
 
-/// The numerator's derivative along v.
-fn rise_along_v(points: &[Vec3; 9], axis: Axis, u: u16, v: u16) -> i128
-    requires across { u ≤ 4096 }
-    requires up { v ≤ 4096 }
-    ensures value { result ≡ pos 2 *ℤ weighted_net (weights_2 u) (weights_1 v) (steps_v (heavy quarter quarter (control 3 points.now axis))) }
-    ensures bound { unsigned_abs result ≤ 2 ^ 72 }
+/// The numerator of its slopes along u.
+fn across(points: &[Vec3; 9], axis: Axis, v: u16) -> Quadratic
+    requires { v ≤ 4096 }
+    ensures { (u : ℕ) → u ≤ 4096 → quadratic_at result u ≡ round_rise_u points.now u v axis }
 {
-    let us = Pair::equal(u);
-    let a = row(points, axis, 0, us);
-    let b = row(points, axis, 1, us);
-    let c = row(points, axis, 2, us);
+    let a = column(points, axis, 0, v);
+    let b = column(points, axis, 1, v);
+    let c = column(points, axis, 2, v);
     let twice = scaled(2, c);
-    let first = minus(b, a);
-    let second = minus(twice, b);
-    let exact = mix(v, first, second);
-    scaled(2, exact)
+    Quadratic::of_turn(a, b, twice)
 }
 
-/// The slope of a coordinate along u, rounded down once.
-fn slope_along_u(points: &[Vec3; 9], axis: Axis, u: u16, v: u16) -> i64
-    requires across { u ≤ 4096 }
-    requires up { v ≤ 4096 }
-    ensures value { result ≡ round_slope_u points.now u v axis }
-    ensures bound { unsigned_abs result ≤ 2 ^ 40 }
+/// The numerator of its slopes along v.
+fn up(points: &[Vec3; 9], axis: Axis, v: u16) -> Quadratic
+    requires { v ≤ 4096 }
+    ensures { (u : ℕ) → u ≤ 4096 → quadratic_at result u ≡ round_rise_v points.now u v axis }
 {
-    let us = Pair::equal(u);
-    let vs = Pair::equal(v);
-    let rise = rise_along_u(points, axis, u, v);
-    let exact = numerator(points, axis, us, vs);
-    slope(rise, quarter_at(us), exact, 2 * u as u64, quarter_at(vs))
+    let a = turn(points, axis, 0, v);
+    let b = turn(points, axis, 1, v);
+    let c = turn(points, axis, 2, v);
+    let twice = scaled(2, c);
+    Quadratic::of_control(a, b, twice)
 }
 
-/// The slope of a coordinate along v, rounded down once.
-fn slope_along_v(points: &[Vec3; 9], axis: Axis, u: u16, v: u16) -> i64
-    requires across { u ≤ 4096 }
+/// A coordinate along the curve at `v`, with the slopes along u of that at `off`.
+fn coordinate(points: &[Vec3; 9], axis: Axis, v: u16, off: u16) -> RationalCoordinate
     requires up { v ≤ 4096 }
-    ensures value { result ≡ round_slope_v points.now u v axis }
-    ensures bound { unsigned_abs result ≤ 2 ^ 40 }
+    requires off { off ≤ 4096 }
+    ensures place { (u : ℕ) → u ≤ 4096 → quadratic_at result.place u ≡ weighted_net (weights_2 u) (weights_2 v) (heavy quarter quarter (control 3 points.now axis)) }
+    ensures across { (u : ℕ) → u ≤ 4096 → quadratic_at result.across u ≡ round_rise_u points.now u off axis }
+    ensures up { (u : ℕ) → u ≤ 4096 → quadratic_at result.up u ≡ round_rise_v points.now u v axis }
 {
-    let us = Pair::equal(u);
-    let vs = Pair::equal(v);
-    let rise = rise_along_v(points, axis, u, v);
-    let exact = numerator(points, axis, us, vs);
-    slope(rise, quarter_at(vs), exact, 2 * v as u64, quarter_at(us))
+    RationalCoordinate {
+        place: place(points, axis, v),
+        across: across(points, axis, off),
+        up: up(points, axis, v),
+    }
+}
+
+impl Round {
+    /// The curve at `v`.
+    fn curve(&self, v: Dyadic) -> Curve
+        ensures { IsCurve result (λ u. round_point self.now u v) (λ u. round_du self.now u v) (λ u. round_dv self.now u v) }
+    {
+        let v = v.numerator();
+        let off = off_pole(&self.points, 6, v);
+        let under = factor_at(v);
+        let square = under * under;
+        Curve::Rational(RationalCurve {
+            under,
+            across_under: factor_at(off),
+            up_under: square,
+            x: coordinate(&self.points, Axis::X, v, off),
+            y: coordinate(&self.points, Axis::Y, v, off),
+            z: coordinate(&self.points, Axis::Z, v, off),
+        })
+    }
 }
 
 /// Appends the row of the net at `vs`.
@@ -181,33 +193,19 @@ impl Surface for Round {
     ghost rows = { round_rows };
 
     fn point(&self, u: Dyadic, v: Dyadic) -> Vec3 {
-        let us = Pair::equal(u.numerator());
-        let vs = Pair::equal(v.numerator());
-        point_at(&self.points, us, vs)
+        self.curve(v).point(u)
     }
 
     fn du_at(&self, u: Dyadic, v: Dyadic) -> [i64; 3] {
-        let u = u.numerator();
-        let v = off_pole(&self.points, 6, v.numerator());
-        [
-            slope_along_u(&self.points, Axis::X, u, v),
-            slope_along_u(&self.points, Axis::Y, u, v),
-            slope_along_u(&self.points, Axis::Z, u, v),
-        ]
+        self.curve(v).du(u)
     }
 
     fn dv_at(&self, u: Dyadic, v: Dyadic) -> [i64; 3] {
-        let u = u.numerator();
-        let v = v.numerator();
-        [
-            slope_along_v(&self.points, Axis::X, u, v),
-            slope_along_v(&self.points, Axis::Y, u, v),
-            slope_along_v(&self.points, Axis::Z, u, v),
-        ]
+        self.curve(v).dv(u)
     }
 
-    fn curve_at(&self, _v: Dyadic) -> Option<Curve> {
-        None
+    fn curve_at(&self, v: Dyadic) -> Option<Curve> {
+        Some(self.curve(v))
     }
 
     fn net(&self, piece: &Piece) -> ArrayVec<Vec3, 16> {

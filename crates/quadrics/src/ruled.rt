@@ -2,22 +2,25 @@
 ghost use Rattle.std.specs.Prelude.{◌≡◌, ◌≤◌, ◌<◌, ◌*◌, ◌+◌, ◌-◌, ◌^◌, ℕ, ℤ, List, [], ◌∷◌, ◌++◌, map, length, pos, ◌*ℤ◌, unsigned_abs};
 ghost use Rattle.fixed_math.specs.declared.vec3.Vec3.{Vec3};
 ghost use Rattle.fixed_math.specs.Axes.{AreWithin};
+ghost use Rattle.fixed_math.specs.Blossom.{blossom};
 ghost use Rattle.fixed_math.specs.Tensor.{blossom_net, weighted_net, weights_1};
 ghost use Rattle.fixed_math.specs.Whole.{floor_by as floor_of};
 ghost use Rattle.patches.specs.Boxes.{IsWithin};
+ghost use Rattle.patches.specs.Curves.{IsCurve};
+ghost use Rattle.patches.specs.RationalCurves.{quadratic_at};
 ghost use Rattle.patches.specs.Nets.{control, all_ends};
-ghost use Rattle.patches.specs.Slopes.{AreBelow, weights_0, weights_2, steps_u, steps_v};
+ghost use Rattle.patches.specs.Slopes.{AreBelow, weights_2};
 ghost use Rattle.quadrics.specs.Rational.{quarter, even, heavy, spread, rational_blossom, ruled_point, ruled_net};
-ghost use Rattle.quadrics.specs.RationalLaws.{ruled_box, ruled_inside, ruled_parts, ruled_rows};
-ghost use Rattle.quadrics.specs.QuadricSlopes.{ruled_slope_u, ruled_slope_v, ruled_du, ruled_dv};
+ghost use Rattle.quadrics.specs.RationalLaws.{gap, ruled_box, ruled_inside, ruled_parts, ruled_rows};
+ghost use Rattle.quadrics.specs.QuadricSlopes.{ruled_rise_u, ruled_rise_v, ruled_du, ruled_dv};
 
 use crate::mixing::mix;
-use crate::quotient::{Pair, quarter_at, slope, under};
-use crate::rows::{off_pole, row, steps_across};
+use crate::quotient::{Pair, quarter_at, under};
+use crate::rows::{control_at, off_pole, row};
 use crate::spans::{Span, box_of_points, span_at};
 use arrayvec::ArrayVec;
 use fixed_math::{Axis, Num, Vec3, floor_by, minus, scaled};
-use patches::{Curve, Dyadic, Piece, Surface};
+use patches::{Curve, Dyadic, Piece, Quadratic, RationalCoordinate, RationalCurve, Surface};
 use std::marker::Model;
 
 /// A patch of a surface of revolution between two quarters of circles: six control points by rows of three, u fastest, with the weights
@@ -91,55 +94,96 @@ fn point_at(points: &[Vec3; 6], us: Pair, v: u16) -> Vec3
     }
 }
 
-/// The numerator's derivative along u.
-fn rise_along_u(points: &[Vec3; 6], axis: Axis, u: u16, v: u16) -> i128
-    requires across { u ≤ 4096 }
-    requires up { v ≤ 4096 }
-    ensures value { result ≡ pos 2 *ℤ weighted_net (weights_1 u) (weights_1 v) (steps_u (heavy quarter even (control 3 points.now axis))) }
-    ensures bound { unsigned_abs result ≤ 2 ^ 59 }
+/// The value at `v` of column `k` of the control points.
+fn column(points: &[Vec3; 6], axis: Axis, k: usize, v: u16) -> i128
+    requires column { k ≤ 2 }
+    requires from_zero { v ≤ 4096 }
+    ensures value { result ≡ blossom (v ∷ []) (λ y. pos (even y) *ℤ control 3 points.now axis k y) 0 }
+    ensures bound { unsigned_abs result ≤ 2 ^ 43 }
 {
-    let a = steps_across(points, axis, 0, u);
-    let b = steps_across(points, axis, 1, u);
-    let exact = mix(v, a, b);
-    scaled(2, exact)
+    let a = control_at(points, axis, k);
+    let b = control_at(points, axis, 3 + k);
+    mix(v, a, b)
 }
 
-/// The numerator's derivative along v.
-fn rise_along_v(points: &[Vec3; 6], axis: Axis, u: u16) -> i128
-    requires across { u ≤ 4096 }
-    ensures value { result ≡ weighted_net (weights_2 u) weights_0 (steps_v (heavy quarter even (control 3 points.now axis))) }
-    ensures bound { unsigned_abs result ≤ 2 ^ 57 }
+/// The rise of that column, times 4096 four times.
+fn rise(points: &[Vec3; 6], axis: Axis, k: usize) -> i128
+    requires { k ≤ 2 }
+    ensures value { result ≡ pos (2 ^ 48) *ℤ gap even (λ y. control 3 points.now axis k y) 0 }
+    ensures bound { unsigned_abs result ≤ 2 ^ 80 }
 {
-    let us = Pair::equal(u);
-    let a = row(points, axis, 0, us);
-    let b = row(points, axis, 1, us);
-    minus(b, a)
+    let a = control_at(points, axis, k);
+    let b = control_at(points, axis, 3 + k);
+    let step = minus(b, a);
+    scaled(1 << 48, step)
 }
 
-/// The slope of a coordinate along u, rounded down once.
-fn slope_along_u(points: &[Vec3; 6], axis: Axis, u: u16, v: u16) -> i64
-    requires across { u ≤ 4096 }
-    requires up { v ≤ 4096 }
-    ensures value { result ≡ ruled_slope_u points.now u v axis }
-    ensures bound { unsigned_abs result ≤ 2 ^ 40 }
+/// The numerator of a coordinate's places along the curve at `v`.
+fn place(points: &[Vec3; 6], axis: Axis, v: u16) -> Quadratic
+    requires { v ≤ 4096 }
+    ensures { (u : ℕ) → u ≤ 4096 → quadratic_at result u ≡ weighted_net (weights_2 u) (weights_1 v) (heavy quarter even (control 3 points.now axis)) }
 {
-    let us = Pair::equal(u);
-    let rise = rise_along_u(points, axis, u, v);
-    let exact = numerator(points, axis, us, v);
-    slope(rise, quarter_at(us), exact, 2 * u as u64, 4096)
+    let a = column(points, axis, 0, v);
+    let b = column(points, axis, 1, v);
+    let c = column(points, axis, 2, v);
+    let twice = scaled(2, c);
+    Quadratic::of_control(a, b, twice)
 }
 
-/// The slope of a coordinate along v, rounded down once.
-fn slope_along_v(points: &[Vec3; 6], axis: Axis, u: u16, v: u16) -> i64
-    requires across { u ≤ 4096 }
-    requires up { v ≤ 4096 }
-    ensures value { result ≡ ruled_slope_v points.now u v axis }
-    ensures bound { unsigned_abs result ≤ 2 ^ 40 }
+/// The numerator of its slopes along u.
+fn across(points: &[Vec3; 6], axis: Axis, v: u16) -> Quadratic
+    requires { v ≤ 4096 }
+    ensures { (u : ℕ) → u ≤ 4096 → quadratic_at result u ≡ ruled_rise_u points.now u v axis }
 {
-    let us = Pair::equal(u);
-    let rise = rise_along_v(points, axis, u);
-    let exact = numerator(points, axis, us, v);
-    slope(rise, 4096, exact, 0, quarter_at(us))
+    let a = column(points, axis, 0, v);
+    let b = column(points, axis, 1, v);
+    let c = column(points, axis, 2, v);
+    let twice = scaled(2, c);
+    Quadratic::of_turn(a, b, twice)
+}
+
+/// The numerator of its slopes along v, times 4096 twice.
+fn up(points: &[Vec3; 6], axis: Axis) -> Quadratic
+    ensures { (u v : ℕ) → u ≤ 4096 → v ≤ 4096 → quadratic_at result u ≡ pos (2 ^ 24) *ℤ ruled_rise_v points.now u v axis }
+{
+    let a = rise(points, axis, 0);
+    let b = rise(points, axis, 1);
+    let c = rise(points, axis, 2);
+    let twice = scaled(2, c);
+    Quadratic::of_control(a, b, twice)
+}
+
+/// A coordinate along the curve at `v`, with the slopes along u of that at `off`.
+fn coordinate(points: &[Vec3; 6], axis: Axis, v: u16, off: u16) -> RationalCoordinate
+    requires up { v ≤ 4096 }
+    requires off { off ≤ 4096 }
+    ensures place { (u : ℕ) → u ≤ 4096 → quadratic_at result.place u ≡ weighted_net (weights_2 u) (weights_1 v) (heavy quarter even (control 3 points.now axis)) }
+    ensures across { (u : ℕ) → u ≤ 4096 → quadratic_at result.across u ≡ ruled_rise_u points.now u off axis }
+    ensures up { (u : ℕ) → u ≤ 4096 → quadratic_at result.up u ≡ pos (2 ^ 24) *ℤ ruled_rise_v points.now u v axis }
+{
+    RationalCoordinate {
+        place: place(points, axis, v),
+        across: across(points, axis, off),
+        up: up(points, axis),
+    }
+}
+
+impl Ruled {
+    /// The curve at `v`.
+    fn curve(&self, v: Dyadic) -> Curve
+        ensures { IsCurve result (λ u. ruled_point self.now u v) (λ u. ruled_du self.now u v) (λ u. ruled_dv self.now u v) }
+    {
+        let v = v.numerator();
+        let off = off_pole(&self.points, 3, v);
+        Curve::Rational(RationalCurve {
+            under: 4096,
+            across_under: 4096,
+            up_under: 1 << 48,
+            x: coordinate(&self.points, Axis::X, v, off),
+            y: coordinate(&self.points, Axis::Y, v, off),
+            z: coordinate(&self.points, Axis::Z, v, off),
+        })
+    }
 }
 
 /// Appends the row of the net at `v`.
@@ -174,32 +218,19 @@ impl Surface for Ruled {
     ghost rows = { ruled_rows };
 
     fn point(&self, u: Dyadic, v: Dyadic) -> Vec3 {
-        let us = Pair::equal(u.numerator());
-        point_at(&self.points, us, v.numerator())
+        self.curve(v).point(u)
     }
 
     fn du_at(&self, u: Dyadic, v: Dyadic) -> [i64; 3] {
-        let u = u.numerator();
-        let v = off_pole(&self.points, 3, v.numerator());
-        [
-            slope_along_u(&self.points, Axis::X, u, v),
-            slope_along_u(&self.points, Axis::Y, u, v),
-            slope_along_u(&self.points, Axis::Z, u, v),
-        ]
+        self.curve(v).du(u)
     }
 
     fn dv_at(&self, u: Dyadic, v: Dyadic) -> [i64; 3] {
-        let u = u.numerator();
-        let v = v.numerator();
-        [
-            slope_along_v(&self.points, Axis::X, u, v),
-            slope_along_v(&self.points, Axis::Y, u, v),
-            slope_along_v(&self.points, Axis::Z, u, v),
-        ]
+        self.curve(v).dv(u)
     }
 
-    fn curve_at(&self, _v: Dyadic) -> Option<Curve> {
-        None
+    fn curve_at(&self, v: Dyadic) -> Option<Curve> {
+        Some(self.curve(v))
     }
 
     fn net(&self, piece: &Piece) -> ArrayVec<Vec3, 16> {
