@@ -1,9 +1,9 @@
 -- A fragment put into a list that is kept as its opaque fragment and what lies in front of that.
-use Rattle.std.proofs.Common.{◌≡◌, ℕ, zero, suc, ◌+◌, ◌<◌, ◌≤◌, ap, arith, refl, sym, ◌∙◌, Bool, true, false, List, [], ◌∷◌, ◌++◌, take, drop, length, insert, get_or, drop-cons, append_assoc}
+use Rattle.std.proofs.Common.{◌≡◌, ℕ, zero, suc, ◌+◌, ◌-◌, ◌<◌, ◌≤◌, ap, arith, refl, sym, subst, ◌∙◌, Bool, true, false, List, [], ◌∷◌, ◌++◌, take, drop, length, insert, get_or, slice_index_or, append_assoc}
 use Rattle.std.specs.Prelude.{ℤ, ◌≤ℤ◌, ◌<ℤ◌, int_le, int_lt, Option, Some, None, ◌||◌}
 use Rattle.std.specs.List.{list_any, cons_option}
 use Rattle.std.proofs.lemmas.Int.{ints}
-use Rattle.std.proofs.lemmas.List.{take_more}
+use Rattle.std.proofs.lemmas.List.{get_or_default}
 use Rattle.std.proofs.lemmas.List.Folds.{list_any-append}
 use Rattle.hider.specs.declared.fragment.Fragment.{Fragment}
 use Rattle.hider.specs.Composite.{is_opaque, cut}
@@ -18,43 +18,61 @@ le_true a b h = let d : true ≡ int_le a b = omega (arith, ints) in sym d
 pub le_false : (a b : ℤ) → b <ℤ a → int_le a b ≡ false
 le_false a b h = let d : false ≡ int_le a b = omega (arith, ints) in sym d
 
--- ---- the place, found from the front
-after : (l : List Fragment) (i : ℕ) (g : Fragment) → i < length l → g ≡ get_or l i g → drop i l ≡ g ∷ drop (i + 1) l
-after l i g h e =
-    let n : i + 1 ≡ suc i = omega arith in
-    rw n (drop-cons l i g h ∙ ap (λ (x : Fragment). x ∷ drop (suc i) l) (sym e))
+-- ---- the place, found from the far end
+-- what lies before fragments in order of depth is no farther than the first of them
+pub sorted_front : (x y : List Fragment) → IsSorted (x ++ y) → IsSorted x
+sorted_front [] y s = tt
+sorted_front (g ∷ gs) y s = from g.depth gs s
+  where
+    from : (m : ℤ) (x : List Fragment) → IsSortedFrom m (x ++ y) → IsSortedFrom m x
+    from m [] s = tt
+    from m (h ∷ hs) s = (s.0, from h.depth hs s.1)
 
-before : (l : List Fragment) (i : ℕ) (g : Fragment) → i < length l → g ≡ get_or l i g → take (i + 1) l ≡ take i l ++ g ∷ []
-before l i g h e = take_more l i g h ∙ ap (λ (x : Fragment). take i l ++ x ∷ []) (sym e)
+-- each of them is no nearer than a depth that the first is no nearer than
+deep_from : (m : ℤ) (l : List Fragment) (i : ℕ) (d : Fragment) → IsSortedFrom m l → i < length l → m ≤ℤ (slice_index_or l i d).depth
+deep_from m [] i d s h = absurd (omega (arith, h))
+deep_from m (g ∷ gs) zero d s h = s.0
+deep_from m (g ∷ gs) (suc i) d s h =
+    let e = deep_from g.depth gs i d s.1 (omega (arith, h)) in
+    let f = s.0 in
+    omega (arith, ints, e, f)
 
--- before a farther one
-pub placed : (f : Fragment) (l : List Fragment) (i : ℕ) (g : Fragment) → i < length l → g ≡ get_or l i g → f.depth <ℤ g.depth →
-    put_in f l ≡ take i l ++ put_in f (drop i l) → put_in f l ≡ take i l ++ f ∷ drop i l
-placed f l i g h e d k =
-    let a = after l i g h e in
-    let n = le_false g.depth f.depth d in
-    let same : put_in f (g ∷ drop (i + 1) l) ≡ f ∷ g ∷ drop (i + 1) l = rw n refl in
-    k ∙ ap (λ r. take i l ++ put_in f r) a ∙ ap (λ r. take i l ++ r) same ∙ ap (λ r. take i l ++ f ∷ r) (sym a)
+pub place_is : (f : Fragment) (l : List Fragment) (p : ℕ) → IsSorted l → p ≤ length l → (p < length l → f.depth <ℤ (slice_index_or l p f).depth) →
+    ((i : ℕ) → p ≡ suc i → (slice_index_or l i f).depth ≤ℤ f.depth) → put_in f l ≡ take p l ++ f ∷ drop p l
+place_is f [] zero s h far near = refl
+place_is f [] (suc p) s h far near = absurd (omega (arith, h))
+place_is f (g ∷ gs) zero s h far near = let n = le_false g.depth f.depth (far (omega arith)) in rw n refl
+place_is f (g ∷ gs) (suc p) s h far near =
+    let first : g.depth ≤ℤ f.depth = first_near p h near in
+    let n = le_true g.depth f.depth first in
+    let rest = place_is f gs p (sorted_rest g.depth gs s) (omega (arith, h)) (λ l. far (omega (arith, l))) (λ i e. near (suc i) (ap suc e)) in
+    rw n (ap (λ r. g ∷ r) rest)
+  where
+    sorted_rest : (m : ℤ) (l : List Fragment) → IsSortedFrom m l → IsSorted l
+    sorted_rest m [] s = tt
+    sorted_rest m (x ∷ xs) s = s.1
 
--- behind one that is no farther
-pub put_further : (f : Fragment) (l : List Fragment) (i : ℕ) (g : Fragment) → i < length l → g ≡ get_or l i g → g.depth ≤ℤ f.depth →
-    put_in f l ≡ take i l ++ put_in f (drop i l) → put_in f l ≡ take (i + 1) l ++ put_in f (drop (i + 1) l)
-put_further f l i g h e d k =
-    let a = after l i g h e in
-    let b = before l i g h e in
-    let n = le_true g.depth f.depth d in
-    let same : put_in f (g ∷ drop (i + 1) l) ≡ g ∷ put_in f (drop (i + 1) l) = rw n refl in
-    k ∙ ap (λ r. take i l ++ put_in f r) a ∙ ap (λ r. take i l ++ r) same ∙ sym (append_assoc (take i l) (g ∷ []) (put_in f (drop (i + 1) l))) ∙ ap (λ t. t ++ put_in f (drop (i + 1) l)) (sym b)
+    first_near : (p : ℕ) → suc p ≤ length (g ∷ gs) → ((i : ℕ) → suc p ≡ suc i → (slice_index_or (g ∷ gs) i f).depth ≤ℤ f.depth) → g.depth ≤ℤ f.depth
+    first_near zero r n = n zero refl
+    first_near (suc q) r n =
+        let e : (slice_index_or gs q f).depth ≤ℤ f.depth = n (suc q) refl in
+        let d : g.depth ≤ℤ (slice_index_or gs q f).depth = deep_from g.depth gs q f s (omega (arith, r)) in
+        omega (arith, ints, d, e)
 
-drop_whole : (l : List Fragment) → drop (length l) l ≡ []
-drop_whole [] = refl
-drop_whole (x ∷ xs) = drop_whole xs
+-- what the code reads at a place
+read_at : (l : List Fragment) (i : ℕ) (g f : Fragment) → i < length l → g ≡ get_or l i g → get_or l i f ≡ g
+read_at l i g f h e = get_or_default l i f g h ∙ sym e
 
--- behind all
-pub put_last : (f : Fragment) (l : List Fragment) (i : ℕ) → i ≡ length l → put_in f l ≡ take i l ++ put_in f (drop i l) → put_in f l ≡ take i l ++ f ∷ drop i l
-put_last f l i e k =
-    let d : drop i l ≡ [] = ap (λ n. drop n l) e ∙ drop_whole l in
-    k ∙ ap (λ r. take i l ++ put_in f r) d ∙ ap (λ r. take i l ++ f ∷ r) (sym d)
+pub near_before : (f : Fragment) (l : List Fragment) (p : ℕ) (g : Fragment) → 0 < p → p ≤ length l → g ≡ get_or l (p - 1) g → g.depth ≤ℤ f.depth → (i : ℕ) → p ≡ suc i → (get_or l i f).depth ≤ℤ f.depth
+near_before f l p g some h e d i n =
+    let j : p - 1 ≡ i = omega (arith, n) in
+    subst (λ k. (get_or l k f).depth ≤ℤ f.depth) j (subst (λ (x : Fragment). x.depth ≤ℤ f.depth) (sym (read_at l (p - 1) g f (omega (arith, some, h)) e)) d)
+
+pub far_at : (f : Fragment) (l : List Fragment) (i : ℕ) (g : Fragment) → i < length l → g ≡ get_or l i g → f.depth <ℤ g.depth → f.depth <ℤ (get_or l i f).depth
+far_at f l i g h e d = subst (λ (x : Fragment). f.depth <ℤ x.depth) (sym (read_at l i g f h e)) d
+
+pub at_start : (f : Fragment) (l : List Fragment) (p : ℕ) → p ≡ 0 → IsSorted l → (p < length l → f.depth <ℤ (get_or l p f).depth) → put_in f l ≡ f ∷ l
+at_start f l p e s far = place_is f l 0 s (omega arith) (λ h. subst (λ n. f.depth <ℤ (get_or l n f).depth) e (far (omega (arith, e, h)))) (λ i n. absurd (omega (arith, n)))
 
 -- ---- lists without an opaque fragment
 any_first : (a b : Bool) → (a || b) ≡ false → a ≡ false

@@ -3,6 +3,7 @@ ghost use Rattle.std.specs.Prelude.{◌≡◌, ◌≤◌, ◌≤ℤ◌, ◌^◌,
 ghost use Rattle.hider.specs.declared.fragment.Fragment.{Fragment};
 ghost use Rattle.hider.specs.Composite.{composite};
 ghost use Rattle.hider.specs.Coverage.{mean_at};
+ghost use Rattle.hider.specs.Fragments.{IsSorted};
 ghost use Rattle.hider.specs.Weighing.{AreAreas};
 ghost use Rattle.hider.specs.Kept.{IsPlace, IsKeptIn, kept_list, keep, is_behind, blocks, blocks_by};
 
@@ -31,18 +32,21 @@ impl Model for FragmentList {
     ghost invariant = { λ l. IsKeptIn l.front.items l.back };
 }
 
-/// The place of `f` among fragments: behind those that are no farther.
+/// The place of `f` among fragments in order of depth: behind those that are no farther. It is looked for from the far end, where
+/// each fragment goes that is farther than those before it.
 fn place_in(list: &[Fragment], f: &Fragment) -> usize
+    requires { IsSorted list.now }
     ensures { IsPlace f.now list.now result }
 {
-    let mut place = 0;
-    for g in list {
-        if f.depth.raw() < g.depth.raw() {
+    let mut place = list.len();
+    while place > 0 {
+        let g = &list[place - 1];
+        if g.depth.raw() <= f.depth.raw() {
             return place;
         }
-        place += 1;
+        place -= 1;
     }
-    place
+    0
 }
 
 /// Whether a depth lies behind an opaque fragment, or at its depth.

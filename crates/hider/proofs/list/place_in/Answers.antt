@@ -1,27 +1,34 @@
-use Rattle.std.proofs.Common.{◌≡◌, length, arith}
+use Rattle.std.proofs.Common.{◌-◌, arith}
 use Rattle.std.specs.Prelude.{◌≤ℤ◌, ◌<ℤ◌}
 use Rattle.std.proofs.lemmas.Int.{ints}
-use Rattle.hider.proofs.Placing.{placed, put_further, put_last}
+use Rattle.hider.proofs.Placing.{at_start, far_at, near_before, place_is}
 use Rattle.hider.proofs.list.place_in.Goals as goal
+
+pub loop-place-init : goal.loop-place-init
+loop-place-init c = record { inside = omega arith; farther = λ h. absurd (omega (arith, h)) }
+
+pub bounds-list-place : goal.bounds-list-place
+bounds-list-place c = let i = c.loop-place.invariant.inside in omega (arith, i, c.loop-place-test.true)
 
 pub returns-then-raw : goal.returns-then-raw
 returns-then-raw c =
-    let i = c.loop-g.g-index in
-    let e : c.loop-g.place ≡ i = c.loop-g.invariant.counted in
-    let d : c.args.f.now.depth <ℤ c.g-item.result.depth = omega (arith, ints) in
-    rw e (record { inside = omega arith; put = placed c.args.f.now c.args.list.now i c.g-item.result c.loop-g-test.true c.g-item.is d c.loop-g.invariant.put })
-
-pub loop-g-preserved : goal.loop-g-preserved
-loop-g-preserved c =
-    let d : c.g-item.result.depth ≤ℤ c.args.f.now.depth = omega (arith, ints) in
+    let i = c.loop-place.invariant in
+    let d : c.index-list-place.result.depth ≤ℤ c.args.f.now.depth = omega (arith, ints) in
     record {
-      counted = omega (arith, c.loop-g.invariant.counted);
-      put = put_further c.args.f.now c.args.list.now c.loop-g.g-index c.g-item.result c.loop-g-test.true c.g-item.is d c.loop-g.invariant.put;
+      inside = i.inside;
+      put = place_is c.args.f.now c.args.list.now c.loop-place.place c.requires i.inside i.farther (near_before c.args.f.now c.args.list.now c.loop-place.place c.index-list-place.result c.loop-place-test.true i.inside c.index-list-place.is d);
+    }
+
+pub loop-place-preserved : goal.loop-place-preserved
+loop-place-preserved c =
+    let i = c.loop-place.invariant.inside in
+    let d : c.args.f.now.depth <ℤ c.index-list-place.result.depth = omega (arith, ints) in
+    record {
+      inside = omega (arith, i);
+      farther = λ h. far_at c.args.f.now c.args.list.now (c.loop-place.place - 1) c.index-list-place.result h c.index-list-place.is d;
     }
 
 pub returns : goal.returns
 returns c =
-    let i = c.loop-g.g-index in
-    let e : c.loop-g.place ≡ i = c.loop-g.invariant.counted in
-    let n : i ≡ length c.args.list.now = omega arith in
-    rw e (record { inside = omega arith; put = put_last c.args.f.now c.args.list.now i n c.loop-g.invariant.put })
+    let i = c.loop-place.invariant in
+    record { inside = omega arith; put = at_start c.args.f.now c.args.list.now c.loop-place.place (omega (arith, c.loop-place-test.false)) c.requires i.farther }

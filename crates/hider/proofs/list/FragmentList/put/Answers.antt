@@ -1,6 +1,8 @@
 use Rattle.std.proofs.Common.{◌∙◌, ap, sym}
+use Rattle.std.specs.Prelude.{[]}
+use Rattle.std.specs.List.{cons_option}
 use Rattle.hider.specs.Kept.{IsPlace, keep}
-use Rattle.hider.proofs.Placing.{kept_behind, kept_opaque, opaque_is, kept_clear, clear_is}
+use Rattle.hider.proofs.Placing.{kept_behind, kept_opaque, opaque_is, kept_clear, clear_is, sorted_front}
 use Rattle.hider.proofs.list.FragmentList.put.Goals as goal
 
 pub returns-then-is_behind : goal.returns-then-is_behind
@@ -37,3 +39,8 @@ returns c =
     kept_clear c.args.f l.front.items c.insert.new.self.items l.back c.place_in-place.result c.self.invariant (sym c.is_behind.ensures ∙ c.if-is_behind.false)
     (sym c.is_opaque.ensures ∙ c.if-is_opaque.false) i c.in_ok-insert.ensures.items
     ∙ ap (keep c.args.f) c.self.view_is
+
+pub place_in-place-requires : goal.place_in-place-requires
+place_in-place-requires c =
+    let l = c.self.inside in
+    rw c.as_slice.ensures.value (sorted_front l.front.items (cons_option l.back []) c.self.invariant.kept.sorted)
