@@ -4,7 +4,8 @@ use Rattle.std.proofs.Math.Nat.{mul-pos}
 use Rattle.grid_code.specs.Names.{first_free}
 use Rattle.grid_code.specs.Masked.{masked}
 use Rattle.sl_meaning.specs.Core.{Slot, Stmts, after_all}
-use Rattle.sl_meaning.specs.Grid.{inside_all, grid_all}
+use Rattle.sl_meaning.specs.Grid.{inside_all}
+use Rattle.sl_meaning.specs.CoreGrid.{grid_all}
 use Rattle.core_codegen.specs.Compile.{behind, shader_code}
 use Rattle.core_codegen.specs.Correct.{Means}
 use Rattle.core_codegen.specs.Fine.{StaysAll, GridAll}

@@ -11,8 +11,9 @@ use Rattle.grid_code.specs.Names.{reg, first_free}
 use Rattle.grid_code.specs.Masked.{State, read, masked}
 use Rattle.sl_meaning.specs.Core.{Slot, no_slot, Stmts, after_all}
 use Rattle.sl_meaning.specs.Environment.{Env, Signal, Next, Break, Continue}
-use Rattle.sl_meaning.specs.Alone.{run_all}
-use Rattle.sl_meaning.specs.Grid.{Envs, grid_all}
+use Rattle.sl_meaning.specs.CoreAlone.{run_all}
+use Rattle.sl_meaning.specs.Grid.{Envs}
+use Rattle.sl_meaning.specs.CoreGrid.{grid_all}
 use Rattle.core_codegen.specs.Compile.{all_code}
 use Rattle.core_codegen.specs.Correct.{Holds}
 use Rattle.core_codegen.specs.UniformRegisters.{SharedHold, scope_behind, UniformRegisterLaw}

@@ -11,8 +11,10 @@ use Rattle.grid_code.specs.Code as k
 use Rattle.grid_code.specs.Masked.{Ground, State, masked}
 use Rattle.sl_meaning.specs.Core.{Slot, slot, Expr, literal, read, apply, differ, sum, texture, call, Exprs, none, more, Arguments, no_arguments, argument, Stmt, declare, assign, block, test, repeat, lights, leave, again, Stmts, done, first, formals, after, after_all, is_uniform}
 use Rattle.sl_meaning.specs.Environment.{Around, Signal, Next, Break, Continue, spend}
-use Rattle.sl_meaning.specs.Alone.{Runs, inside, value, run, run_all}
-use Rattle.sl_meaning.specs.Grid.{Envs, GivesAll, RunsAll, next_all, inside_all, choice_all, round_all, loop_all, loops_all, values, all_of, args_of, grid, grid_all}
+use Rattle.sl_meaning.specs.Alone.{Runs, inside}
+use Rattle.sl_meaning.specs.CoreAlone.{value, run, run_all}
+use Rattle.sl_meaning.specs.Grid.{Envs, GivesAll, RunsAll, next_all, inside_all, choice_all, round_all, loop_all, loops_all}
+use Rattle.sl_meaning.specs.CoreGrid.{values, all_of, args_of, grid, grid_all}
 use Rattle.core_codegen.specs.Compile.{at, place, operand_at, operand_code, all_at, shape_in, into, expr_code, exprs_code, args_code, locals, all_locals, behind, stmt_code, all_code}
 use Rattle.core_codegen.specs.Variables.{variable}
 use Rattle.core_codegen.specs.Correct.{IsGround}

@@ -18,7 +18,8 @@ use Rattle.grid_code.specs.Code as k
 use Rattle.grid_code.specs.Masked.{Ground, State, masked}
 use Rattle.sl_meaning.specs.Core.{Slot, slot, Expr, literal, read, apply, differ, sum, texture, call, Exprs, none, more, Arguments, no_arguments, argument, Stmt, declare, assign, block, test, repeat, lights, leave, again, Stmts, done, first, formals, after, after_all, all_uniform, is_uniform, args_uniform, stmts_uniform}
 use Rattle.sl_meaning.specs.Environment.{Env, Around, Signal, Next, Break, Continue, budget, spend}
-use Rattle.sl_meaning.specs.Alone.{Gives, Runs, on_next, inside, round, loop, under_light, each_light, seen_from, lighting, over_lights, value, all_values, arg_values, run, run_all}
+use Rattle.sl_meaning.specs.Alone.{Gives, Runs, on_next, inside, round, loop, under_light, each_light, seen_from, lighting, over_lights}
+use Rattle.sl_meaning.specs.CoreAlone.{value, all_values, arg_values, run, run_all}
 use Rattle.core_codegen.specs.Compile.{at, place, operand_at, operand_code, all_at, shape_in, into, expr_code, exprs_code, args_code, locals, all_locals, behind, stmt_code, all_code}
 use Rattle.core_codegen.specs.Variables.{variable}
 use Rattle.core_codegen.specs.Correct.{IsGround}

@@ -8,9 +8,14 @@ use Rattle.builtins.specs.Lights.{Light}
 use Rattle.grid_code.specs.Names.{name_at, lit_at, first_free}
 use Rattle.grid_code.specs.Code.{Block}
 use Rattle.grid_code.specs.Masked.{Asked, Ground, State, read, masked}
+use Rattle.sl_ast.specs.Classes.{local_classes}
+use Rattle.sl_ast.specs.Typed.{Tree}
 use Rattle.sl_meaning.specs.Core.{Slot, Stmts}
 use Rattle.sl_meaning.specs.Environment.{Env, Around, zero_value}
-use Rattle.sl_meaning.specs.Grid.{Envs, inside_all, grid_all}
+use Rattle.sl_meaning.specs.Grid.{Envs, inside_all}
+use Rattle.sl_meaning.specs.Grid as tree
+use Rattle.sl_meaning.specs.Lowered.{slots}
+use Rattle.sl_meaning.specs.CoreGrid.{grid_all}
 use Rattle.core_codegen.specs.Variables.{variable}
 
 -- place i of the state holds what the environment says: of the predefined variables, of the variables in scope, whose frame begins at b, and of
@@ -48,3 +53,9 @@ pub record Means (body : Stmts) (ss : List Slot) (code : Block) : Type 0 where
   pub gives : (a : Around) (g : Ground) (n : ℕ) (es : Envs) (s : State) → Begins ss a es s → IsGround (a.lines.columns * a.lines.rows) g a →
       (i : ℕ) → i < a.lines.columns * a.lines.rows →
       Holds i ss first_free ((inside_all (grid_all body ss a n) es).1 i) (masked code g (a.lines.columns * a.lines.rows) n s)
+
+-- code that gives, at each place of each grid, what a shader means there
+pub record MeansTree (t : Tree) (code : Block) : Type 0 where
+  pub gives : (a : Around) (g : Ground) (n : ℕ) (es : Envs) (s : State) → Begins (slots t.params) a es s → IsGround (a.lines.columns * a.lines.rows) g a →
+      (i : ℕ) → i < a.lines.columns * a.lines.rows →
+      Holds i (slots t.params) first_free ((inside_all (tree.grid_all t.body (local_classes t.params) a n) es).1 i) (masked code g (a.lines.columns * a.lines.rows) n s)

@@ -9,8 +9,9 @@ use Rattle.grid_code.specs.Names.{first_free}
 use Rattle.grid_code.specs.Masked.{Ground, State, masked}
 use Rattle.sl_meaning.specs.Core.{Slot, no_slot, Stmts, after_all}
 use Rattle.sl_meaning.specs.Environment.{Env, Around, Signal, Next, Break, Continue, zero_value}
-use Rattle.sl_meaning.specs.Alone.{run_all}
-use Rattle.sl_meaning.specs.Grid.{Envs, grid_all}
+use Rattle.sl_meaning.specs.CoreAlone.{run_all}
+use Rattle.sl_meaning.specs.Grid.{Envs}
+use Rattle.sl_meaning.specs.CoreGrid.{grid_all}
 use Rattle.core_codegen.specs.Compile.{behind, all_code}
 use Rattle.core_codegen.specs.Correct.{Holds, IsGround}
 use Rattle.core_codegen.specs.Fine.{FineAll, GridAll}

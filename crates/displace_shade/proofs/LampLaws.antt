@@ -19,8 +19,8 @@ use Rattle.grid_code.specs.View.{block_of}
 use Rattle.sl_meaning.specs.Core as core
 use Rattle.sl_meaning.specs.Environment.{zero_value}
 use Rattle.sl_meaning.specs.Lowered.{body_of}
-use Rattle.sl_meaning.specs.Runs.{lights_in_all}
 use Rattle.core_codegen.specs.Correct.{Answers}
+use Rattle.mask_codegen.specs.CoreLights.{lights_in_all}
 use Rattle.mask_codegen.proofs.LightAnswers.{dim, light_answers}
 use Rattle.mask_codegen.proofs.LightAnswers as tree_answers
 use Rattle.grid_machine.specs.Asked.{IsLight, answer_at, begun_at, asked}

@@ -9,7 +9,7 @@ use Rattle.sl_ast.specs.declared.kinds.SlKind.TheVariants.{Surface, Displacement
 use Rattle.sl_ast.specs.declared.typed.Value.{Value}
 use Rattle.sl_ast.specs.Typed.{Local, Tree}
 use Rattle.sl_ast.specs.Names.{name_type, writes, has_surface}
-use Rattle.sl_ast.specs.Classes.{is_uniform_name}
+use Rattle.sl_ast.specs.Classes.{is_uniform_name, local_classes}
 use Rattle.builtins.specs.Names.{place_of}
 use Rattle.builtins.specs.Values.{shape_of}
 use Rattle.grid_code.specs.Code.{Block}
@@ -21,9 +21,9 @@ use Rattle.grid_code.specs.declared.slot.Slot.{Slot}
 use Rattle.mask_codegen.specs.Compiled.{NamesVarying}
 use Rattle.sl_meaning.specs.Environment.{Around}
 use Rattle.sl_meaning.specs.Grid.{inside_all, grid_all}
-use Rattle.sl_meaning.specs.Lowered.{body_of, slots}
+use Rattle.sl_meaning.specs.Lowered.{slots}
 use Rattle.sl_meaning.specs.Runs.{Names, most_turns, beginning, ran}
-use Rattle.core_codegen.specs.Correct.{IsGround, Holds, Begins, Means}
+use Rattle.core_codegen.specs.Correct.{IsGround, Holds, Begins, MeansTree}
 use Rattle.place_rows.specs.Layout.{row_length, height}
 use Rattle.grid_machine.specs.Run.{written_names, HoldRows, begun, Leaves}
 use Rattle.grid_machine.specs.Run as run
@@ -105,7 +105,7 @@ steps_seen kind named f ps vs =
     ∙ ap (λ y. values_of true ps vs ++ cond (has_surface kind) (seen kind named f names.Du ∷ y ∷ []) []) (sym (dv_seen kind named f))
 
 -- a run of the code on what it is given, which names no other varying registers than these
-pub run_leaves : (t : Tree) (code : Block) (a : Around) (g : Ground) (vs : ℕ → List Value) (f : ℕ → Names) (ps : List Slot) (named : RegisterSet) (varyings out : List ℤ) → Means (body_of t) (slots t.params) code → NamesVarying named code → 2 ≤ a.lines.columns → 2 ≤ a.lines.rows → AreValues ps t.params vs →
+pub run_leaves : (t : Tree) (code : Block) (a : Around) (g : Ground) (vs : ℕ → List Value) (f : ℕ → Names) (ps : List Slot) (named : RegisterSet) (varyings out : List ℤ) → MeansTree t code → NamesVarying named code → 2 ≤ a.lines.columns → 2 ≤ a.lines.rows → AreValues ps t.params vs →
     AreNames (a.lines.columns * a.lines.rows) f → IsGround (a.lines.columns * a.lines.rows) g a → AreRows (a.lines.columns * a.lines.rows) (λ i. varying_values t.kind ps (vs i) (seen t.kind named (f i))) varyings →
     Leaves t.kind (a.lines.columns * a.lines.rows) out (masked code g (a.lines.columns * a.lines.rows) 65536 (begun t.kind ps (a.lines.columns * a.lines.rows) (uniform_values t.kind ps (vs 0) (f 0)) varyings)) →
     (i : ℕ) → i < a.lines.columns * a.lines.rows → HoldNames (ran t a vs f i) (written_order t.kind) out (row_length (a.lines.columns * a.lines.rows)) 0 i
@@ -115,7 +115,7 @@ run_leaves t code a g vs f ps named varyings out m names wide tall params h grou
     let begin = subst (λ us. Begins (slots t.params) a (λ j. beginning t.kind (seen t.kind named (f j)) (vs j)) (begun t.kind ps c us varyings)) (sym (steps_seen t.kind named (f 0) ps (vs 0)))
     (begins t a vs (λ j. seen t.kind named (f j)) ps varyings wide tall params (seen_names t.kind named c f h) given) in
     let held = m.gives a g most_turns (λ j. beginning t.kind (f j) (vs j)) (whole t.kind named f s) (whole_begins t.kind named f vs (slots t.params) a s begin) ground i l in
-    let after = ((inside_all (grid_all (body_of t) (slots t.params) a most_turns) (λ j. beginning t.kind (f j) (vs j))).1 i).named in
+    let after = ((inside_all (grid_all t.body (local_classes t.params) a most_turns) (λ j. beginning t.kind (f j) (vs j))).1 i).named in
     let seen_after : (p : Predefined) → read (whole t.kind named f (masked code g c 65536 s)) (name_at p) i ≡ after p =
     λ p. ap (λ (z : State). read z (name_at p) i) (sym (whole_same t.kind named f code g c 65536 s names)) ∙ held.named p in
     left_rows (masked code g c 65536 s) after (f i) out (row_length c) i t.kind (written_order t.kind) (written_kept t.kind named f (masked code g c 65536 s) i after seen_after (written_order t.kind) (written_needed t.kind)) (written_all t.kind) 0 0 (omega arith)

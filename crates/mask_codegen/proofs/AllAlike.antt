@@ -6,8 +6,10 @@ use Rattle.builtins.specs.Table.{applied}
 use Rattle.builtins.specs.Lights.{sum_of}
 use Rattle.sl_meaning.specs.Core.{Slot, slot, Expr, literal, read, apply, differ, sum, texture, call, Exprs, none, more, Arguments, no_arguments, argument, Stmt, declare, assign, block, test, repeat, lights, leave, again, Stmts, done, first, formals, after, after_all, is_uniform, are_uniform}
 use Rattle.sl_meaning.specs.Environment.{Around}
-use Rattle.sl_meaning.specs.Alone.{Gives, on_value, inside, either, value, all_values, arg_values, run, run_all}
-use Rattle.sl_meaning.specs.Grid.{Envs, on_all, inside_all, choice_all, loops_all, values, all_of, args_of, grid, grid_all}
+use Rattle.sl_meaning.specs.Alone.{Gives, on_value, inside, either}
+use Rattle.sl_meaning.specs.CoreAlone.{value, all_values, arg_values, run, run_all}
+use Rattle.sl_meaning.specs.Grid.{Envs, on_all, inside_all, choice_all, loops_all}
+use Rattle.sl_meaning.specs.CoreGrid.{values, all_of, args_of, grid, grid_all}
 use Rattle.core_codegen.specs.Fine.{StaysAll, IsStep, When, FineExpr, FineAll, GridExpr, GridExprs, GridArgs, GridStmt, GridAll}
 use Rattle.core_codegen.proofs.Scopes.{extends_stmt, extends_all}
 use Rattle.core_codegen.proofs.Varying.{stays_all, loop_next, call_uniform}

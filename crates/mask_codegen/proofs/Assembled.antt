@@ -18,13 +18,14 @@ use Rattle.sl_meaning.specs.Core.{Stmts}
 use Rattle.sl_meaning.specs.Lowered.{slots, body_of}
 use Rattle.mask_codegen.specs.Collected.{registers_of, IsSetOf}
 use Rattle.core_codegen.specs.Compile.{shader_code}
-use Rattle.core_codegen.specs.Correct.{Means}
+use Rattle.core_codegen.specs.Correct.{Means, MeansTree}
 use Rattle.core_codegen.specs.Fine.{GridAll, StaysAll}
 use Rattle.core_codegen.specs.Room.{all_room}
 use Rattle.core_codegen.specs.Slots.{slots_of}
 use Rattle.mask_codegen.proofs.LoweredGrid.{body_settled}
 use Rattle.mask_codegen.proofs.LoweredStays.{body_stays}
 use Rattle.core_codegen.proofs.Slots.{length_slots}
+use Rattle.mask_codegen.proofs.TreeMeans.{tree_means}
 use Rattle.mask_codegen.proofs.TreeCode.{tree_fits, code_placed, code_shallow, code_given, code_named, code_few}
 
 module _ (t : T.Tree) (typed : well_typed t ≡ true) (settled : IsSettled t) (ps : List Slot) (same : slots_of ps ≡ slots t.params) where
@@ -48,8 +49,8 @@ module _ (t : T.Tree) (typed : well_typed t ≡ true) (settled : IsSettled t) (p
     pub code_is : (nodes : List Node) → block_of nodes ≡ shader_code body (slots_of ss) → block_of nodes ≡ shader_code (body_of t) (slots_of ps)
     code_is nodes h = h ∙ ap (λ x. shader_code x (slots_of ss)) b ∙ ap (λ x. shader_code (body_of t) (slots_of x)) s
 
-    pub means_tree : (nodes : List Node) → Means body (slots_of ss) (block_of nodes) → Means (body_of t) (slots t.params) (block_of nodes)
-    means_tree nodes m = subst (λ x. Means x (slots t.params) (block_of nodes)) b (subst (λ x. Means body x (block_of nodes)) scope m)
+    pub means_tree : (nodes : List Node) → Means body (slots_of ss) (block_of nodes) → MeansTree t (block_of nodes)
+    means_tree nodes m = tree_means t (block_of nodes) typed (subst (λ x. Means x (slots t.params) (block_of nodes)) b (subst (λ x. Means body x (block_of nodes)) scope m))
 
   -- the invariant of the code
   module _ (nodes : List Node) (code : block_of nodes ≡ shader_code (body_of t) (slots_of ps)) where

@@ -5,7 +5,7 @@ use Rattle.std.proofs.Math.Bool.{or-true, or-false}
 use Rattle.grid_code.specs.Valid.{has_light_statement}
 use Rattle.grid_code.proofs.ValidThen.{lights_then}
 use Rattle.sl_meaning.specs.Core.{Slot, Expr, literal, read, apply, differ, sum, texture, call, Exprs, none, more, Arguments, no_arguments, argument, Stmt, declare, assign, block, test, repeat, lights, leave, again, Stmts, done, first, formals, after, after_all}
-use Rattle.sl_meaning.specs.Runs.{lights_in, lights_in_exprs, lights_in_args, lights_in_stmt, lights_in_all}
+use Rattle.mask_codegen.specs.CoreLights.{lights_in, lights_in_exprs, lights_in_args, lights_in_stmt, lights_in_all}
 use Rattle.core_codegen.specs.Compile.{behind, operand_code, expr_code, exprs_code, args_code, stmt_code, all_code, shader_code}
 use Rattle.core_codegen.proofs.Operands.{of_operand}
 

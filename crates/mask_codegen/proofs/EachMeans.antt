@@ -14,7 +14,8 @@ use Rattle.grid_code.specs.Code.{Block}
 use Rattle.grid_code.specs.Masked.{Ground, State, read, masked}
 use Rattle.sl_meaning.specs.Core.{Slot, no_slot, Stmts}
 use Rattle.sl_meaning.specs.Environment.{Around}
-use Rattle.sl_meaning.specs.Alone.{inside, run_all}
+use Rattle.sl_meaning.specs.Alone.{inside}
+use Rattle.sl_meaning.specs.CoreAlone.{run_all}
 use Rattle.sl_meaning.specs.Grid.{Envs}
 use Rattle.sl_meaning.specs.Lowered.{slots, body_of}
 use Rattle.core_codegen.specs.Correct.{Holds, IsGround, Begins, Means}

@@ -7,7 +7,8 @@ use Rattle.sl_ast.specs.declared.typed.Variable.TheVariants as variables
 use Rattle.builtins.specs.Values.{as_kind}
 use Rattle.sl_meaning.specs.Core.{Slot, slot, no_slot, Expr, literal, read, apply, differ, sum, texture, call, Exprs, none, more, Arguments, no_arguments, argument, Stmt, declare, assign, block, test, repeat, lights, leave, again, Stmts, done, first, formals, after, after_all, class_in}
 use Rattle.sl_meaning.specs.Environment.{Env, Around, Next, Break, Continue, zero_value, with_variable, declared}
-use Rattle.sl_meaning.specs.Alone.{inside, value, all_values, arg_values, run, run_all}
+use Rattle.sl_meaning.specs.Alone.{inside}
+use Rattle.sl_meaning.specs.CoreAlone.{value, all_values, arg_values, run, run_all}
 use Rattle.core_codegen.specs.Fine.{IsStep, FineExpr, FineExprs, FineArgs, FineStmt, FineAll}
 use Rattle.core_codegen.proofs.Scopes.{extends_stmt, extends_all}
 use Rattle.core_codegen.proofs.Varying.{stays_all}

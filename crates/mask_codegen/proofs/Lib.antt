@@ -1,6 +1,9 @@
 pub mod LoweredScopes
 pub mod LoweredClasses
 pub mod LoweredStays
+pub mod LoweredBranches
+pub mod LoweredLights
+pub mod TreeMeans
 pub mod LoweredNodes
 pub mod LoweredFine
 pub mod LoweredGrid

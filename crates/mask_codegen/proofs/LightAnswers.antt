@@ -1,5 +1,5 @@
 -- A light's code, asked at all places at once, answers at each as the light's tree answers there.
-use Rattle.std.proofs.Common.{◌≡◌, ℕ, ◌*◌, ◌<◌, Bool, true, false, cond, List, [], ◌∷◌, map, refl, ap, ◌∙◌, None}
+use Rattle.std.proofs.Common.{◌≡◌, ℕ, ◌*◌, ◌<◌, Bool, true, false, cond, List, [], ◌∷◌, map, refl, sym, ap, ◌∙◌, None}
 use Rattle.fixed_math.specs.declared.vec3.Vec3.{Vec3}
 use Rattle.transforms.specs.declared.spaces.Spaces.{Spaces}
 use Rattle.sl_ast.specs.declared.kinds.Predefined.TheVariants as names
@@ -7,7 +7,8 @@ use Rattle.sl_ast.specs.declared.kinds.SlKind.{SlKind}
 use Rattle.sl_ast.specs.declared.kinds.SlKind.TheVariants.{Light}
 use Rattle.sl_ast.specs.declared.typed.Value.{Value}
 use Rattle.sl_ast.specs.Names.{has_surface}
-use Rattle.sl_ast.specs.Settled.{IsSettled}
+use Rattle.sl_ast.specs.Classes.{local_classes}
+use Rattle.sl_ast.specs.Settled.{IsSettled, settles}
 use Rattle.sl_ast.specs.Typed as T
 use Rattle.sl_ast.specs.WellTyped.{well_typed}
 use Rattle.builtins.specs.Differences.{Lines}
@@ -16,15 +17,20 @@ use Rattle.builtins.specs.Values.{is_true, triple_of, truth}
 use Rattle.grid_code.specs.Names.{name_at, lit_at, first_free}
 use Rattle.grid_code.specs.Code.{Block}
 use Rattle.grid_code.specs.Masked.{Asked, Ground, State, read, masked}
-use Rattle.sl_meaning.specs.Alone.{run_all}
+use Rattle.sl_meaning.specs.Alone.{Runs}
+use Rattle.sl_meaning.specs.CoreAlone.{run_all}
 use Rattle.sl_meaning.specs.Core.{Slot, Stmts}
 use Rattle.sl_meaning.specs.Dark.{dark}
 use Rattle.sl_meaning.specs.Environment.{Env, Around}
 use Rattle.sl_meaning.specs.Lowered.{slots, body_of}
-use Rattle.sl_meaning.specs.Runs.{most_turns, beginning, lights_in_all, asked_at, answer_of, light_answer}
-use Rattle.core_codegen.specs.Correct.{Answers, Holds, IsGround, Begins, Means}
+use Rattle.sl_meaning.specs.Runs.{most_turns, beginning, asked_at, is_lit, answer_of, light_answer}
+use Rattle.sl_meaning.proofs.CoreMeaning.{all_is}
+use Rattle.mask_codegen.specs.CoreLights.{lights_in_all}
+use Rattle.core_codegen.specs.Correct.{Answers, Holds, IsGround, Begins, MeansTree}
 use Rattle.mask_codegen.proofs.EachMeans.{shader_means_each}
+use Rattle.mask_codegen.proofs.LoweredLights.{light_has}
 use Rattle.mask_codegen.proofs.NoLines.{all_same}
+use Rattle.mask_codegen.proofs.TreeMeans.{core_means}
 
 -- the answer of a light by what its code left at a place
 abbrev pub answer_at : Bool → State → ℕ → answers.Light
@@ -58,12 +64,12 @@ answer_kept true e values = refl
 light_kind : (k : SlKind) → k ≡ Light → has_surface k ≡ false
 light_kind k h = ap has_surface h
 
-module _ (t : T.Tree) (code : Block) (typed : well_typed t ≡ true) (settled : IsSettled t) (light : t.kind ≡ Light) (means : Means (body_of t) (slots t.params) code) where
+module _ (t : T.Tree) (code : Block) (typed : well_typed t ≡ true) (settled : IsSettled t) (light : t.kind ≡ Light) (means : MeansTree t code) where
   -- with n turns at most, from an environment e of the place
   answers_as : (n : ℕ) (lines : Lines) (spaces : Spaces) (g : Ground) (lights : Bool) (e : ℕ → Env) (s : State) → Begins (slots t.params) (dim lines spaces) e s → IsGround (lines.columns * lines.rows) g (dim lines spaces)
       → (i : ℕ) → i < lines.columns * lines.rows → answer_at lights (masked code g (lines.columns * lines.rows) n s) i ≡ answer_of lights (run_all (body_of t) (dark spaces) n (e i)).1
   answers_as n lines spaces g lights e s begins ground i l =
-      answer_same lights i (slots t.params) first_free _ _ (shader_means_each t code typed settled (light_kind t.kind light) means (dim lines spaces) g n e s begins ground i l) ∙
+      answer_same lights i (slots t.params) first_free _ _ (shader_means_each t code typed settled (light_kind t.kind light) (core_means t code typed means) (dim lines spaces) g n e s begins ground i l) ∙
       answer_kept lights (run_all (body_of t) (dim lines spaces) n (e i)).1 _ ∙ ap (λ r. answer_of lights (r (e i)).1) (ran_dark (body_of t) lines spaces n)
 
   -- asked at the places q
@@ -71,7 +77,10 @@ module _ (t : T.Tree) (code : Block) (typed : well_typed t ≡ true) (settled : 
       → Begins (slots t.params) (dim lines spaces) (λ i. beginning Light (asked_at (q i)) values) s → IsGround (lines.columns * lines.rows) g (dim lines spaces)
       → (i : ℕ) → i < lines.columns * lines.rows → answer_at (lights_in_all (body_of t)) (masked code g (lines.columns * lines.rows) most_turns s) i ≡ light_answer t spaces values (q i)
   light_answers lines spaces values q g s begins ground i l =
-      answers_as most_turns lines spaces g (lights_in_all (body_of t)) (λ j. beginning Light (asked_at (q j)) values) s begins ground i l
+      let e : Env = beginning Light (asked_at (q i)) values in
+      answers_as most_turns lines spaces g (lights_in_all (body_of t)) (λ j. beginning Light (asked_at (q j)) values) s begins ground i l ∙
+      ap (λ b. answer_of b (run_all (body_of t) (dark spaces) most_turns e).1) (light_has t typed settled light) ∙
+      ap (λ (r : Runs). answer_of (is_lit (settles t)) (r e).1) (sym (all_is t.body (local_classes t.params) true (dark spaces) most_turns))
 
 -- lights that answer at each place answer so as a list
 pub answers_all : (X : Type 0) (c : ℕ) (f : X → Asked) (l : X → Vec3 → answers.Light) (xs : List X) → ((x : X) (q : ℕ → Vec3) (i : ℕ) → i < c → f x q i ≡ l x (q i)) → Answers c (map f xs) (map l xs)

@@ -15,11 +15,11 @@ use Rattle.grid_code.specs.Uses.{is_in, within, rows_in}
 use Rattle.grid_code.specs.Valid.{has_light_statement}
 use Rattle.grid_code.specs.View.{block_of}
 use Rattle.sl_meaning.specs.Lowered.{slots, body_of}
-use Rattle.sl_meaning.specs.Runs.{lights_in_all}
+use Rattle.mask_codegen.specs.CoreLights.{lights_in_all}
 use Rattle.mask_codegen.specs.declared.fault.CodeFault.{CodeFault}
 use Rattle.mask_codegen.specs.declared.fault.CodeFault.TheVariants.{M9, NoMemory}
 use Rattle.core_codegen.specs.Compile.{shader_code}
-use Rattle.core_codegen.specs.Correct.{Means}
+use Rattle.core_codegen.specs.Correct.{MeansTree}
 use Rattle.core_codegen.specs.Slots.{slots_of}
 
 -- the numbers of a tree's look-ups, in the order of the text
@@ -32,7 +32,7 @@ pub record IsCodeOf (t : T.Tree) (c : Code) : Type 0 where
   pub kind : c.kind ≡ t.kind
   pub params : slots_of c.params ≡ slots t.params
   pub text : block_of c.nodes ≡ shader_code (body_of t) (slots t.params)
-  pub means : Means (body_of t) (slots t.params) (block_of c.nodes)
+  pub means : MeansTree t (block_of c.nodes)
   pub settled : IsSettled t
   pub lights : has_light_statement (block_of c.nodes) ≡ lights_in_all (body_of t)
   pub rows : rows_in c.varying ≤ 16 * rows_of t

@@ -1,3 +1,4 @@
 pub mod Collected
 pub mod Compiled
 pub mod CoreClasses
+pub mod CoreLights

@@ -16,8 +16,17 @@ use Rattle.sl_ast.specs.declared.kinds.SlKind.{SlKind}
 use Rattle.sl_ast.specs.declared.tree.Tree.{Tree}
 use Rattle.sl_ast.specs.declared.typed.ParamDecl.{ParamDecl}
 use Rattle.sl_ast.specs.declared.typed.ParamDefault.{ParamDefault}
+use Rattle.builtins.specs.Values.{as_kind}
+use Rattle.sl_ast.specs.declared.kinds.SlType.{SlType}
+use Rattle.sl_ast.specs.declared.typed.Value.{Value}
+use Rattle.sl_meaning.specs.Alone.{Gives}
+use Rattle.sl_meaning.specs.Core as C
+use Rattle.sl_meaning.specs.CoreAlone as core
+use Rattle.sl_meaning.specs.Dark.{dark}
 use Rattle.sl_meaning.specs.Defaults as spec
+use Rattle.sl_meaning.specs.Environment.{Env, bare}
 use Rattle.sl_meaning.specs.Lowered.{expr}
+use Rattle.sl_meaning.proofs.CoreMeaning.{value_is}
 use Rattle.sl_evaluation.specs.Constant.{IsConstant}
 use Rattle.sl_evaluation.proofs.Constants.{expr_constant}
 
@@ -39,6 +48,14 @@ found t k p d sp few there hp hd =
     let default = ap (λ l. l.value) (ap default_of hd ∙ sym (get_or-map default_of t.defaults k d spec.no_default there)) in
     ap (λ q. spec.evaluated q (default_of d).value sp) kind ∙
     ap (λ q. spec.evaluated (get_or (map local_of t.params) k spec.no_local).kind q sp) default
+
+-- the value that its core tree has is that of the default
+pub evaluated_is : (kind : SlType) (e : T.Expr) (sp : Spaces) (c : C.Expr) (env behind : Env) (v : Value) → c ≡ expr e [] true → env ≡ bare spec.full spec.full →
+    core.value c (dark sp) spec.full env ≡ (v, behind) → as_kind kind v ≡ spec.evaluated kind e sp
+evaluated_is kind e sp c env behind v hc he hv =
+    ap (λ r. as_kind kind r.0)
+    (sym hv ∙ ap (λ x. core.value x (dark sp) spec.full env) hc ∙ ap (core.value (expr e [] true) (dark sp) spec.full) he ∙
+    ap (λ (f : Gives Value). f (bare spec.full spec.full)) (sym (value_is e [] true (dark sp) spec.full)))
 
 uniform_one : (w u : Bool) (line : ℕ) (next : Settles) (after : Bool) → unless (w || not u) T3 line next ≡ Ok after → u ≡ true
 uniform_one w true line next after h = refl

@@ -9,7 +9,8 @@ use Rattle.sl_meaning.specs.Core as C
 use Rattle.sl_meaning.specs.Core.{Expr, Exprs, Arguments, Stmts}
 use Rattle.sl_meaning.specs.Environment.{Env, Around, Signal, Next, Break, Continue, budget, spend, scope_of, with_variable, declared, cut_to}
 use Rattle.sl_evaluation.specs.Signals.{is_break}
-use Rattle.sl_meaning.specs.Alone.{Gives, Runs, on_value, inside, loop, round, value, all_values, arg_values, run, run_all}
+use Rattle.sl_meaning.specs.Alone.{Gives, Runs, on_value, inside, loop, round}
+use Rattle.sl_meaning.specs.CoreAlone.{value, all_values, arg_values, run, run_all}
 use Rattle.sl_meaning.specs.CoreView.{expr_of, exprs_of, args_of, stmts_of}
 use Rattle.sl_meaning.specs.declared.core_tree.CoreExpr.{CoreExpr}
 use Rattle.sl_meaning.specs.declared.core_tree.Argument.{Argument}

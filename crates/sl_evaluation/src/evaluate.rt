@@ -2,7 +2,7 @@
 ghost use Rattle.std.specs.Prelude.{◌≡◌, IfOk, OnOk};
 ghost use Rattle.sl_ast.specs.declared.typed.Variable.TheVariants.{Level};
 ghost use Rattle.builtins.specs.Values.{as_kind, is_true};
-ghost use Rattle.sl_meaning.specs.Alone as spec;
+ghost use Rattle.sl_meaning.specs.CoreAlone as spec;
 ghost use Rattle.sl_meaning.specs.Environment.{Next, declared, with_variable};
 ghost use Rattle.sl_meaning.specs.Dark.{dark};
 ghost use Rattle.sl_meaning.specs.CoreView.{expr_of, exprs_of, args_of, stmt_of, stmts_of, loop_of};

@@ -11,7 +11,8 @@ use Rattle.sl_ast.specs.declared.typed.TreeFormal.{TreeFormal}
 use Rattle.sl_ast.specs.declared.typed.TreeStmt.{TreeStmt}
 use Rattle.sl_meaning.specs.Core as C
 use Rattle.sl_meaning.specs.CoreView.{expr_of, exprs_of, args_of, stmt_of, stmts_of}
-use Rattle.sl_meaning.specs.Lowered.{expr, exprs, arguments, stmt, stmts, alone, value_type}
+use Rattle.sl_meaning.specs.Environment.{value_type}
+use Rattle.sl_meaning.specs.Lowered.{expr, exprs, arguments, stmt, stmts, alone}
 use Rattle.sl_meaning.specs.declared.core_tree.Argument.{Argument}
 use Rattle.sl_meaning.specs.declared.core_tree.CoreExpr.{CoreExpr}
 use Rattle.sl_meaning.specs.declared.core_tree.CoreStmt.{CoreStmt}

@@ -8,6 +8,7 @@ ghost use Rattle.sl_ast.specs.declared.typed.Variable.TheVariants as variables;
 ghost use Rattle.sl_ast.specs.declared.kinds.Predefined.TheVariants as names;
 ghost use Rattle.sl_meaning.specs.Core as C;
 ghost use Rattle.sl_meaning.specs.CoreView.{expr_of, exprs_of, args_of, stmt_of, stmts_of, loop_of};
+ghost use Rattle.sl_meaning.specs.Environment as environment;
 ghost use Rattle.sl_meaning.specs.Lowered as spec;
 
 use fixed_math::{List, NoMemory, Num, Text};
@@ -36,7 +37,7 @@ pub(crate) fn read(variable: Variable) -> CoreExpr
 
 // The type of a value of that type.
 pub(crate) fn value_type(kind: NodeType) -> SlType
-    ensures { result ≡ spec.value_type kind }
+    ensures { result ≡ environment.value_type kind }
 {
     match kind {
         NodeType::Float | NodeType::Test => SlType::Float,
@@ -50,7 +51,7 @@ pub(crate) fn value_type(kind: NodeType) -> SlType
 
 // What a local without a value starts as.
 fn start_value(alloc: Global, kind: SlType) -> Result<Value, NoMemory>
-    ensures { IfOk result (λ v. v ≡ spec.start_value kind) }
+    ensures { IfOk result (λ v. v ≡ environment.start_value kind) }
 {
     match kind {
         SlType::Str => Ok(Value::Word(Text::from_bytes(alloc, &[])?)),
@@ -229,7 +230,7 @@ pub(crate) fn call_node(
 
 // A declaration without a value.
 pub(crate) fn start(alloc: Global, uniform: bool, kind: SlType) -> Result<CoreStmt, NoMemory>
-    ensures { IfOk result (λ s. stmt_of s ≡ C.declare uniform kind (C.literal (spec.start_value kind))) }
+    ensures { IfOk result (λ s. stmt_of s ≡ C.declare uniform kind (C.literal (environment.start_value kind))) }
 {
     let value = start_value(alloc, kind)?;
     Ok(CoreStmt::Declare(uniform, kind, CoreExpr::Literal(value)))

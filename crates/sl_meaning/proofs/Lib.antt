@@ -1,1 +1,3 @@
 pub mod CoreRows
+pub mod CoreMeaning
+pub mod CoreGridMeaning

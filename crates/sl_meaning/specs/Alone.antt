@@ -1,21 +1,34 @@
 -- What an expression and a statement mean at one point (RenderMan Interface 3.2, Shading Language). Operands, arguments and the names of a
--- declaration are taken from left to right, each once. `n` only bounds the definition: each turn of a loop takes one from a budget that
--- is at most as great.
-use Rattle.std.specs.Prelude.{ℕ, zero, suc, Bool, true, cond, nat_lt, List, [], ◌∷◌, map}
+-- declaration are taken from left to right, each once. `us` are the classes of the variables in scope and `u` says that control is uniform: they
+-- tell uniform loops from others, which take their turns from two budgets. `n` only bounds the definition: each turn of a loop takes one from a
+-- budget that is at most as great.
+use Rattle.std.specs.Prelude.{ℕ, zero, suc, pos, Bool, true, false, cond, nat_lt, List, [], ◌∷◌, ◌++◌, ◌&&◌, map}
 use Rattle.fixed_math.specs.Axes.{origin}
 use Rattle.fixed_math.specs.Fixed.{sub}
 use Rattle.fixed_math.specs.declared.vec3.Vec3.{Vec3}
+use Rattle.transforms.specs.declared.spaces.Spaces.{Spaces}
 use Rattle.sl_ast.specs.declared.kinds.LightStmt.{LightStmt}
 use Rattle.sl_ast.specs.declared.kinds.LightStmt.TheVariants.{Illuminance, Illuminate, Solar}
+use Rattle.sl_ast.specs.declared.kinds.Predefined.{Predefined}
 use Rattle.sl_ast.specs.declared.kinds.Predefined.TheVariants as names
+use Rattle.sl_ast.specs.declared.kinds.SetOperator.{SetOperator}
+use Rattle.sl_ast.specs.declared.kinds.SetOperator.TheVariants as sets
+use Rattle.sl_ast.specs.declared.operations.Operation.TheVariants as operations
+use Rattle.sl_ast.specs.declared.operations.Look.TheVariants as looks
+use Rattle.sl_ast.specs.declared.operations.ValueOperation.{ValueOperation}
+use Rattle.sl_ast.specs.declared.operations.ValueOperation.TheVariants as ops
+use Rattle.sl_ast.specs.declared.typed.TreeFormal.{TreeFormal}
 use Rattle.sl_ast.specs.declared.typed.Value.{Value}
-use Rattle.sl_ast.specs.declared.typed.Value.TheVariants.{Triple}
+use Rattle.sl_ast.specs.declared.typed.Value.TheVariants.{Number, Triple, Word}
+use Rattle.sl_ast.specs.declared.typed.Variable.{Variable}
+use Rattle.sl_ast.specs.declared.typed.Variable.TheVariants as variables
+use Rattle.sl_ast.specs.Classes.{formal_classes, after, after_all, is_uniform, is_uniform_loop}
+use Rattle.sl_ast.specs.Typed.{Expr, number, word, variable, apply, call, Exprs, none, more, Stmt, empty, leave, again, block, group, declare, start, assign, test, test_else, repeat, steps, lights, Stmts, done, first}
+use Rattle.builtins.specs.Lights.{Light, is_in_cone, seen, sum_of}
+use Rattle.builtins.specs.Table.{applied}
 use Rattle.builtins.specs.Triples.{each_two}
 use Rattle.builtins.specs.Values.{as_kind, is_true, triple_of}
-use Rattle.builtins.specs.Table.{applied}
-use Rattle.sl_meaning.specs.Core.{Expr, literal, read, apply, differ, sum, texture, call, Exprs, none, more, Arguments, no_arguments, argument, Stmt, declare, assign, block, test, repeat, lights, leave, again, Stmts, done, first}
-use Rattle.sl_meaning.specs.Environment.{Env, Around, Signal, Next, Break, Continue, read_of, with_name, with_variable, declared, budget, spend, scope_of, cut_to}
-use Rattle.builtins.specs.Lights.{Light, is_in_cone, seen, sum_of}
+use Rattle.sl_meaning.specs.Environment.{Env, Around, Signal, Next, Break, Continue, pi, read_of, with_name, with_variable, declared, start_value, value_type, budget, spend, scope_of, cut_to}
 
 -- a value, with the environment behind it
 abbrev pub Gives : Type 0 → Type 0
@@ -28,8 +41,41 @@ Runs = Env → Signal × Env
 abbrev pub on_value : {A B : Type 0} → (A → B) → Gives A → Gives B
 on_value f a e = let x = a e in (f x.0, x.1)
 
+-- a value put before those of what follows
 abbrev pub then_more : {A : Type 0} → Gives A → Gives (List A) → Gives (List A)
 then_more a rest e = let x = a e in let y = rest x.1 in (x.0 ∷ y.0, y.1)
+
+-- the value of a variable; that of `PI` is the same everywhere
+abbrev pub value_of : Variable → Env → Value
+value_of (variables.Predefined names.Pi) e = Number pi
+value_of x e = read_of x e
+
+-- behind the operands, the values that some predefined variables have then
+abbrev pub and_names : List Predefined → Gives (List Value) → Gives (List Value)
+and_names ps args e = let x = args e in (x.0 ++ map (λ p. x.1.named p) ps, x.1)
+
+-- of a transformation the last operand is taken: the strings before it name its spaces, which stand in the operation
+abbrev pub taken : {A : Type 0} → ValueOperation → A → A → A
+taken (ops.Transform from into) last all = last
+taken (ops.VTransform from into) last all = last
+taken (ops.NTransform from into) last all = last
+taken op last all = all
+
+-- the first part of a colour
+abbrev pub first_part : Spaces → List Value → Value
+first_part sp vs = applied ops.Comp sp (vs ++ Number (pos 0) ∷ [])
+
+-- an operation on what a variable held before the value was taken, and on the value
+abbrev pub combined : ValueOperation → Variable → Spaces → Gives Value → Gives Value
+combined op x sp a e = let y = a e in (applied op sp (read_of x e ∷ y.0 ∷ []), y.1)
+
+-- what `=`, `+=`, `-=`, `*=` and `/=` put into a variable
+abbrev pub put_into : SetOperator → Variable → Spaces → Gives Value → Gives Value
+put_into sets.Set x sp a = a
+put_into sets.Add x sp a = combined ops.Add x sp a
+put_into sets.Subtract x sp a = combined ops.Subtract x sp a
+put_into sets.Multiply x sp a = combined ops.Multiply x sp a
+put_into sets.Divide x sp a = combined ops.Divide x sp a
 
 -- the body over the arguments alone, and then the caller's variables again
 abbrev pub inlined : Gives (List Value) → Runs → Gives Value → Gives Value
@@ -40,6 +86,10 @@ inlined args body result e =
 
 abbrev pub on_next : Signal × Env → Runs → Signal × Env
 on_next r go = elim r.0 [ Next ↦ go r.1 | Break ↦ r | Continue ↦ r ]
+
+-- nothing is done
+abbrev pub skip : Runs
+skip e = (Next, e)
 
 -- the variables that a block declared go out of scope
 abbrev pub inside : Runs → Runs
@@ -58,6 +108,10 @@ loop zero u t step body e = (Next, (t e).1)
 loop (suc n) u t step body e =
     let x = t e in
     cond (is_true x.0) (cond (nat_lt 0 (budget u x.1)) (round (body (spend u x.1)) step (loop n u t step body)) (Next, x.1)) (Next, x.1)
+
+-- a `for`: its first set, and then its turns
+abbrev pub set_first : Runs → Runs → Runs
+set_first set turns = inside (λ e. on_next (inside set e) turns)
 
 -- the body once for each light that is seen, with its direction and colour; a break or continue leaves them all
 abbrev pub under_light : Vec3 × Vec3 → Env → Env
@@ -107,34 +161,67 @@ abbrev pub with_args : Gives (List Value) → (List Value → Runs) → Runs
 with_args args go e = let x = args e in go x.0 x.1
 
 abbrev mutual
-  pub value : Expr → Around → ℕ → Gives Value
-  value (literal v) g n e = (v, e)
-  value (read x) g n e = (read_of x e, e)
-  value (apply op args) g n e = on_value (applied op g.spaces) (all_values args g n) e
+  pub value : Expr → List Bool → Bool → Around → ℕ → Gives Value
+  value (number x p) us u g n e = (Number x, e)
+  value (word text p) us u g n e = (Word text, e)
+  value (variable x kind p) us u g n e = (value_of x e, e)
+  value (apply (operations.Value op) args kind p) us u g n e = on_value (applied op g.spaces) (taken op (last_value args us u g n) (all_values args us u g n)) e
+  -- `faceforward` of two arguments reads the geometric normal
+  value (apply operations.FaceForwardNg args kind p) us u g n e = on_value (applied ops.FaceForward g.spaces) (and_names (names.Ng ∷ []) (all_values args us u g n)) e
+  value (apply (operations.Sum s) args kind p) us u g n e = summed g (sum_of s) (all_values args us u g n) e
   -- differences and look-ups stand in no varying control, where a point has no neighbours
-  value (differ d a) g n e = value a g n e
-  value (sum s args) g n e = summed g (sum_of s) (all_values args g n) e
-  value (texture k args) g n e = on_value (λ vs. Triple origin) (all_values args g n) e
-  value (call args body kind r) g n e = inlined (arg_values args g n) (run_all body g n) (on_value (as_kind kind) (value r g n)) e
+  value (apply (operations.Difference d) args kind p) us u g n e = first_value args us u g n e
+  value (apply (operations.Look looks.At) args kind p) us u g n e = on_value (λ vs. Triple origin) (all_values args us u g n) e
+  value (apply (operations.Look looks.Here) args kind p) us u g n e = on_value (λ vs. Triple origin) (all_values args us u g n) e
+  -- `float` before a look-up
+  value (apply (operations.Look looks.First) args kind p) us u g n e = on_value (first_part g.spaces) (all_values args us u g n) e
+  value (call args formals body returned result kind p) us u g n e =
+      inlined (arg_values args formals us u g n) (run_all body (formal_classes formals) u g n)
+      (on_value (as_kind (value_type kind)) (value result (after_all body (formal_classes formals)) u g n)) e
 
-  pub all_values : Exprs → Around → ℕ → Gives (List Value)
-  all_values none g n e = ([], e)
-  all_values (more a rest) g n e = then_more (value a g n) (all_values rest g n) e
+  pub all_values : Exprs → List Bool → Bool → Around → ℕ → Gives (List Value)
+  all_values none us u g n e = ([], e)
+  all_values (more a rest) us u g n e = then_more (value a us u g n) (all_values rest us u g n) e
 
-  pub arg_values : Arguments → Around → ℕ → Gives (List Value)
-  arg_values no_arguments g n e = ([], e)
-  arg_values (argument u kind a rest) g n e = then_more (on_value (as_kind kind) (value a g n)) (arg_values rest g n) e
+  pub first_value : Exprs → List Bool → Bool → Around → ℕ → Gives Value
+  first_value none us u g n e = (Number (pos 0), e)
+  first_value (more a rest) us u g n e = value a us u g n e
 
-  pub run : Stmt → Around → ℕ → Runs
-  run (declare u kind a) g n e = let x = value a g n e in (Next, declared (as_kind kind x.0) x.1)
-  run (assign x kind a) g n e = let y = value a g n e in (Next, with_variable x (as_kind kind y.0) y.1)
-  run (block s) g n e = inside (run_all s g n) e
-  run (test t a b) g n e = either (value t g n) (inside (run_all a g n)) (inside (run_all b g n)) e
-  run (repeat u t step s) g n e = loop n u (value t g n) (run_all step g n) (inside (run_all s g n)) e
-  run (lights which args s) g n e = with_args (all_values args g n) (λ vs. over_lights which g vs (inside (run_all s g n))) e
-  run leave g n e = (Break, e)
-  run again g n e = (Continue, e)
+  pub last_value : Exprs → List Bool → Bool → Around → ℕ → Gives (List Value)
+  last_value none us u g n e = ([], e)
+  last_value (more a none) us u g n e = on_value (λ v. v ∷ []) (value a us u g n) e
+  last_value (more a rest) us u g n e = last_value rest us u g n e
 
-  pub run_all : Stmts → Around → ℕ → Runs
-  run_all done g n e = (Next, e)
-  run_all (first s rest) g n e = on_next (run s g n e) (run_all rest g n)
+  -- each argument in the type of its formal
+  pub arg_values : Exprs → List TreeFormal → List Bool → Bool → Around → ℕ → Gives (List Value)
+  arg_values none formals us u g n e = ([], e)
+  arg_values (more a rest) [] us u g n e = ([], e)
+  arg_values (more a rest) (f ∷ fs) us u g n e = then_more (on_value (as_kind f.kind) (value a us u g n)) (arg_values rest fs us u g n) e
+
+  pub run : Stmt → List Bool → Bool → Around → ℕ → Runs
+  run (empty p) us u g n e = (Next, e)
+  run (leave p) us u g n e = (Break, e)
+  run (again p) us u g n e = (Continue, e)
+  run (block body p) us u g n e = inside (run_all body us u g n) e
+  run (group body) us u g n e = inside (run_all body us u g n) e
+  run (declare uniform kind a p) us u g n e = let x = value a us u g n e in (Next, declared (as_kind kind x.0) x.1)
+  run (start uniform kind p) us u g n e = (Next, declared (as_kind kind (start_value kind)) e)
+  run (assign x operator kind a p) us u g n e = let y = put_into operator x g.spaces (value a us u g n) e in (Next, with_variable x (as_kind kind y.0) y.1)
+  run (test t s p) us u g n e = either (value t us u g n) (inside (run s us (u && is_uniform t us) g n)) skip e
+  run (test_else t s r p) us u g n e =
+      either (value t us u g n) (inside (run s us (u && is_uniform t us) g n)) (inside (run r us (u && is_uniform t us) g n)) e
+  -- a uniform loop keeps uniform control within it
+  run (repeat t s p) us u g n e =
+      let w = is_uniform_loop t s us u in loop n w (value t us w g n) skip (inside (run s us w g n)) e
+  run (steps a t b s p) us u g n e =
+      let w = is_uniform_loop t s us u in
+      set_first (run_all a us u g n) (loop n w (value t us w g n) (run_all b us w g n) (inside (run s us w g n))) e
+  run (lights over args s p) us u g n e = with_args (all_values args us u g n) (λ vs. over_lights over g vs (inside (run s us false g n))) e
+
+  pub run_all : Stmts → List Bool → Bool → Around → ℕ → Runs
+  run_all done us u g n e = (Next, e)
+  run_all (first s rest) us u g n e = on_next (run s us u g n e) (run_all rest (after s us) u g n)
+
+-- the turns of a loop that each point takes by itself
+abbrev pub own_turns : Expr → Stmts → Stmt → List Bool → Around → ℕ → Runs
+own_turns t step s us g n = loop n false (value t us false g n) (run_all step us false g n) (inside (run s us false g n))

@@ -1,5 +1,5 @@
--- The core tree: the typed tree with loops marked by the rules of control classes, short forms written out, and without places but the numbers of look-ups.
--- Meaning is given to it, and code is made of it.
+-- For contracts and laws of the code alone, not the picture's definition: the core tree, of which code is made. It is the typed tree with loops marked
+-- by the rules of control classes, short forms written out, and without places but the numbers of look-ups.
 use Rattle.std.specs.Prelude.{ℕ, Bool, true, false, ◌&&◌, List, [], ◌∷◌, ◌++◌, get_or}
 use Rattle.sl_ast.specs.declared.kinds.SlType.{SlType}
 use Rattle.sl_ast.specs.declared.kinds.SlType.TheVariants as types

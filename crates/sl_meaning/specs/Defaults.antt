@@ -1,4 +1,4 @@
--- The value of a parameter's default: that of its core tree at a point with full budgets, that no light reaches and where no variable is in scope.
+-- The value of a parameter's default: that of its expression at a point with full budgets, that no light reaches and where no variable is in scope.
 use Rattle.std.specs.Prelude.{ℕ, pos, true, [], get_or}
 use Rattle.transforms.specs.declared.spaces.Spaces.{Spaces}
 use Rattle.sl_ast.specs.declared.kinds.SlType.{SlType}
@@ -8,7 +8,6 @@ use Rattle.sl_ast.specs.Typed as T
 use Rattle.builtins.specs.Values.{as_kind}
 use Rattle.sl_meaning.specs.Alone.{value}
 use Rattle.sl_meaning.specs.Dark.{dark}
-use Rattle.sl_meaning.specs.Lowered.{expr}
 use Rattle.sl_meaning.specs.Environment.{bare}
 
 -- the turns that a budget has at first
@@ -17,7 +16,7 @@ full = 65536
 
 -- the value of an expression where a value of that type is wanted
 abbrev pub evaluated : SlType → T.Expr → Spaces → Value
-evaluated kind e sp = as_kind kind (value (expr e [] true) (dark sp) full (bare full full)).0
+evaluated kind e sp = as_kind kind (value e [] true (dark sp) full (bare full full)).0
 
 abbrev pub no_local : T.Local
 no_local = record { name = []; kind = types.Float; uniform = true }

@@ -1,16 +1,20 @@
 -- What a shader works on at a point, and what no statement changes.
-use Rattle.std.specs.Prelude.{ℕ, ◌-◌, ◌==◌, pos, Bool, true, false, cond, List, [], ◌∷◌, ◌++◌, length, get_or, set, take, Option}
+use Rattle.std.specs.Prelude.{ℕ, ℤ, ◌-◌, ◌==◌, pos, Bool, true, false, cond, List, [], ◌∷◌, ◌++◌, length, get_or, set, take, Option}
 use Rattle.fixed_math.specs.declared.vec3.Vec3.{Vec3}
 use Rattle.texture.specs.Images.{Image}
 use Rattle.transforms.specs.declared.spaces.Spaces.{Spaces}
 use Rattle.builtins.specs.Names.{place_of}
 use Rattle.builtins.specs.Differences.{Lines}
 use Rattle.builtins.specs.Lights.{Light}
+use Rattle.sl_ast.specs.declared.kinds.NodeType.{NodeType}
+use Rattle.sl_ast.specs.declared.kinds.NodeType.TheVariants as nodes
 use Rattle.sl_ast.specs.declared.kinds.Predefined.{Predefined}
+use Rattle.sl_ast.specs.declared.kinds.SlType.{SlType}
+use Rattle.sl_ast.specs.declared.kinds.SlType.TheVariants as types
 use Rattle.sl_ast.specs.declared.typed.Variable.{Variable}
 use Rattle.sl_ast.specs.declared.typed.Variable.TheVariants as variables
 use Rattle.sl_ast.specs.declared.typed.Value.{Value}
-use Rattle.sl_ast.specs.declared.typed.Value.TheVariants.{Number}
+use Rattle.sl_ast.specs.declared.typed.Value.TheVariants.{Number, Word}
 
 -- the predefined variables, the parameters, formals and locals by their levels, the turns left for uniform loops and those of its own, and
 -- whether the `illuminate` or `solar` of a light ran lit
@@ -37,6 +41,25 @@ pub data Signal : Type 0 where
 -- what a variable has that nothing was put into
 abbrev pub zero_value : Value
 zero_value = Number (pos 0)
+
+-- π in 65536ths
+abbrev pub pi : ℤ
+pi = pos 205887
+
+-- what a local without a value starts as
+abbrev pub start_value : SlType → Value
+start_value types.Str = Word []
+start_value kind = zero_value
+
+-- the type of a value of that type; a condition is no value
+abbrev pub value_type : NodeType → SlType
+value_type nodes.Float = types.Float
+value_type nodes.Color = types.Color
+value_type nodes.Point = types.Point
+value_type nodes.Vector = types.Vector
+value_type nodes.Normal = types.Normal
+value_type nodes.Str = types.Str
+value_type nodes.Test = types.Float
 
 -- the value of a variable
 abbrev pub read_of : Variable → Env → Value

@@ -1,16 +1,29 @@
 -- What a statement means on a grid of points, in uniform control: each node at all points before the next. What stands in varying control
--- is taken at each point by itself.
-use Rattle.std.specs.Prelude.{ℕ, zero, suc, Bool, true, false, cond, nat_lt, List, [], ◌∷◌}
+-- is taken at each point by itself. `us` are the classes of the variables in scope.
+use Rattle.std.specs.Prelude.{ℕ, zero, suc, pos, Bool, true, false, cond, nat_lt, List, [], ◌∷◌, ◌++◌, map}
+use Rattle.sl_ast.specs.declared.kinds.Predefined.{Predefined}
 use Rattle.sl_ast.specs.declared.kinds.Predefined.TheVariants as names
+use Rattle.sl_ast.specs.declared.kinds.SetOperator.{SetOperator}
+use Rattle.sl_ast.specs.declared.kinds.SetOperator.TheVariants as sets
+use Rattle.sl_ast.specs.declared.operations.Difference.{Difference}
+use Rattle.sl_ast.specs.declared.operations.Operation.TheVariants as operations
+use Rattle.sl_ast.specs.declared.operations.Look.TheVariants as looks
+use Rattle.sl_ast.specs.declared.operations.ValueOperation.{ValueOperation}
+use Rattle.sl_ast.specs.declared.operations.ValueOperation.TheVariants as ops
+use Rattle.sl_ast.specs.declared.typed.TreeFormal.{TreeFormal}
 use Rattle.sl_ast.specs.declared.typed.Value.{Value}
-use Rattle.builtins.specs.Values.{as_kind, is_true}
-use Rattle.builtins.specs.Table.{applied}
-use Rattle.sl_meaning.specs.Core.{Slot, Expr, literal, read, apply, differ, sum, texture, call, Exprs, none, more, Arguments, no_arguments, argument, Stmt, declare, assign, block, test, repeat, lights, leave, again, Stmts, done, first, formals, after, is_uniform}
-use Rattle.sl_meaning.specs.Environment.{Env, Around, Signal, Next, Break, Continue, read_of, with_variable, declared, spend, scope_of, cut_to}
-use Rattle.builtins.specs.Lights.{Light, sum_of}
+use Rattle.sl_ast.specs.declared.typed.Value.TheVariants.{Number, Word}
+use Rattle.sl_ast.specs.declared.typed.Variable.{Variable}
+use Rattle.sl_ast.specs.Classes.{formal_classes, after, after_all, is_uniform, is_uniform_loop}
+use Rattle.sl_ast.specs.Typed.{Expr, number, word, variable, apply, call, Exprs, none, more, Stmt, empty, leave, again, block, group, declare, start, assign, test, test_else, repeat, steps, lights, Stmts, done, first}
+use Rattle.transforms.specs.declared.spaces.Spaces.{Spaces}
 use Rattle.builtins.specs.Differences.{difference}
+use Rattle.builtins.specs.Lights.{Light, sum_of}
+use Rattle.builtins.specs.Table.{applied}
 use Rattle.builtins.specs.Textures.{textured}
-use Rattle.sl_meaning.specs.Alone.{Runs, answers_at, over_lights, inside, run, run_all}
+use Rattle.builtins.specs.Values.{as_kind, is_true}
+use Rattle.sl_meaning.specs.Environment.{Env, Around, Signal, Next, Break, Continue, read_of, with_variable, declared, start_value, value_type, spend, scope_of, cut_to}
+use Rattle.sl_meaning.specs.Alone.{Runs, value_of, taken, first_part, answers_at, over_lights, inside, skip, run, own_turns}
 
 -- an environment for each place of the grid; places go by rows
 abbrev pub Envs : Type 0
@@ -30,6 +43,21 @@ on_all f a es = let x = a es in (λ i. f (x.0 i), x.1)
 abbrev pub more_all : {A : Type 0} → GivesAll A → GivesAll (List A) → GivesAll (List A)
 more_all a rest es = let x = a es in let y = rest x.1 in (λ i. x.0 i ∷ y.0 i, y.1)
 
+-- behind the operands, the values that some predefined variables have then
+abbrev pub and_names_all : List Predefined → GivesAll (List Value) → GivesAll (List Value)
+and_names_all ps args es = let x = args es in (λ i. x.0 i ++ map (λ p. (x.1 i).named p) ps, x.1)
+
+-- what `=`, `+=`, `-=`, `*=` and `/=` put into a variable
+abbrev pub combined_all : ValueOperation → Variable → Spaces → GivesAll Value → GivesAll Value
+combined_all op x sp a es = let y = a es in (λ i. applied op sp (read_of x (es i) ∷ y.0 i ∷ []), y.1)
+
+abbrev pub put_all : SetOperator → Variable → Spaces → GivesAll Value → GivesAll Value
+put_all sets.Set x sp a = a
+put_all sets.Add x sp a = combined_all ops.Add x sp a
+put_all sets.Subtract x sp a = combined_all ops.Subtract x sp a
+put_all sets.Multiply x sp a = combined_all ops.Multiply x sp a
+put_all sets.Divide x sp a = combined_all ops.Divide x sp a
+
 -- the lights are asked at P as it is behind the operands
 abbrev pub summed_all : Around → (List Value → List Light → Value) → GivesAll (List Value) → GivesAll Value
 summed_all g f a es = let x = a es in (λ i. f (x.0 i) (answers_at g ((x.1 i).named names.P)), x.1)
@@ -46,6 +74,14 @@ next_all r go = elim r.0 [ Next ↦ go r.1 | Break ↦ r | Continue ↦ r ]
 -- a block: its variables end with it
 abbrev pub inside_all : RunsAll → RunsAll
 inside_all body es = let r = body es in (r.0, λ i. cut_to (es i) (r.1 i))
+
+-- nothing is done
+abbrev pub skip_all : RunsAll
+skip_all es = (Next, es)
+
+-- a `for`: its first set, and then its turns
+abbrev pub set_first_all : RunsAll → RunsAll → RunsAll
+set_first_all set turns = inside_all (λ es. next_all (inside_all set es) turns)
 
 -- each place by itself; no break or continue leaves such a statement
 abbrev pub each : (ℕ → Runs) → RunsAll
@@ -74,34 +110,62 @@ abbrev pub with_args_all : GivesAll (List Value) → (List Value → Runs) → R
 with_args_all args go es = let x = args es in each (λ i e. go (x.0 i) e) x.1
 
 abbrev mutual
-  pub values : Expr → Around → ℕ → GivesAll Value
-  values (literal v) g n es = (λ i. v, es)
-  values (read x) g n es = (λ i. read_of x (es i), es)
-  values (apply op args) g n es = on_all (applied op g.spaces) (all_of args g n) es
-  values (differ d a) g n es = let x = values a g n es in (difference d g.lines g.spaces.flip x.0, x.1)
-  values (sum s args) g n es = summed_all g (sum_of s) (all_of args g n) es
-  values (texture k args) g n es = let x = all_of args g n es in (textured g.lines (g.images k) x.0, x.1)
-  values (call args body kind r) g n es = inlined_all (args_of args g n) (grid_all body (formals args) g n) (on_all (as_kind kind) (values r g n)) es
+  pub values : Expr → List Bool → Around → ℕ → GivesAll Value
+  values (number x p) us g n es = (λ i. Number x, es)
+  values (word text p) us g n es = (λ i. Word text, es)
+  values (variable x kind p) us g n es = (λ i. value_of x (es i), es)
+  values (apply (operations.Value op) args kind p) us g n es = on_all (applied op g.spaces) (taken op (last_of args us g n) (all_of args us g n)) es
+  -- `faceforward` of two arguments reads the geometric normal
+  values (apply operations.FaceForwardNg args kind p) us g n es = on_all (applied ops.FaceForward g.spaces) (and_names_all (names.Ng ∷ []) (all_of args us g n)) es
+  values (apply (operations.Sum s) args kind p) us g n es = summed_all g (sum_of s) (all_of args us g n) es
+  values (apply (operations.Difference d) args kind p) us g n es = differences d args us g n es
+  values (apply (operations.Look looks.At) args kind p) us g n es = let x = all_of args us g n es in (textured g.lines (g.images p.number) x.0, x.1)
+  -- `texture` of a name alone looks up at the predefined s and t
+  values (apply (operations.Look looks.Here) args kind p) us g n es =
+      let x = and_names_all (names.S ∷ names.T ∷ []) (all_of args us g n) es in (textured g.lines (g.images p.number) x.0, x.1)
+  -- `float` before a look-up
+  values (apply (operations.Look looks.First) args kind p) us g n es = on_all (first_part g.spaces) (all_of args us g n) es
+  values (call args formals body returned result kind p) us g n es =
+      inlined_all (args_of args formals us g n) (grid_all body (formal_classes formals) g n)
+      (on_all (as_kind (value_type kind)) (values result (after_all body (formal_classes formals)) g n)) es
 
-  pub all_of : Exprs → Around → ℕ → GivesAll (List Value)
-  all_of none g n es = (λ i. [], es)
-  all_of (more a rest) g n es = more_all (values a g n) (all_of rest g n) es
+  -- a difference of the operand's values at neighbours
+  pub differences : Difference → Exprs → List Bool → Around → ℕ → GivesAll Value
+  differences d none us g n es = (λ i. Number (pos 0), es)
+  differences d (more a rest) us g n es = let x = values a us g n es in (difference d g.lines g.spaces.flip x.0, x.1)
 
-  pub args_of : Arguments → Around → ℕ → GivesAll (List Value)
-  args_of no_arguments g n es = (λ i. [], es)
-  args_of (argument u kind a rest) g n es = more_all (on_all (as_kind kind) (values a g n)) (args_of rest g n) es
+  pub all_of : Exprs → List Bool → Around → ℕ → GivesAll (List Value)
+  all_of none us g n es = (λ i. [], es)
+  all_of (more a rest) us g n es = more_all (values a us g n) (all_of rest us g n) es
 
-  -- `ss` are the variables in scope
-  pub grid : Stmt → List Slot → Around → ℕ → RunsAll
-  grid (declare u kind a) ss g n es = let x = values a g n es in (Next, λ i. declared (as_kind kind (x.0 i)) (x.1 i))
-  grid (assign x kind a) ss g n es = let y = values a g n es in (Next, λ i. with_variable x (as_kind kind (y.0 i)) (y.1 i))
-  grid (block s) ss g n es = inside_all (grid_all s ss g n) es
-  grid (test t a b) ss g n es = choice_all (is_uniform t ss) (values t g n) (inside_all (grid_all a ss g n)) (inside_all (grid_all b ss g n)) (inside (run_all a g n)) (inside (run_all b g n)) es
-  grid (repeat u t step s) ss g n es = loops_all u n (values t g n) (grid_all step ss g n) (inside_all (grid_all s ss g n)) (run (repeat false t step s) g n) es
-  grid (lights which args s) ss g n es = with_args_all (all_of args g n) (λ vs. over_lights which g vs (inside (run_all s g n))) es
-  grid leave ss g n es = (Break, es)
-  grid again ss g n es = (Continue, es)
+  pub last_of : Exprs → List Bool → Around → ℕ → GivesAll (List Value)
+  last_of none us g n es = (λ i. [], es)
+  last_of (more a none) us g n es = on_all (λ v. v ∷ []) (values a us g n) es
+  last_of (more a rest) us g n es = last_of rest us g n es
 
-  pub grid_all : Stmts → List Slot → Around → ℕ → RunsAll
-  grid_all done ss g n es = (Next, es)
-  grid_all (first s rest) ss g n es = next_all (grid s ss g n es) (grid_all rest (after s ss) g n)
+  pub args_of : Exprs → List TreeFormal → List Bool → Around → ℕ → GivesAll (List Value)
+  args_of none formals us g n es = (λ i. [], es)
+  args_of (more a rest) [] us g n es = (λ i. [], es)
+  args_of (more a rest) (f ∷ fs) us g n es = more_all (on_all (as_kind f.kind) (values a us g n)) (args_of rest fs us g n) es
+
+  pub grid : Stmt → List Bool → Around → ℕ → RunsAll
+  grid (empty p) us g n es = (Next, es)
+  grid (leave p) us g n es = (Break, es)
+  grid (again p) us g n es = (Continue, es)
+  grid (block body p) us g n es = inside_all (grid_all body us g n) es
+  grid (group body) us g n es = inside_all (grid_all body us g n) es
+  grid (declare uniform kind a p) us g n es = let x = values a us g n es in (Next, λ i. declared (as_kind kind (x.0 i)) (x.1 i))
+  grid (start uniform kind p) us g n es = (Next, λ i. declared (as_kind kind (start_value kind)) (es i))
+  grid (assign x operator kind a p) us g n es = let y = put_all operator x g.spaces (values a us g n) es in (Next, λ i. with_variable x (as_kind kind (y.0 i)) (y.1 i))
+  grid (test t s p) us g n es = choice_all (is_uniform t us) (values t us g n) (inside_all (grid s us g n)) skip_all (inside (run s us false g n)) skip es
+  grid (test_else t s r p) us g n es =
+      choice_all (is_uniform t us) (values t us g n) (inside_all (grid s us g n)) (inside_all (grid r us g n)) (inside (run s us false g n)) (inside (run r us false g n)) es
+  grid (repeat t s p) us g n es =
+      loops_all (is_uniform_loop t s us true) n (values t us g n) skip_all (inside_all (grid s us g n)) (own_turns t done s us g n) es
+  grid (steps a t b s p) us g n es =
+      set_first_all (grid_all a us g n) (loops_all (is_uniform_loop t s us true) n (values t us g n) (grid_all b us g n) (inside_all (grid s us g n)) (own_turns t b s us g n)) es
+  grid (lights over args s p) us g n es = with_args_all (all_of args us g n) (λ vs. over_lights over g vs (inside (run s us false g n))) es
+
+  pub grid_all : Stmts → List Bool → Around → ℕ → RunsAll
+  grid_all done us g n es = (Next, es)
+  grid_all (first s rest) us g n es = next_all (grid s us g n es) (grid_all rest (after s us) g n)

@@ -1,26 +1,28 @@
 -- Worked values of the meaning on a grid, of statements over lights and of a light's answer.
-use Rattle.std.specs.Prelude.{ℕ, pos, neg_ℤ, None, codes, true, false, [], ◌∷◌, get_or, List, ◌≡◌, refl}
+use Rattle.std.specs.Prelude.{ℕ, pos, neg_ℤ, None, codes, Bool, true, false, [], ◌∷◌, get_or, List, ◌≡◌, refl}
 use Rattle.fixed_math.specs.declared.vec3.Vec3.{Vec3}
 use Rattle.transforms.specs.declared.spaces.Spaces.{Spaces}
 use Rattle.builtins.specs.Differences.{along_u}
 use Rattle.builtins.specs.Lights.{ambient, unlit, lit}
 use Rattle.builtins.specs.Table.{of_two}
-use Rattle.sl_ast.specs.declared.kinds.LightStmt.TheVariants.{Illuminance, Illuminate, Solar}
+use Rattle.builtins.specs.Textures.{textured}
+use Rattle.sl_ast.specs.declared.kinds.LightStmt.TheVariants.{Illuminance, Illuminate}
 use Rattle.sl_ast.specs.declared.kinds.NodeType.TheVariants as nodes
 use Rattle.sl_ast.specs.declared.kinds.Predefined.TheVariants as names
 use Rattle.sl_ast.specs.declared.kinds.SetOperator.TheVariants as sets
 use Rattle.sl_ast.specs.declared.kinds.SlKind.TheVariants as shaders
 use Rattle.sl_ast.specs.declared.kinds.SlType.TheVariants as types
 use Rattle.sl_ast.specs.declared.operations.Difference.TheVariants.{Du}
+use Rattle.sl_ast.specs.declared.operations.Look.TheVariants.{Here}
 use Rattle.sl_ast.specs.declared.operations.Operation.TheVariants as operations
 use Rattle.sl_ast.specs.declared.operations.ValueOperation.TheVariants as ops
 use Rattle.sl_ast.specs.declared.typed.Value.{Value}
-use Rattle.sl_ast.specs.declared.typed.Value.TheVariants.{Number, Triple}
+use Rattle.sl_ast.specs.declared.typed.Value.TheVariants.{Number, Triple, Word}
 use Rattle.sl_ast.specs.declared.typed.Variable.TheVariants.{Level, Predefined}
 use Rattle.sl_ast.specs.Examples.{at}
 use Rattle.sl_ast.specs.Typed as T
-use Rattle.sl_meaning.specs.Core.{Slot, slot, Expr, literal, read, apply, differ, none, more, Stmt, assign, repeat, lights, leave, Stmts, done, first}
-use Rattle.sl_meaning.specs.Environment.{Env, Around, Next, bare, zero_value}
+use Rattle.sl_ast.specs.Typed.{Expr, number, word, variable, apply, none, more, Stmt, assign, block, repeat, lights, leave, Stmts, done, first}
+use Rattle.sl_meaning.specs.Environment.{Env, Around, bare, with_name, zero_value}
 use Rattle.sl_meaning.specs.Alone.{run}
 use Rattle.sl_meaning.specs.Grid.{Envs, values, grid}
 use Rattle.sl_meaning.specs.Dark.{dark}
@@ -30,10 +32,10 @@ abbrev num : ℕ → Value
 num n = Number (pos n)
 
 abbrev of : ℕ → Expr
-of n = literal (num n)
+of n = number (pos n) (at 0)
 
 abbrev level : ℕ → Expr
-level k = read (Level k)
+level k = variable (Level k) nodes.Float (at 0)
 
 -- two columns and two rows, half a unit of u from one column to the next
 abbrev small : Spaces → Around
@@ -44,7 +46,7 @@ abbrev four : Envs
 four i = record (bare 5 7) { values = get_or (num 65536 ∷ num 196608 ∷ num 655360 ∷ num 1310720 ∷ []) i zero_value ∷ [] }
 
 abbrev du_at : Spaces → ℕ → Value
-du_at sp i = (values (differ Du (level 0)) (small sp) 9 four).0 i
+du_at sp i = (values (apply (operations.Difference Du) (more (level 0) none) nodes.Float (at 0)) (false ∷ []) (small sp) 9 four).0 i
 
 -- (3 - 1) / 0.5 = 4 in the first row and (20 - 10) / 0.5 = 20 in the second; the last column has no next one and takes the step to it
 du_first : (sp : Spaces) → du_at sp 0 ≡ num 262144
@@ -63,19 +65,28 @@ du_at_the_end : (sp : Spaces) → du_at sp 3 ≡ num 1310720
 unfolding along_u
 du_at_the_end sp = refl
 
+-- texture("a") looks up at s and t
+looked : (sp : Spaces) (i : ℕ) (s t : ℕ → Value) →
+    (values (apply (operations.Look Here) (more (word (codes "a") (at 0)) none) nodes.Color (at 0)) [] (small sp) 9 (λ j. with_name names.S (s j) (with_name names.T (t j) (bare 5 7)))).0 i ≡
+    textured (small sp).lines None (λ j. Word (codes "a") ∷ s j ∷ t j ∷ []) i
+looked sp i s t = refl
+
 -- a uniform count and a varying sum, which begins as the place's number
 abbrev counted : Envs
 counted i = record (bare 5 7) { values = num 0 ∷ num i ∷ [] }
 
-abbrev scope : List Slot
-scope = slot true types.Float ∷ slot false types.Float ∷ []
+abbrev scope : List Bool
+scope = true ∷ false ∷ []
 
 abbrev plus : ℕ → ℕ → Stmt
-plus k n = assign (Level k) types.Float (apply ops.Add (more (level k) (more (of n) none)))
+plus k n = assign (Level k) sets.Add types.Float (of n) (at 0)
+
+abbrev less : Expr → Expr → Expr
+less a b = apply (operations.Value ops.Less) (more a (more b none)) nodes.Test (at 0)
 
 -- while (count < 2) { count += 1; sum += 10; }
 abbrev together : Stmt
-together = repeat true (apply ops.Less (more (level 0) (more (of 2) none))) done (first (plus 0 1) (first (plus 1 10) done))
+together = repeat (less (level 0) (of 2)) (block (first (plus 0 1) (first (plus 1 10) done)) (at 0)) (at 0)
 
 -- all places take the two turns of the first one: the sum at place 3 is 3 + 20, and the uniform budget fell from 5 to 3 there too
 uniform_loop : (sp : Spaces) → (grid together scope (small sp) 9 counted).1 3 ≡ record (bare 3 7) { values = num 2 ∷ num 23 ∷ [] }
@@ -84,7 +95,7 @@ uniform_loop sp = refl
 
 -- while (sum < 3) sum += 1;
 abbrev apart : Stmt
-apart = repeat false (apply ops.Less (more (level 1) (more (of 3) none))) done (first (plus 1 1) done)
+apart = repeat (less (level 1) (of 3)) (plus 1 1) (at 0)
 
 -- each place takes turns of its own: three at the first place, where the sum begins as 0, and none at the last, where it is 3 already
 varying_loop : (sp : Spaces) → (grid apart scope (small sp) 9 counted).1 0 ≡ record (bare 5 4) { values = num 0 ∷ num 3 ∷ [] }
@@ -105,12 +116,12 @@ lit_by_two sp = record (dark sp) { lights = (λ p. lit (vec 1 2 3) (vec 4 5 6)) 
 -- while (1) illuminance (P) { Ci += Cl; break; }
 abbrev first_light : Stmt
 first_light =
-    repeat false (of 65536) done (first (lights Illuminance (more (read (Predefined names.P)) none)
-    (first (assign (Predefined names.Ci) types.Color (apply ops.Add (more (read (Predefined names.Ci)) (more (read (Predefined names.Cl)) none))))
-    (first leave done))) done)
+    repeat (of 65536) (lights Illuminance (more (variable (Predefined names.P) nodes.Point (at 0)) none)
+    (block (first (assign (Predefined names.Ci) sets.Add types.Color (variable (Predefined names.Cl) nodes.Color (at 0)) (at 0))
+    (first (leave (at 0)) done)) (at 0)) (at 0)) (at 0)
 
 abbrev behind_break : Spaces → Env
-behind_break sp = (run first_light (lit_by_two sp) 9 (bare 5 7)).1
+behind_break sp = (run first_light [] true (lit_by_two sp) 9 (bare 5 7)).1
 
 -- the break leaves the second light and the loop: Ci is 0 and the first colour, L points to the first light, and one turn was taken
 broken_colour : (sp : Spaces) → (behind_break sp).named names.Ci ≡ Triple (vec 4 5 6)

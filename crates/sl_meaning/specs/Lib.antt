@@ -6,7 +6,8 @@ pub mod Alone
 pub mod Grid
 pub mod Lowered
 pub mod Runs
-pub mod Examples
-pub mod LoweredExamples
-pub mod GridExamples
 pub mod Defaults
+pub mod CoreAlone
+pub mod CoreGrid
+pub mod Examples
+pub mod GridExamples

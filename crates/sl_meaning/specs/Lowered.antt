@@ -1,12 +1,8 @@
--- The core tree of a typed tree. `us` are the classes of the variables in scope (`true` for uniform), and `u` says that control is uniform.
+-- For contracts and laws of the code alone, not the picture's definition: the core tree of a typed tree. `us` are the classes of the variables in scope (`true` for uniform), and `u` says that control is uniform.
 use Rattle.std.specs.Prelude.{ℕ, pos, Bool, true, false, ◌&&◌, List, [], ◌∷◌}
-use Rattle.sl_ast.specs.declared.kinds.NodeType.{NodeType}
-use Rattle.sl_ast.specs.declared.kinds.NodeType.TheVariants as nodes
 use Rattle.sl_ast.specs.declared.kinds.Predefined.TheVariants as names
 use Rattle.sl_ast.specs.declared.kinds.SetOperator.{SetOperator}
 use Rattle.sl_ast.specs.declared.kinds.SetOperator.TheVariants as sets
-use Rattle.sl_ast.specs.declared.kinds.SlType.{SlType}
-use Rattle.sl_ast.specs.declared.kinds.SlType.TheVariants as types
 use Rattle.sl_ast.specs.declared.operations.Difference.{Difference}
 use Rattle.sl_ast.specs.declared.operations.Look.{Look}
 use Rattle.sl_ast.specs.declared.operations.Look.TheVariants as looks
@@ -15,37 +11,22 @@ use Rattle.sl_ast.specs.declared.operations.Operation.TheVariants as operations
 use Rattle.sl_ast.specs.declared.operations.ValueOperation.{ValueOperation}
 use Rattle.sl_ast.specs.declared.operations.ValueOperation.TheVariants as ops
 use Rattle.sl_ast.specs.declared.typed.TreeFormal.{TreeFormal}
-use Rattle.sl_ast.specs.declared.typed.Value.{Value}
 use Rattle.sl_ast.specs.declared.typed.Value.TheVariants.{Number, Word}
 use Rattle.sl_ast.specs.declared.typed.Variable.{Variable}
 use Rattle.sl_ast.specs.declared.typed.Variable.TheVariants as variables
 use Rattle.sl_ast.specs.Typed as T
 use Rattle.sl_ast.specs.Classes.{formal_classes, local_classes, after, after_all, is_uniform, is_uniform_loop}
 use Rattle.sl_meaning.specs.Core as C
-
--- what a local without a value starts as
-abbrev pub start_value : SlType → Value
-start_value types.Str = Word []
-start_value kind = Number (pos 0)
+use Rattle.sl_meaning.specs.Environment.{pi, start_value, value_type}
 
 -- π in 65536ths
-abbrev pub pi : C.Expr
-pi = C.literal (Number (pos 205887))
+abbrev pub pi_node : C.Expr
+pi_node = C.literal (Number pi)
 
 -- the value of a variable in the core tree; `PI` is a number there
 abbrev pub read : Variable → C.Expr
-read (variables.Predefined names.Pi) = pi
+read (variables.Predefined names.Pi) = pi_node
 read x = C.read x
-
--- the type of a value of that type; a condition is no value
-abbrev pub value_type : NodeType → SlType
-value_type nodes.Float = types.Float
-value_type nodes.Color = types.Color
-value_type nodes.Point = types.Point
-value_type nodes.Vector = types.Vector
-value_type nodes.Normal = types.Normal
-value_type nodes.Str = types.Str
-value_type nodes.Test = types.Float
 
 -- the last of some operands: the strings before the value of a transformation name its spaces, which stand in the operation
 abbrev pub last : C.Exprs → C.Exprs

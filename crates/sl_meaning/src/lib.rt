@@ -1,4 +1,4 @@
-//! What a shader means: its core tree, and the meaning of that at a point and on a grid.
+//! What a shader means at a point and on a grid; and its core tree, a form of the compiler, which means the same.
 #![tactic(auto)]
 
 mod core_tree;

@@ -1,6 +1,6 @@
 use Rattle.std.specs.Prelude.{nat_lt}
 use Rattle.std.proofs.Common.{ap, sym, subst, cond, ◌∙◌, arith}
-use Rattle.sl_meaning.specs.Alone.{value, arg_values, run, run_all}
+use Rattle.sl_meaning.specs.CoreAlone.{value, arg_values, run, run_all}
 use Rattle.sl_meaning.specs.Environment.{budget, spend}
 use Rattle.sl_meaning.specs.Dark.{dark}
 use Rattle.sl_meaning.specs.CoreView.{expr_of, exprs_of, args_of, stmts_of}
