@@ -14,7 +14,7 @@ use Rattle.sl_lexer.specs.declared.token.Mark.TheVariants.{Comma}
 use Rattle.sl_expression_grammar.specs.declared.fault.SlCode.{SlCode}
 use Rattle.sl_expression_grammar.specs.declared.reading.Stop.{Stop}
 use Rattle.sl_expression_grammar.specs.declared.reading.Stop.TheVariants.{At, NoMemory}
-use Rattle.sl_expression_grammar.specs.Reading.{Reads, ◌>>=◌, with_front, many_then, many, after_comma, behind, is_mark}
+use Rattle.sl_expression_grammar.specs.Reading.{Reads, ◌>>=◌, with_front, many_then, many, after_comma, rest_after, is_mark}
 use Rattle.sl_expression_grammar.specs.Expressions.{operator_at, link_at, linked, link, next_link, is_single, most_links, expr_with, typed_with, name_with, prim_in, expr_at, unary_at, prim_at}
 use Rattle.sl_expression_grammar.specs.Rows.{typed_at}
 use Rattle.sl_expression_grammar.specs.Parsing.{Gives, GivesItems}
@@ -92,17 +92,17 @@ module _ (row : Row) (operand : List Token → Reads S.Expr) (count len : ℕ) w
   pub link-end : (ts : List Token) → None ≡ link_at row count ts → many (next_link row operand) (most_links row len - count) ts ≡ Ok ([], ts)
   link-end ts at = refused (is_single row) count len row operand ts at
 
--- an item behind a comma
+-- an item after a comma
 module _ {A : Type 0} (item : List Token → Reads A) where
   pub comma-turn : (n : ℕ) (ts after : List Token) (x : A) (left : List Token)
-      → 1 ≤ n → Some after ≡ behind (is_mark Comma) ts → item after ≡ Ok (x, left) → many (after_comma item) n ts ≡ with_front (x ∷ []) (many (after_comma item) (n - 1) left)
+      → 1 ≤ n → Some after ≡ rest_after (is_mark Comma) ts → item after ≡ Ok (x, left) → many (after_comma item) n ts ≡ with_front (x ∷ []) (many (after_comma item) (n - 1) left)
   comma-turn n ts after x left low at is = many-turn (after_comma item) n ts (item after) x left low (ap (option_map item) (sym at)) is
 
   pub comma-err : (n : ℕ) (ts after : List Token) (x : SlCode × List Token)
-      → 1 ≤ n → Some after ≡ behind (is_mark Comma) ts → item after ≡ Err x → many (after_comma item) n ts ≡ Err x
+      → 1 ≤ n → Some after ≡ rest_after (is_mark Comma) ts → item after ≡ Err x → many (after_comma item) n ts ≡ Err x
   comma-err n ts after x low at is = many-err (after_comma item) n ts (item after) x low (ap (option_map item) (sym at)) is
 
-  pub comma-end : (n : ℕ) (ts : List Token) → None ≡ behind (is_mark Comma) ts → many (after_comma item) n ts ≡ Ok ([], ts)
+  pub comma-end : (n : ℕ) (ts : List Token) → None ≡ rest_after (is_mark Comma) ts → many (after_comma item) n ts ≡ Ok ([], ts)
   comma-end n ts at = many-end (after_comma item) n ts (ap (option_map item) (sym at))
 
 -- the level that an expression opens

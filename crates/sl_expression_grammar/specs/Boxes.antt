@@ -1,4 +1,4 @@
--- What stands in boxes and behind references, without them.
+-- What stands in boxes and after references, without them.
 use Rattle.std.specs.Prelude.{ℕ, List, Option, option_map}
 use Rattle.std.specs.Borrow.{Bor}
 use Rattle.std.specs.Global.{Box}

@@ -14,7 +14,7 @@ use Rattle.sl_lexer.specs.declared.token.TokenKind.{TokenKind}
 use Rattle.sl_lexer.specs.declared.token.TokenKind.TheVariants as kinds
 use Rattle.sl_lexer.specs.declared.token.Mark.TheVariants.{LeftParen, RightParen, Comma, Question, Colon}
 use Rattle.sl_expression_grammar.specs.declared.fault.SlCode.TheVariants.{P3}
-use Rattle.sl_expression_grammar.specs.Reading.{Reads, ◌>>=◌, many, commas, head_is, unexpected, too_deep, is_mark, behind, past, line_behind}
+use Rattle.sl_expression_grammar.specs.Reading.{Reads, ◌>>=◌, many, commas, head_is, unexpected, too_deep, is_mark, rest_after, past, line_and_rest}
 
 -- the row on which an operator stands
 abbrev pub row_of : Operator → Row
@@ -64,7 +64,7 @@ begins_expr (kinds.Operator operators.Subtract) = true
 begins_expr kinds.Not = true
 begins_expr _ = false
 
--- what may stand behind a type and a space name
+-- what may stand after a type and a space name
 abbrev pub begins_prim : TokenKind → Bool
 begins_prim (kinds.Number text) = true
 begins_prim (kinds.Str text) = true
@@ -73,7 +73,7 @@ begins_prim (kinds.Type kind) = true
 begins_prim (kinds.Mark LeftParen) = true
 begins_prim _ = false
 
--- an operator of that row at the front with its line, and the tokens behind it
+-- an operator of that row at the front with its line, and the tokens after it
 abbrev pub operator_in : Row → TokenKind → Option Operator
 operator_in row (kinds.Operator o) = if same_row row (row_of o) then Some o else None
 operator_in row _ = None
@@ -82,7 +82,7 @@ abbrev pub operator_at : Row → List Token → Option (Operator × ℕ × List 
 operator_at row [] = None
 operator_at row (t ∷ ts) = option_map (λ o. (o, t.line, ts)) (operator_in row t.kind)
 
--- the same behind so many operators of the chain
+-- the same after so many operators of the chain
 abbrev pub link_at : Row → ℕ → List Token → Option (Operator × ℕ × List Token)
 link_at row count ts = if is_single row && nat_lt 0 count then None else operator_at row ts
 
@@ -119,15 +119,15 @@ choice_then expr test ts (Some q) =
 
 -- an expression: a chain, and a choice after it where a question mark stands
 abbrev pub expr_with : (List Token → Reads S.Expr) → (List Token → Reads S.Expr) → List Token → Reads S.Expr
-expr_with unary expr ts = chains unary ts >>= λ test. choice_then expr test.0 test.1 (line_behind Question test.1)
+expr_with unary expr ts = chains unary ts >>= λ test. choice_then expr test.0 test.1 (line_and_rest Question test.1)
 
--- the arguments of a call and the parenthesis behind them
+-- the arguments of a call and the parenthesis after them
 abbrev pub args_with : (List Token → Reads S.Expr) → List Token → Option (List Token) → Reads (List S.Expr)
 args_with expr ts (Some rest) = Ok ([], rest)
 args_with expr ts None = commas expr ts >>= λ args. past RightParen args.1 λ rest. Ok (args.0, rest)
 
 abbrev pub args_in : (List Token → Reads S.Expr) → List Token → Reads (List S.Expr)
-args_in expr ts = args_with expr ts (behind (is_mark RightParen) ts)
+args_in expr ts = args_with expr ts (rest_after (is_mark RightParen) ts)
 
 -- a name, or a call
 abbrev pub name_then : (List Token → Reads S.Expr) → List ℕ → ℕ → List Token → Option (List Token) → Reads S.Expr
@@ -135,13 +135,13 @@ name_then expr name line ts None = Ok (S.name name line, ts)
 name_then expr name line ts (Some inside) = args_in expr inside >>= λ args. Ok (S.call name (S.exprs args.0) line, args.1)
 
 abbrev pub name_with : (List Token → Reads S.Expr) → List ℕ → ℕ → List Token → Reads S.Expr
-name_with expr name line ts = name_then expr name line ts (behind (is_mark LeftParen) ts)
+name_with expr name line ts = name_then expr name line ts (rest_after (is_mark LeftParen) ts)
 
--- an expression behind its opening parenthesis
+-- an expression after its opening parenthesis
 abbrev pub paren_with : (List Token → Reads S.Expr) → ℕ → List Token → Reads S.Expr
 paren_with expr line ts = expr ts >>= λ e. past RightParen e.1 λ rest. Ok (S.paren e.0 line, rest)
 
--- the space name behind a type: a string that stands before a further value
+-- the space name after a type: a string that stands before a further value
 abbrev pub space_when : Bool → Space → List Token → List Token → Option Space × List Token
 space_when true space rest ts = (Some space, rest)
 space_when false space rest ts = (None, ts)
@@ -154,38 +154,38 @@ abbrev pub space_at : List Token → Option Space × List Token
 space_at [] = (None, [])
 space_at (t ∷ ts) = space_in t.kind t.line ts (t ∷ ts)
 
--- that space and those tokens behind it
+-- that space and those tokens after it
 abbrev pub IsSpaceAt : Option Space → List Token → List Token → Type 0
 IsSpaceAt space rest ts = (space ≡ (space_at ts).0) × (rest ≡ (space_at ts).1)
 
--- what stands in the parentheses behind a type: one value, or three
+-- what stands in the parentheses after a type: one value, or three
 abbrev pub triple_with : (List Token → Reads S.Expr) → SlType → Option Space → ℕ → S.Expr → List Token → Reads S.Expr
 triple_with expr kind space line x ts =
-    expr ts >>= λ y. past Comma y.1 λ behind_y.
-    expr behind_y >>= λ z. past RightParen z.1 λ rest. Ok (S.triple kind space x y.0 z.0 line, rest)
+    expr ts >>= λ y. past Comma y.1 λ after_y.
+    expr after_y >>= λ z. past RightParen z.1 λ rest. Ok (S.triple kind space x y.0 z.0 line, rest)
 
 abbrev pub paren_typed : SlType → Option Space → ℕ → ℕ → S.Expr → List Token → Reads S.Expr
 paren_typed kind space line inner x ts = past RightParen ts λ rest. Ok (S.typed kind space (S.paren x inner) line, rest)
 
 abbrev pub triple_then : (List Token → Reads S.Expr) → SlType → Option Space → ℕ → ℕ → S.Expr → List Token → Option (List Token) → Reads S.Expr
 triple_then expr kind space line inner x ts None = paren_typed kind space line inner x ts
-triple_then expr kind space line inner x ts (Some behind_x) = triple_with expr kind space line x behind_x
+triple_then expr kind space line inner x ts (Some after_x) = triple_with expr kind space line x after_x
 
 abbrev pub inside_with : (List Token → Reads S.Expr) → SlType → Option Space → ℕ → ℕ → List Token → Reads S.Expr
-inside_with expr kind space line inner ts = expr ts >>= λ x. triple_then expr kind space line inner x.0 x.1 (behind (is_mark Comma) x.1)
+inside_with expr kind space line inner ts = expr ts >>= λ x. triple_then expr kind space line inner x.0 x.1 (rest_after (is_mark Comma) x.1)
 
 abbrev pub value_then : (List Token → Reads S.Expr) → (List Token → Reads S.Expr) → SlType → Option Space → ℕ → List Token → Option (ℕ × List Token) → Reads S.Expr
 value_then expr prim kind space line ts None = prim ts >>= λ e. Ok (S.typed kind space e.0 line, e.1)
 value_then expr prim kind space line ts (Some p) = inside_with expr kind space line p.0 p.1
 
--- behind a type: a space name or none, and one value or three
+-- after a type: a space name or none, and one value or three
 abbrev pub value_with : (List Token → Reads S.Expr) → (List Token → Reads S.Expr) → SlType → ℕ → Option Space × List Token → Reads S.Expr
-value_with expr prim kind line s = value_then expr prim kind s.0 line s.1 (line_behind LeftParen s.1)
+value_with expr prim kind line s = value_then expr prim kind s.0 line s.1 (line_and_rest LeftParen s.1)
 
 abbrev pub typed_with : (List Token → Reads S.Expr) → (List Token → Reads S.Expr) → SlType → ℕ → List Token → Reads S.Expr
 typed_with expr prim kind line ts = value_with expr prim kind line (space_at ts)
 
--- what stands between operators, by its first token; `typed` reads behind a type
+-- what stands between operators, by its first token; `typed` reads after a type
 abbrev pub prim_in : (List Token → Reads S.Expr) → (SlType → ℕ → List Token → List Token → Reads S.Expr) → TokenKind → ℕ → List Token → List Token → Reads S.Expr
 prim_in expr typed (kinds.Number text) line rest ts = Ok (S.number text line, rest)
 prim_in expr typed (kinds.Str text) line rest ts = Ok (S.string text line, rest)
@@ -203,7 +203,7 @@ prefix_in (kinds.Operator operators.Subtract) = Some prefixes.Negative
 prefix_in kinds.Not = Some prefixes.Not
 prefix_in _ = None
 
--- a prefix operator at the front with its line, and the tokens behind it
+-- a prefix operator at the front with its line, and the tokens after it
 abbrev pub prefix_at : List Token → Option (Prefix × ℕ × List Token)
 prefix_at [] = None
 prefix_at (t ∷ ts) = option_map (λ p. (p, t.line, ts)) (prefix_in t.kind)

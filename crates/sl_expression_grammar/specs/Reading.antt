@@ -8,7 +8,7 @@ use Rattle.sl_lexer.specs.declared.token.Mark.TheVariants as marks
 use Rattle.sl_expression_grammar.specs.declared.fault.SlCode.{SlCode}
 use Rattle.sl_expression_grammar.specs.declared.fault.SlCode.TheVariants.{P1, P2, P3}
 
--- what is read at the front, and the tokens behind it; or a fault and the tokens from its place on
+-- what is read at the front, and the tokens after it; or a fault and the tokens from its place on
 abbrev pub Reads : Type 0 → Type 0
 Reads A = Result (A × List Token) (SlCode × List Token)
 
@@ -17,7 +17,7 @@ abbrev pub ◌>>=◌ : {A B : Type 0} → Reads A → (A × List Token → Reads
 (Ok x) >>= f = f x
 (Err e) >>= f = Err e
 
--- a list that goes on so behind these items
+-- a list that goes on so after these items
 abbrev pub with_front : {A : Type 0} → List A → Reads (List A) → Reads (List A)
 with_front front (Ok x) = Ok (front ++ x.0, x.1)
 with_front front (Err e) = Err e
@@ -68,10 +68,10 @@ abbrev pub is_mark : Mark → TokenKind → Bool
 is_mark mark (kinds.Mark m) = same_mark mark m
 is_mark mark _ = false
 
--- the tokens behind a first one that is such
-abbrev pub behind : (TokenKind → Bool) → List Token → Option (List Token)
-behind p [] = None
-behind p (t ∷ ts) = if p t.kind then Some ts else None
+-- the tokens after a first one that is such
+abbrev pub rest_after : (TokenKind → Bool) → List Token → Option (List Token)
+rest_after p [] = None
+rest_after p (t ∷ ts) = if p t.kind then Some ts else None
 
 abbrev pub go_on : {A : Type 0} → List Token → (List Token → Reads A) → Option (List Token) → Reads A
 go_on ts go None = unexpected ts
@@ -79,16 +79,16 @@ go_on ts go (Some rest) = go rest
 
 -- a mark, and then the rest
 abbrev pub past : {A : Type 0} → Mark → List Token → (List Token → Reads A) → Reads A
-past mark ts go = go_on ts go (behind (is_mark mark) ts)
+past mark ts go = go_on ts go (rest_after (is_mark mark) ts)
 
--- the line of that mark at the front, and the tokens behind it
-abbrev pub line_behind : Mark → List Token → Option (ℕ × List Token)
-line_behind mark [] = None
-line_behind mark (t ∷ ts) = if is_mark mark t.kind then Some (t.line, ts) else None
+-- the line of that mark at the front, and the tokens after it
+abbrev pub line_and_rest : Mark → List Token → Option (ℕ × List Token)
+line_and_rest mark [] = None
+line_and_rest mark (t ∷ ts) = if is_mark mark t.kind then Some (t.line, ts) else None
 
 -- items with commas between them, at least one
 abbrev pub after_comma : {A : Type 0} → (List Token → Reads A) → List Token → Option (Reads A)
-after_comma item ts = option_map item (behind (is_mark marks.Comma) ts)
+after_comma item ts = option_map item (rest_after (is_mark marks.Comma) ts)
 
 -- one thing or several with commas between
 abbrev pub commas : {A : Type 0} → (List Token → Reads A) → List Token → Reads (List A)

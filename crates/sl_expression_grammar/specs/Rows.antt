@@ -34,7 +34,7 @@ rows_from Cross = 3
 rows_from Product = 2
 rows_from Dot = 1
 
--- what is read behind a type and behind a prefix operator, where so many levels are left
+-- what is read after a type and after a prefix operator, where so many levels are left
 abbrev pub typed_at : ℕ → SlType → ℕ → List Token → List Token → Reads S.Expr
 typed_at zero = deep_typed
 typed_at (suc levels) = λ kind line rest ts. typed_with (expr_at levels) (prim_at levels) kind line rest

@@ -7,7 +7,7 @@ use crate::reading::Stop;
 use sl_lexer::Token;
 use std::alloc::{AllocError, Global};
 
-/// An item in a box, and the tokens behind it.
+/// An item in a box, and the tokens after it.
 pub fn boxed<T: Drop>(
     alloc: Global,
     item: T,

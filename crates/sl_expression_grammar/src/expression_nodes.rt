@@ -155,7 +155,7 @@ pub fn make_choice<'a>(
     boxed(alloc, choice, rest)
 }
 
-// The space whose name stands behind a type, or none.
+// The space whose name stands after a type, or none.
 fn copied_space(alloc: Global, space: Option<(&Text, u32)>) -> Result<Option<Space>, NoMemory>
     ensures { IfOk result (λ s. s ≡ space_from space.entry) }
 {

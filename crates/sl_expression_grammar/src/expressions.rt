@@ -14,7 +14,7 @@ use crate::expression_nodes::{
 };
 use crate::fault::SlCode;
 use crate::heads::{begins_expr, link_at, prefix_at, space_at, tighter};
-use crate::reading::{Stop, behind, closed, code_at, line_behind};
+use crate::reading::{Stop, closed, code_at, line_and_rest, rest_after};
 use fixed_math::Text;
 use sl_ast::{Expr, Link, Row, SlType};
 use sl_lexer::{Mark, Token, TokenKind};
@@ -50,13 +50,13 @@ fn choice<'a>(
     ensures within { IfOk result (λ e. length e.1.now ≤ length ts.now) }
 {
     let (test, rest) = chain(alloc, levels, Row::Or, ts)?;
-    match line_behind(Mark::Question, rest) {
+    match line_and_rest(Mark::Question, rest) {
         None => Ok((test, rest)),
         Some((line, rest)) => chosen(alloc, levels, test, line, rest),
     }
 }
 
-// A choice behind its question mark.
+// A choice after its question mark.
 #[cycle(expressions)]
 fn chosen<'a>(
     alloc: Global,
@@ -128,7 +128,7 @@ fn operand<'a>(
     }
 }
 
-// Prefix operators and what stands behind them.
+// Prefix operators and what stands after them.
 #[cycle(expressions)]
 fn unary<'a>(
     alloc: Global,
@@ -148,7 +148,7 @@ fn unary<'a>(
     make_prefixed(alloc, operator, operand, line, rest)
 }
 
-// What stands between operators and behind prefix operators.
+// What stands between operators and after prefix operators.
 #[cycle(expressions)]
 fn prim<'a>(
     alloc: Global,
@@ -185,14 +185,14 @@ fn named<'a>(
     ensures gives { Gives boxed_expr result (name_with (expr_at levels) name.now line ts.now) }
     ensures within { IfOk result (λ e. length e.1.now ≤ length ts.now) }
 {
-    let Some(inside) = behind(Mark::LeftParen, ts) else {
+    let Some(inside) = rest_after(Mark::LeftParen, ts) else {
         return make_name(alloc, name, line, ts);
     };
     let (args, rest) = arguments(alloc, levels, inside)?;
     make_call(alloc, name, args, line, rest)
 }
 
-// Arguments and the parenthesis behind them.
+// Arguments and the parenthesis after them.
 #[cycle(expressions)]
 fn arguments<'a>(
     alloc: Global,
@@ -202,7 +202,7 @@ fn arguments<'a>(
     ensures gives { GivesItems expr_of result (args_in (expr_at levels) ts.now) }
     ensures within { IfOk result (λ e. length e.1.now ≤ length ts.now) }
 {
-    if let Some(rest) = behind(Mark::RightParen, ts) {
+    if let Some(rest) = rest_after(Mark::RightParen, ts) {
         return Ok((Vec::new(alloc), rest));
     }
     let (first, rest) = expr(alloc, levels, ts)?;
@@ -210,7 +210,7 @@ fn arguments<'a>(
     closed(args, Mark::RightParen, rest)
 }
 
-// Further arguments behind the first.
+// Further arguments after the first.
 #[cycle(expressions)]
 fn further<'a>(
     alloc: Global,
@@ -224,7 +224,7 @@ fn further<'a>(
     let mut args = Vec::new(alloc);
     push_boxed(&mut args, first)?;
     let mut rest = ts;
-    while let Some(after) = behind(Mark::Comma, rest) {
+    while let Some(after) = rest_after(Mark::Comma, rest) {
         let (arg, left) = expr(alloc, levels, after)?;
         push_boxed(&mut args, arg)?;
         rest = left;
@@ -232,7 +232,7 @@ fn further<'a>(
     Ok((args, rest))
 }
 
-// An expression behind its opening parenthesis.
+// An expression after its opening parenthesis.
 #[cycle(expressions)]
 fn paren<'a>(
     alloc: Global,
@@ -248,7 +248,7 @@ fn paren<'a>(
     make_paren(alloc, inner, line, rest)
 }
 
-// What stands behind a type.
+// What stands after a type.
 #[cycle(expressions)]
 fn typed<'a>(
     alloc: Global,
@@ -261,14 +261,14 @@ fn typed<'a>(
     ensures within { IfOk result (λ e. length e.1.now ≤ length ts.now) }
 {
     let (space, rest) = space_at(ts);
-    if let Some((inner, rest)) = line_behind(Mark::LeftParen, rest) {
+    if let Some((inner, rest)) = line_and_rest(Mark::LeftParen, rest) {
         return inside(alloc, levels, kind, space, line, inner, rest);
     }
     let (value, rest) = prim(alloc, levels, rest)?;
     make_typed(alloc, kind, space, value, line, rest)
 }
 
-// One value or three behind a type and an opening parenthesis.
+// One value or three after a type and an opening parenthesis.
 #[cycle(expressions)]
 fn inside<'a>(
     alloc: Global,
@@ -283,13 +283,13 @@ fn inside<'a>(
     ensures within { IfOk result (λ e. length e.1.now ≤ length ts.now) }
 {
     let (x, rest) = expr(alloc, levels, ts)?;
-    match behind(Mark::Comma, rest) {
+    match rest_after(Mark::Comma, rest) {
         Some(rest) => triple(alloc, levels, kind, space, x, line, rest),
         None => typed_paren(alloc, kind, space, x, inner, line, rest),
     }
 }
 
-// The closing parenthesis behind one value behind a type.
+// The closing parenthesis after one value after a type.
 fn typed_paren<'a>(
     alloc: Global,
     kind: SlType,

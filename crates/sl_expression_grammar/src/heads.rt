@@ -93,7 +93,7 @@ pub fn tighter(row: Row) -> Option<Row>
     }
 }
 
-// An operator of that row at the front with its line, and the tokens behind it.
+// An operator of that row at the front with its line, and the tokens after it.
 fn operator_at(row: Row, ts: &[Token]) -> Option<(Operator, u32, &[Token])>
     ensures at { option_map (λ o. (o.0, o.1, o.2.now)) result ≡ operator_at row ts.now }
     ensures within { IfSome result (λ o. length o.2.now < length ts.now) }
@@ -109,7 +109,7 @@ fn operator_at(row: Row, ts: &[Token]) -> Option<(Operator, u32, &[Token])>
     }
 }
 
-// The same behind so many operators of the chain.
+// The same after so many operators of the chain.
 pub fn link_at(row: Row, count: usize, ts: &[Token]) -> Option<(Operator, u32, &[Token])>
     ensures at { option_map (λ o. (o.0, o.1, o.2.now)) result ≡ link_at row count ts.now }
     ensures within { IfSome result (λ o. length o.2.now < length ts.now) }
@@ -120,7 +120,7 @@ pub fn link_at(row: Row, count: usize, ts: &[Token]) -> Option<(Operator, u32, &
     operator_at(row, ts)
 }
 
-// A prefix operator at the front with its line, and the tokens behind it.
+// A prefix operator at the front with its line, and the tokens after it.
 pub fn prefix_at(ts: &[Token]) -> Option<(Prefix, u32, &[Token])>
     ensures at { option_map (λ o. (o.0, o.1, o.2.now)) result ≡ prefix_at ts.now }
     ensures within { IfSome result (λ o. length o.2.now < length ts.now) }
@@ -135,7 +135,7 @@ pub fn prefix_at(ts: &[Token]) -> Option<(Prefix, u32, &[Token])>
     }
 }
 
-// The space name behind a type with its line, if a value stands behind it, and the tokens behind it.
+// The space name after a type with its line, if a value stands after it, and the tokens after it.
 pub fn space_at(ts: &[Token]) -> (Option<(&Text, u32)>, &[Token])
     ensures at { IsSpaceAt (space_from result.0) result.1.now ts.now }
     ensures within { length result.1.now ≤ length ts.now }

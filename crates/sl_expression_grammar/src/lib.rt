@@ -12,4 +12,4 @@ mod reading;
 pub use boxes::{boxed, push, push_boxed};
 pub use expressions::expr;
 pub use fault::SlCode;
-pub use reading::{Stop, behind, closed, code_at, past};
+pub use reading::{Stop, closed, code_at, past, rest_after};

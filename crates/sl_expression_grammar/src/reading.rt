@@ -1,6 +1,6 @@
 // Steps over single tokens, and the faults of the grammar.
 ghost use Rattle.std.specs.Prelude.{◌≡◌, ◌<◌, Ok, IfOk, IfSome, length, option_map};
-ghost use Rattle.sl_expression_grammar.specs.Reading.{head_is, is_bad, is_mark, code_for, behind, line_behind};
+ghost use Rattle.sl_expression_grammar.specs.Reading.{head_is, is_bad, is_mark, code_for, rest_after, line_and_rest};
 ghost use Rattle.sl_expression_grammar.specs.Parsing.{MatchPast, MatchClosed};
 ghost use Rattle.sl_expression_grammar.specs.declared.reading.Stop.TheVariants.{NoMemory as OutOfMemory};
 
@@ -72,9 +72,9 @@ fn is_mark(mark: Mark, kind: &TokenKind) -> bool
     }
 }
 
-/// The tokens behind that mark, where it stands at the front.
-pub fn behind(mark: Mark, ts: &[Token]) -> Option<&[Token]>
-    ensures at { option_map (λ o. o.now) result ≡ behind (is_mark mark) ts.now }
+/// The tokens after that mark, where it stands at the front.
+pub fn rest_after(mark: Mark, ts: &[Token]) -> Option<&[Token]>
+    ensures at { option_map (λ o. o.now) result ≡ rest_after (is_mark mark) ts.now }
     ensures within { IfSome result (λ o. length o.now < length ts.now) }
 {
     match ts {
@@ -83,9 +83,9 @@ pub fn behind(mark: Mark, ts: &[Token]) -> Option<&[Token]>
     }
 }
 
-// The line of that mark at the front and the tokens behind it.
-pub fn line_behind(mark: Mark, ts: &[Token]) -> Option<(u32, &[Token])>
-    ensures at { option_map (λ o. (o.0, o.1.now)) result ≡ line_behind mark ts.now }
+// The line of that mark at the front and the tokens after it.
+pub fn line_and_rest(mark: Mark, ts: &[Token]) -> Option<(u32, &[Token])>
+    ensures at { option_map (λ o. (o.0, o.1.now)) result ≡ line_and_rest mark ts.now }
     ensures within { IfSome result (λ o. length o.1.now < length ts.now) }
 {
     match ts {
@@ -94,18 +94,18 @@ pub fn line_behind(mark: Mark, ts: &[Token]) -> Option<(u32, &[Token])>
     }
 }
 
-/// The tokens behind that mark, which has to stand at the front.
+/// The tokens after that mark, which has to stand at the front.
 pub fn past(mark: Mark, ts: &[Token]) -> Result<&[Token], Stop<'_>>
     ensures gives { MatchPast mark ts.now result }
     ensures within { IfOk result (λ rest. length rest.now < length ts.now) }
 {
-    match behind(mark, ts) {
+    match rest_after(mark, ts) {
         Some(rest) => Ok(rest),
         None => Err(Stop::At(code_at(ts), ts)),
     }
 }
 
-/// An item that was read, and that mark behind it.
+/// An item that was read, and that mark after it.
 pub fn closed<T: Drop>(item: T, mark: Mark, ts: &[Token]) -> Result<(T, &[Token]), Stop<'_>>
     ensures gives { MatchClosed item mark ts.now result }
     ensures within { IfOk result (λ r. length r.1.now < length ts.now) }

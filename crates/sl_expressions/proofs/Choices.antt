@@ -29,7 +29,7 @@ pub choice_is : (line : ℕ) (f : U.Expr → Found T.Expr) (x y z a b c : Expr) 
 choice_is line f x y z a b c p q r =
     chosen_three line (f (expr_of x)) (f (expr_of y)) (f (expr_of z)) ∙ ap (chosen line) (three_is f x y z a b c p q r)
 
--- three parts, one behind the other
+-- three parts, one after the other
 pub three_more : (x y z : Found T.Expr) → one_more (one_more (one_more (Ok []) x) y) z ≡ three x y z
 three_more (Err e) y z = refl
 three_more (Ok a) (Err e) z = refl

@@ -1,7 +1,7 @@
 pub mod Rows
 pub mod Operands
 pub mod Nodes
-pub mod Behind
+pub mod After
 pub mod ScopeNames
 pub mod Named
 pub mod Chains

@@ -10,17 +10,17 @@ abbrev Named : {A : Type 0} → (A → List ℕ) → List ℕ → List A → Opt
 Named of name xs None = last_named of name xs ≡ None
 Named {A} of name xs (Some k) = (k < length xs) × ((x : A) → last_named of name xs ≡ Some (k, get_or xs k x))
 
-behind_head : {A : Type 0} (of : A → List ℕ) (name : List ℕ) (x : A) (xs : List A) (o : Option ℕ) → Named of name xs o
+after_head : {A : Type 0} (of : A → List ℕ) (name : List ℕ) (x : A) (xs : List A) (o : Option ℕ) → Named of name xs o
     → Named of name (x ∷ xs) (option_or (option_map suc o) (cond (bytes_eq (of x) name) (Some 0) None))
-behind_head of name x xs (Some k) h = (omega (arith, h.0), λ d. ap (λ o. option_or (option_map one_further o) (cond (bytes_eq (of x) name) (Some (0, x)) None)) (h.1 d))
-behind_head of name x xs None h =
+after_head of name x xs (Some k) h = (omega (arith, h.0), λ d. ap (λ o. option_or (option_map one_further o) (cond (bytes_eq (of x) name) (Some (0, x)) None)) (h.1 d))
+after_head of name x xs None h =
     cond_both (bytes_eq (of x) name) (Some 0) None (λ o. Named of name (x ∷ xs) o)
     (λ e. (omega arith, λ d. ap₂ (λ o b. option_or (option_map one_further o) (cond b (Some (0, x)) None)) h e))
     (λ e. ap₂ (λ o b. option_or (option_map one_further o) (cond b (Some (0, x)) None)) h e)
 
 named : {A : Type 0} (of : A → List ℕ) (name : List ℕ) (xs : List A) → Named of name xs (last_place name (map of xs))
 named of name [] = refl
-named of name (x ∷ xs) = behind_head of name x xs (last_place name (map of xs)) (named of name xs)
+named of name (x ∷ xs) = after_head of name x xs (last_place name (map of xs)) (named of name xs)
 
 -- what a look-up by place gives, seen
 abbrev pub FoundAt : {A B : Type 0} → (A → B) → (B → List ℕ) → List ℕ → List A → Option ℕ → Type 0
@@ -55,12 +55,12 @@ abbrev pub StandsAt : {A : Type 0} → List A → Option (ℕ × A) → Type 0
 StandsAt xs None = Unit {0}
 StandsAt xs (Some r) = (r.0 < length xs) × (get_or xs r.0 r.1 ≡ r.1)
 
-stands_behind : {A : Type 0} (x : A) (xs : List A) (o e : Option (ℕ × A)) → StandsAt xs o → StandsAt (x ∷ xs) e → StandsAt (x ∷ xs) (option_or (option_map one_further o) e)
-stands_behind x xs None e h k = k
-stands_behind x xs (Some r) e h k = (omega (arith, h.0), h.1)
+stands_after : {A : Type 0} (x : A) (xs : List A) (o e : Option (ℕ × A)) → StandsAt xs o → StandsAt (x ∷ xs) e → StandsAt (x ∷ xs) (option_or (option_map one_further o) e)
+stands_after x xs None e h k = k
+stands_after x xs (Some r) e h k = (omega (arith, h.0), h.1)
 
 pub stands_at : {A : Type 0} (of : A → List ℕ) (name : List ℕ) (xs : List A) → StandsAt xs (last_named of name xs)
 stands_at of name [] = tt
 stands_at of name (x ∷ xs) =
-    stands_behind x xs (last_named of name xs) (cond (bytes_eq (of x) name) (Some (0, x)) None) (stands_at of name xs)
+    stands_after x xs (last_named of name xs) (cond (bytes_eq (of x) name) (Some (0, x)) None) (stands_at of name xs)
     (cond_both (bytes_eq (of x) name) (Some (0, x)) None (λ o. StandsAt (x ∷ xs) o) (λ e. (omega arith, refl)) (λ e. tt))

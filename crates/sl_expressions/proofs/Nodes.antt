@@ -31,7 +31,7 @@ small_link [] i x low is = absurd (omega (arith, low))
 small_link (y ∷ ys) zero x low is = let q = ap (λ e. size (expr_of e.operand)) is in omega arith
 small_link (y ∷ ys) (suc i) x low is = omega (arith, small_link ys i x (omega (arith, low)) is)
 
--- one operator of a chain and those behind it
+-- one operator of a chain and those after it
 pub chain_split : (xs : List Link) (i : ℕ) (x : Link) → i < length xs → x ≡ get_or xs i x
     → U.links (map link_of (drop i xs)) ≡ U.link x.operator x.line (expr_of x.operand) (U.links (map link_of (drop (i + 1) xs)))
 chain_split [] i x low is = absurd (omega (arith, low))

@@ -220,18 +220,18 @@ by_count (operations.Value ops.FaceForward) args = facing args
 by_count (operations.Look look) args = operations.Look (looking look args)
 by_count op args = op
 
--- what can't be called at that place: `depth` in a default, `noise` directly behind a type
+-- what can't be called at that place: `depth` in a default, `noise` directly after a type
 abbrev pub is_noise : Operation → Bool
 is_noise (operations.Value ops.Noise) = true
 is_noise _ = false
 
 abbrev pub is_barred : W.Around → Bool → Operation → Bool
-is_barred g behind op = (behind && is_noise op) || (g.default && not (is_constant op))
+is_barred g after_type op = (after_type && is_noise op) || (g.default && not (is_constant op))
 
 -- whether an operation may stand there
 abbrev pub allowed : W.Around → Bool → Operation → ℕ → Found Bool
-allowed g behind op line =
-    if not (has_operation g.kind op) then Err (T6, line) else (if is_barred g behind op then Err (T11, line) else Ok true)
+allowed g after_type op line =
+    if not (has_operation g.kind op) then Err (T6, line) else (if is_barred g after_type op then Err (T11, line) else Ok true)
 
 -- the predefined normal, which a kind of shader without a surface and a parameter's default don't have
 abbrev pub lacks : W.Around → Operation → Bool
@@ -244,14 +244,14 @@ is_amiss g op args = misfits (by_count op args) args || lacks g (by_count op arg
 
 -- a call of a built-in: its own faults, the lower code first, then those of the spaces, then those of the arguments
 abbrev pub operated : W.Around → Bool → List Local → ℕ → List U.Expr → Bool → Found (List T.Expr) → Operation → Found T.Expr
-operated g behind ls line es other args op =
+operated g after_type ls line es other args op =
     if refuses args (is_amiss g op) then Err (T2, line) else
-    (allowed g behind op line >>= λ _. operation_in g ls op line es other >>= λ o. args >>= λ ts. applied (by_count o ts) line ts)
+    (allowed g after_type op line >>= λ _. operation_in g ls op line es other >>= λ o. args >>= λ ts. applied (by_count o ts) line ts)
 
 abbrev pub built : W.Around → Bool → List Local → ℕ → List U.Expr → Bool → Found (List T.Expr) → Option Builtin → Found T.Expr
-built g behind ls line es other args None = Err (T1, line)
-built g behind ls line es other args (Some LeftOut) = Err (T11, line)
-built g behind ls line es other args (Some (Plain op)) = operated g behind ls line es other args op
+built g after_type ls line es other args None = Err (T1, line)
+built g after_type ls line es other args (Some LeftOut) = Err (T11, line)
+built g after_type ls line es other args (Some (Plain op)) = operated g after_type ls line es other args op
 
 -- a function that calls itself
 abbrev pub calls_itself : List Local → ℕ → Found (List T.Expr) → Found T.Expr
@@ -259,16 +259,16 @@ calls_itself formals line args = if refuses args (λ ts. not (fits formals ts)) 
 
 -- a function hides a built-in of its name
 abbrev pub resolved : W.Around → Bool → List Local → List ℕ → ℕ → List U.Expr → Bool → Found (List T.Expr) → Option (ℕ × Callee) → Found T.Expr
-resolved g behind ls name line es other args (Some c) = called g.default c.0 c.1 line args
-resolved g behind ls name line es other args None = built g behind ls line es other args (entry_of builtin_names name)
+resolved g after_type ls name line es other args (Some c) = called g.default c.0 c.1 line args
+resolved g after_type ls name line es other args None = built g after_type ls line es other args (entry_of builtin_names name)
 
 abbrev pub call_with : Around → Bool → List Local → List ℕ → ℕ → List U.Expr → Bool → Found (List T.Expr) → Option (List Local) → Found T.Expr
-call_with g behind ls name line es other args (Some formals) = calls_itself formals line args
-call_with g behind ls name line es other args None = resolved g.at behind ls name line es other args (callee_named name g.known)
+call_with g after_type ls name line es other args (Some formals) = calls_itself formals line args
+call_with g after_type ls name line es other args None = resolved g.at after_type ls name line es other args (callee_named name g.known)
 
 -- a call of a function that stands before, or of a built-in
 abbrev pub call_of : Around → Bool → List Local → List ℕ → ℕ → List U.Expr → Bool → Found (List T.Expr) → Found T.Expr
-call_of g behind ls name line es other args = call_with g behind ls name line es other args (formals_in name g.own)
+call_of g after_type ls name line es other args = call_with g after_type ls name line es other args (formals_in name g.own)
 
 abbrev pub three : Found T.Expr → Found T.Expr → Found T.Expr → Found (List T.Expr)
 three x y z = x >>= λ a. y >>= λ b. z >>= λ c. Ok (a ∷ b ∷ c ∷ [])
@@ -278,20 +278,20 @@ abbrev pub listed : U.Exprs → List U.Expr
 listed U.none = []
 listed (U.more e rest) = e ∷ listed rest
 
--- `behind`: whether the expression stands directly behind a type
+-- `after`: whether the expression stands directly after a type
 abbrev mutual
   pub typed_expr : Around → Bool → List Local → U.Expr → Found T.Expr
-  typed_expr g behind ls (U.number text line) = Ok (T.number (number_value text) line)
-  typed_expr g behind ls (U.string text line) = Ok (T.word text line)
-  typed_expr g behind ls (U.name name line) = named g.at name line (level_of name ls)
-  typed_expr g behind ls (U.call name args line) = call_of g behind ls name line (listed args) (first_is_other g ls args) (typed_args g ls args)
-  typed_expr g behind ls (U.paren e line) = typed_expr g false ls e
-  typed_expr g behind ls (U.triple kind space x y z line) =
+  typed_expr g after_type ls (U.number text line) = Ok (T.number (number_value text) line)
+  typed_expr g after_type ls (U.string text line) = Ok (T.word text line)
+  typed_expr g after_type ls (U.name name line) = named g.at name line (level_of name ls)
+  typed_expr g after_type ls (U.call name args line) = call_of g after_type ls name line (listed args) (first_is_other g ls args) (typed_args g ls args)
+  typed_expr g after_type ls (U.paren e line) = typed_expr g false ls e
+  typed_expr g after_type ls (U.triple kind space x y z line) =
       tripled g.at kind space line (three (typed_expr g false ls x) (typed_expr g false ls y) (typed_expr g false ls z))
-  typed_expr g behind ls (U.typed kind space e line) = converted g.at kind space (is_call_node e) line (typed_expr g true ls e)
-  typed_expr g behind ls (U.prefixed operator e line) = prefixed operator line (typed_expr g false ls e)
-  typed_expr g behind ls (U.chain row e rest) = typed_expr g false ls e >>= λ t. typed_links g ls t rest
-  typed_expr g behind ls (U.choice t a b line) =
+  typed_expr g after_type ls (U.typed kind space e line) = converted g.at kind space (is_call_node e) line (typed_expr g true ls e)
+  typed_expr g after_type ls (U.prefixed operator e line) = prefixed operator line (typed_expr g false ls e)
+  typed_expr g after_type ls (U.chain row e rest) = typed_expr g false ls e >>= λ t. typed_links g ls t rest
+  typed_expr g after_type ls (U.choice t a b line) =
       typed_expr g false ls t >>= λ x. typed_expr g false ls a >>= λ y. typed_expr g false ls b >>= λ z. applied (operations.Value ops.Select) line (x ∷ y ∷ z ∷ [])
 
   pub typed_args : Around → List Local → U.Exprs → Found (List T.Expr)

@@ -32,7 +32,7 @@ kind_of (variable x kind line) = kind
 kind_of (apply operation args kind line) = kind
 kind_of (call function args kind line) = kind
 
--- an operator with the operand behind it, and the type of what stands as far as that
+-- an operator with the operand after it, and the type of what stands as far as that
 pub record Link : Type 0 where
   pub operation : Operation
   pub operand : Expr

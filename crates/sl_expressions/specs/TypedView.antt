@@ -19,7 +19,7 @@ abbrev mutual
   row_typed e.end_of-TypedExpr = T.none
   row_typed (e.more_of-TypedExpr x rest) = T.more (typed_of x) (row_typed rest)
 
-  -- behind what stands before
+  -- after what stands before
   pub row_chain : {m : _} → T.Expr → e.Row_of-TypedLink m → T.Expr
   row_chain t e.end_of-TypedLink = t
   row_chain t (e.more_of-TypedLink operation operand kind line rest) = row_chain (T.apply operation (T.more t (T.more (typed_of operand) T.none)) kind line) rest

@@ -39,19 +39,19 @@ GivesAll view (Err NoMemory) found = Unit {0}
 abbrev pub local_of : Local → S.Local
 local_of l = record { uniform = l.uniform; kind = l.kind; name = l.name.now; fixed = l.fixed; line = l.line }
 
--- a chain of operators behind what stands before
+-- a chain of operators after what stands before
 abbrev pub chain_of : T.Expr → Vec TypedLink Global → T.Expr
 chain_of t links = T.chained t (map tlink_of links.items)
 
--- expressions, and one more behind them
+-- expressions, and one more after them
 abbrev pub one_more : Found (List T.Expr) → Found T.Expr → Found (List T.Expr)
 one_more before found = before >>= λ ts. found >>= λ t. Ok (ts ++ t ∷ [])
 
--- an operator behind what stands before, from what is found of the operand behind it
+-- an operator after what stands before, from what is found of the operand after it
 abbrev pub operated : Operation → ℕ → T.Expr → Found T.Expr → Found T.Expr
 operated operation line before operand = operand >>= λ t. applied operation line (before ∷ t ∷ [])
 
--- what an answer says of the links behind a first operand: their chain, whose type it holds
+-- what an answer says of the links after a first operand: their chain, whose type it holds
 abbrev pub GivesLinks : Result NodeType TypeFault → T.Expr → List TypedLink → Found T.Expr → Type 0
 GivesLinks (Ok kind) first links found = (found ≡ Ok (T.chained first (map tlink_of links))) × (T.kind_of (T.chained first (map tlink_of links)) ≡ kind)
 GivesLinks (Err (At code line)) first links found = found ≡ Err (code, line)
@@ -69,15 +69,15 @@ GivesArgs args other found = GivesAll typed_of args.typed found × IsOther args.
 abbrev pub IsArgs : Args → S.Around → List S.Local → U.Exprs → Type 0
 IsArgs args g ls es = GivesArgs args (first_is_other g ls es) (typed_args g ls es)
 
--- arguments behind others
-abbrev pub args_behind : List T.Expr → Found (List T.Expr) → Found (List T.Expr)
-args_behind before found = found >>= λ ts. Ok (before ++ ts)
+-- arguments after others
+abbrev pub args_after : List T.Expr → Found (List T.Expr) → Found (List T.Expr)
+args_after before found = found >>= λ ts. Ok (before ++ ts)
 
 -- a node from what is found of a call's arguments
 abbrev pub OfArgs : Args → (Bool → Found (List T.Expr) → Found T.Expr) → Result TypedExpr TypeFault → Type 0
 OfArgs args node result = (other : Bool) (found : Found (List T.Expr)) → GivesArgs args other found → Gives typed_of result (node other found)
 
--- a link more behind those behind a first operand, by a step from what stands before and what is found of the operand behind it
+-- a link more after those after a first operand, by a step from what stands before and what is found of the operand after it
 abbrev pub AddsLink : (T.Expr → Found T.Expr → Found T.Expr) → NodeType → Result TypedExpr TypeFault → List TypedLink → List TypedLink → Result NodeType TypeFault → Type 0
 AddsLink step before operand old new result =
     (first : T.Expr) (found : Found T.Expr) → T.kind_of (T.chained first (map tlink_of old)) ≡ before → Gives typed_of operand found

@@ -222,21 +222,21 @@ fn by_count(operation: Operation, args: &[TypedExpr]) -> Operation
     }
 }
 
-fn is_barred(g: &Spot, behind: bool, operation: Operation) -> bool
-    ensures { result ≡ spec.is_barred (spot_of g.now) behind operation }
+fn is_barred(g: &Spot, after_type: bool, operation: Operation) -> bool
+    ensures { result ≡ spec.is_barred (spot_of g.now) after_type operation }
 {
-    (behind && matches!(operation, Operation::Value(ValueOperation::Noise)))
+    (after_type && matches!(operation, Operation::Value(ValueOperation::Noise)))
         || (g.default && !operation.is_constant())
 }
 
 // Whether an operation may stand there.
-fn allowed(g: &Spot, behind: bool, operation: Operation, line: u32) -> Result<(), TypeFault>
-    ensures { Gives (λ _. true) result (spec.allowed (spot_of g.now) behind operation line) }
+fn allowed(g: &Spot, after_type: bool, operation: Operation, line: u32) -> Result<(), TypeFault>
+    ensures { Gives (λ _. true) result (spec.allowed (spot_of g.now) after_type operation line) }
 {
     if !g.kind.has_operation(operation) {
         return fault(TypeCode::T6, line);
     }
-    if is_barred(g, behind, operation) {
+    if is_barred(g, after_type, operation) {
         return fault(TypeCode::T11, line);
     }
     Ok(())
@@ -261,20 +261,20 @@ fn is_amiss(g: &Spot, operation: Operation, args: &[TypedExpr]) -> bool
 // A call of a built-in.
 fn operated(
     g: &Spot,
-    behind: bool,
+    after_type: bool,
     scope: &Scope<'_>,
     line: u32,
     es: &[Expr],
     args: Args,
     operation: Operation,
 ) -> Result<TypedExpr, TypeFault>
-    ensures { OfArgs args (λ other found. spec.operated (spot_of g.now) behind (map local_of scope.now) line (map expr_of es.now) other found operation) result }
+    ensures { OfArgs args (λ other found. spec.operated (spot_of g.now) after_type (map local_of scope.now) line (map expr_of es.now) other found operation) result }
 {
     let Args { typed, other } = args;
     match typed {
         Err(TypeFault::NoMemory) => Err(TypeFault::NoMemory),
         Err(TypeFault::At { code, line: at }) => {
-            allowed(g, behind, operation, line)?;
+            allowed(g, after_type, operation, line)?;
             operation_in(g, scope, operation, line, es, other)?;
             fault(code, at)
         }
@@ -282,7 +282,7 @@ fn operated(
             if is_amiss(g, operation, args.as_slice()) {
                 return fault(TypeCode::T2, line);
             }
-            allowed(g, behind, operation, line)?;
+            allowed(g, after_type, operation, line)?;
             let operation = operation_in(g, scope, operation, line, es, other)?;
             let operation = by_count(operation, args.as_slice());
             applied(operation, line, args)
@@ -292,19 +292,21 @@ fn operated(
 
 fn built(
     g: &Spot,
-    behind: bool,
+    after_type: bool,
     scope: &Scope<'_>,
     line: u32,
     es: &[Expr],
     args: Args,
     builtin: Option<Builtin>,
 ) -> Result<TypedExpr, TypeFault>
-    ensures { OfArgs args (λ other found. spec.built (spot_of g.now) behind (map local_of scope.now) line (map expr_of es.now) other found builtin) result }
+    ensures { OfArgs args (λ other found. spec.built (spot_of g.now) after_type (map local_of scope.now) line (map expr_of es.now) other found builtin) result }
 {
     match builtin {
         None => fault(TypeCode::T1, line),
         Some(Builtin::LeftOut) => fault(TypeCode::T11, line),
-        Some(Builtin::Plain(operation)) => operated(g, behind, scope, line, es, args, operation),
+        Some(Builtin::Plain(operation)) => operated(
+            g, after_type, scope, line, es, args, operation,
+        ),
     }
 }
 
@@ -341,20 +343,20 @@ fn own_formals<'a, 'b>(name: &Text, own: &Option<Own<'a, 'b>>) -> Option<&'a [Lo
 
 fn resolved(
     g: &Around<'_, '_>,
-    behind: bool,
+    after_type: bool,
     scope: &Scope<'_>,
     name: &Text,
     line: u32,
     es: &[Expr],
     args: Args,
 ) -> Result<TypedExpr, TypeFault>
-    ensures { OfArgs args (λ other found. spec.resolved (spot_of g.now.at) behind (map local_of scope.now) name.now line (map expr_of es.now) other found (scopes.callee_named name.now (map callee_of g.now.known.now))) result }
+    ensures { OfArgs args (λ other found. spec.resolved (spot_of g.now.at) after_type (map local_of scope.now) name.now line (map expr_of es.now) other found (scopes.callee_named name.now (map callee_of g.now.known.now))) result }
 {
     match g.known.find(name) {
         Some((k, known)) => called(g.at.default, k, known, line, args.typed),
         None => {
             let builtin = find(builtin_names(), name);
-            built(&g.at, behind, scope, line, es, args, builtin)
+            built(&g.at, after_type, scope, line, es, args, builtin)
         },
     }
 }
@@ -362,17 +364,17 @@ fn resolved(
 /// A call, from what its arguments are.
 pub fn call_of(
     g: &Around<'_, '_>,
-    behind: bool,
+    after_type: bool,
     scope: &Scope<'_>,
     name: &Text,
     line: u32,
     es: &[Expr],
     args: Args,
 ) -> Result<TypedExpr, TypeFault>
-    ensures { OfArgs args (λ other found. spec.call_of (around_of g.now) behind (map local_of scope.now) name.now line (map expr_of es.now) other found) result }
+    ensures { OfArgs args (λ other found. spec.call_of (around_of g.now) after_type (map local_of scope.now) name.now line (map expr_of es.now) other found) result }
 {
     match own_formals(name, &g.own) {
         Some(formals) => calls_itself(formals, line, args.typed),
-        None => resolved(g, behind, scope, name, line, es, args),
+        None => resolved(g, after_type, scope, name, line, es, args),
     }
 }

@@ -5,7 +5,7 @@ ghost use Rattle.sl_ast.specs.SyntaxView.{expr_of, link_of};
 ghost use Rattle.sl_expressions.specs.Exprs as spec;
 ghost use Rattle.sl_expressions.specs.Typed as T;
 ghost use Rattle.sl_expressions.specs.TypedView.{typed_of};
-ghost use Rattle.sl_expressions.specs.Views.{Gives, GivesAll, IsArgs, args_behind, spot_of, around_of, local_of, found_of, chain_of};
+ghost use Rattle.sl_expressions.specs.Views.{Gives, GivesAll, IsArgs, args_after, spot_of, around_of, local_of, found_of, chain_of};
 
 use crate::calls::call_of;
 use crate::faults::{TypeCode, TypeFault, fault};
@@ -98,17 +98,17 @@ fn named(
     })
 }
 
-/// The typed tree of an expression; `behind` says that it stands directly behind a type. The parts of one that holds several are
+/// The typed tree of an expression; `after` says that it stands directly after a type. The parts of one that holds several are
 /// all typed, and the node that they make gives the first of their faults.
 #[cycle(exprs)]
 pub fn expr(
     e: &Expr,
     alloc: Global,
     g: &Around<'_, '_>,
-    behind: bool,
+    after_type: bool,
     scope: &Scope<'_>,
 ) -> Result<TypedExpr, TypeFault>
-    ensures { Gives typed_of result (spec.typed_expr (around_of g.now) behind (map local_of scope.now) (expr_of e.now)) }
+    ensures { Gives typed_of result (spec.typed_expr (around_of g.now) after_type (map local_of scope.now) (expr_of e.now)) }
 {
     match e {
         Expr::Number { text, line } => Ok(number(text, *line)),
@@ -163,7 +163,7 @@ pub fn expr(
         }
         Expr::Call { name, args, line } => {
             let parts = typed_args(args.as_slice(), alloc, g, scope);
-            call_of(g, behind, scope, name, *line, args.as_slice(), parts)
+            call_of(g, after_type, scope, name, *line, args.as_slice(), parts)
         }
     }
 }
@@ -186,7 +186,7 @@ fn typed_args(es: &[Expr], alloc: Global, g: &Around<'_, '_>, scope: &Scope<'_>)
             Ok(first) => {
                 let other = !is_string(kind_of(&first));
                 Args {
-                    typed: typed_behind(first, rest, alloc, g, scope),
+                    typed: typed_after(first, rest, alloc, g, scope),
                     other,
                 }
             }
@@ -194,17 +194,17 @@ fn typed_args(es: &[Expr], alloc: Global, g: &Around<'_, '_>, scope: &Scope<'_>)
     }
 }
 
-// The typed trees of arguments behind the first one, with it.
+// The typed trees of arguments after the first one, with it.
 #[cycle(exprs)]
-#[tactic(auto, using(crate::proofs::Behind::args_step, crate::proofs::Behind::args_end))]
-fn typed_behind(
+#[tactic(auto, using(crate::proofs::After::args_step, crate::proofs::After::args_end))]
+fn typed_after(
     first: TypedExpr,
     es: &[Expr],
     alloc: Global,
     g: &Around<'_, '_>,
     scope: &Scope<'_>,
 ) -> Result<Vec<TypedExpr>, TypeFault>
-    ensures { GivesAll typed_of result (args_behind (typed_of first ∷ []) (spec.typed_args (around_of g.now) (map local_of scope.now) (U.exprs (map expr_of es.now)))) }
+    ensures { GivesAll typed_of result (args_after (typed_of first ∷ []) (spec.typed_args (around_of g.now) (map local_of scope.now) (U.exprs (map expr_of es.now)))) }
 {
     let mut before = one(alloc, first)?;
     for e in es {
@@ -214,7 +214,7 @@ fn typed_behind(
     Ok(before)
 }
 
-// Operators behind a first operand.
+// Operators after a first operand.
 #[cycle(exprs)]
 fn typed_links(
     links: &[Link],

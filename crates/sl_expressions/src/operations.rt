@@ -94,7 +94,7 @@ pub fn prefixed(
     applied(prefix_operation(operator), line, args)
 }
 
-// An operator behind operands whose type is `before`, with the operand behind it.
+// An operator after operands whose type is `before`, with the operand after it.
 fn linked(
     operation: Operation,
     line: u32,
@@ -120,7 +120,7 @@ fn linked(
     }
 }
 
-/// An operator behind those behind a first operand, where `before` is the type of what stands as far as that; the type with it.
+/// An operator after those after a first operand, where `before` is the type of what stands as far as that; the type with it.
 pub fn add_link(
     links: &mut Vec<TypedLink>,
     operation: Operation,
@@ -162,7 +162,7 @@ fn chain_node(
     }
 }
 
-/// A chain from its first operand and the operators behind it.
+/// A chain from its first operand and the operators after it.
 #[tactic(auto, using(crate::proofs::Chains::chain_parted))]
 pub fn chained(
     alloc: Global,

@@ -44,7 +44,7 @@ pub fn push<A: Drop>(parts: &mut Vec<A>, part: A) -> Result<(), TypeFault>
     Ok(())
 }
 
-/// What is found of parts, and of one more behind them: the first fault, or all of them.
+/// What is found of parts, and of one more after them: the first fault, or all of them.
 pub fn added<A: Drop>(
     parts: Result<Vec<A>, TypeFault>,
     part: Result<A, TypeFault>,

@@ -58,7 +58,7 @@ impl<'a> Scope<'a> {
         Ok(())
     }
 
-    /// Leaves the variables behind the first `count`.
+    /// Leaves the variables after the first `count`.
     pub fn truncate(&mut self, count: usize)
         ensures { self.new ≡ take count self.old }
     {
@@ -114,7 +114,7 @@ impl<'a> Functions<'a> {
         }
     }
 
-    /// Adds a function behind the others.
+    /// Adds a function after the others.
     pub fn push(&mut self, function: Known<'a>) -> Result<(), NoMemory>
         ensures { OnOk result (self.new ≡ self.old ++ function.entry ∷ []) }
     {

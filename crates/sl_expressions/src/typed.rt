@@ -26,7 +26,7 @@ pub enum TypedExpr {
         line: u32,
     },
     /// Operators of one row, which group to the left: a first operand, the operators before the last, each with the operand
-    /// behind it, and the last. The links lie flat, since a text may have any number of them.
+    /// after it, and the last. The links lie flat, since a text may have any number of them.
     Chain {
         first: Box<TypedExpr>,
         links: List<TypedLink>,
@@ -43,7 +43,7 @@ pub enum TypedExpr {
     },
 }
 
-/// An operator of a chain with the operand behind it, and the type of what stands as far as that.
+/// An operator of a chain with the operand after it, and the type of what stands as far as that.
 #[cycle(typed)]
 #[derive(Drop)]
 pub struct TypedLink {

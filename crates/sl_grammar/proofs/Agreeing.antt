@@ -18,7 +18,7 @@ Read {A} w v r s = (x : A) × ((t : Token) × ((c : List Token) × ((r ≡ Ok (x
 abbrev pub Fault : {A : Type 0} → List Token → List Token → Reads A → Reads A → Type 0
 Fault w v r s = (e : SlCode) × ((t : Token) × ((c : List Token) × ((r ≡ Err (e, t ∷ (c ++ w))) × (s ≡ Err (e, t ∷ (c ++ v))))))
 
--- of two texts that differ behind a place the same is read before it, or both are read up to it
+-- of two texts that differ after a place the same is read before it, or both are read up to it
 abbrev pub Agree : {A : Type 0} → List Token → List Token → Reads A → Reads A → Type 0
 Agree w v r s = Read w v r s ⊎ (Fault w v r s ⊎ ((left_of r ≤ length w) × (left_of s ≤ length v)))
 
@@ -26,16 +26,16 @@ pub record Fine {A : Type 0} (f : List Token → Reads A) : Type 0 where
   pub shorter : (ts : List Token) → left_of (f ts) ≤ length ts
   pub agree : (a w v : List Token) → Agree w v (f (a ++ w)) (f (a ++ v))
 
--- the same behind a token
-pub record FineBehind {A : Type 0} (f : List Token → Reads A) : Type 0 where
+-- the same after a token
+pub record FineAfter {A : Type 0} (f : List Token → Reads A) : Type 0 where
   pub shorter : (ts : List Token) → left_of (f ts) ≤ 1 + length ts
   pub agree : (a w v : List Token) → Agree w v (f (a ++ w)) (f (a ++ v))
 
-pub behind_fine : {A : Type 0} (f : List Token → Reads A) → Fine f → FineBehind f
-behind_fine f g = record { shorter = λ ts. omega (arith, g.shorter ts); agree = g.agree }
+pub rest_after_fine : {A : Type 0} (f : List Token → Reads A) → Fine f → FineAfter f
+rest_after_fine f g = record { shorter = λ ts. omega (arith, g.shorter ts); agree = g.agree }
 
 -- by the first token
-pub fine_head : {A : Type 0} (f : List Token → Reads A) → left_of (f []) ≤ 0 → ((t : Token) → FineBehind (λ ts. f (t ∷ ts))) → Fine f
+pub fine_head : {A : Type 0} (f : List Token → Reads A) → left_of (f []) ≤ 0 → ((t : Token) → FineAfter (λ ts. f (t ∷ ts))) → Fine f
 fine_head f none more = record { shorter = shorter; agree = agree }
   where
     shorter : (ts : List Token) → left_of (f ts) ≤ length ts
@@ -49,15 +49,15 @@ fine_head f none more = record { shorter = shorter; agree = agree }
 pub fine_ok : {A : Type 0} (x : A) → Fine (λ ts. Ok (x, ts))
 fine_ok x = fine_head (λ ts. Ok (x, ts)) (omega arith) (λ t. record { shorter = λ ts. omega arith; agree = λ a w v. inl (x, (t, (a, (refl, refl)))) })
 
-pub fault_behind : {A : Type 0} (e : SlCode) (t : Token) → FineBehind {A = A} (λ ts. Err (e, t ∷ ts))
-fault_behind e t = record { shorter = λ ts. omega arith; agree = λ a w v. inr (inl (e, (t, (a, (refl, refl))))) }
+pub fault_after : {A : Type 0} (e : SlCode) (t : Token) → FineAfter {A = A} (λ ts. Err (e, t ∷ ts))
+fault_after e t = record { shorter = λ ts. omega arith; agree = λ a w v. inr (inl (e, (t, (a, (refl, refl))))) }
 
 pub fine_unexpected : {A : Type 0} → Fine {A = A} (λ ts. unexpected ts)
-fine_unexpected = fine_head (λ ts. unexpected ts) (omega arith) (λ t. fault_behind (code_for (is_bad t.kind)) t)
+fine_unexpected = fine_head (λ ts. unexpected ts) (omega arith) (λ t. fault_after (code_for (is_bad t.kind)) t)
 
-deep_cond : {A : Type 0} (b : Bool) (e : SlCode) (t : Token) → FineBehind {A = A} (λ ts. cond b (Err (P3, t ∷ ts)) (Err (e, t ∷ ts)))
-deep_cond true e t = fault_behind P3 t
-deep_cond false e t = fault_behind e t
+deep_cond : {A : Type 0} (b : Bool) (e : SlCode) (t : Token) → FineAfter {A = A} (λ ts. cond b (Err (P3, t ∷ ts)) (Err (e, t ∷ ts)))
+deep_cond true e t = fault_after P3 t
+deep_cond false e t = fault_after e t
 
 pub fine_deep : {A : Type 0} (begins : TokenKind → Bool) → Fine {A = A} (λ ts. too_deep begins ts)
 fine_deep begins = fine_head (λ ts. too_deep begins ts) (omega arith) (λ t. deep_cond (begins t.kind) (code_for (is_bad t.kind)) t)
@@ -79,8 +79,8 @@ module _ {A B : Type 0} (g : A × List Token → Reads B) (fine : (x : A) → Fi
       inr (inl (p.0, (p.1.0, (p.1.1.0, (ap (λ r. r >>= g) q.0, ap (λ s. s >>= g) q.1)))))
   agree_bind w v r s (inr (inr p)) = inr (inr (omega (arith, shorter_bind r, p.0), omega (arith, shorter_bind s, p.1)))
 
-  pub bind_behind : (f : List Token → Reads A) → FineBehind f → FineBehind (λ ts. f ts >>= g)
-  bind_behind f h = record {
+  pub bind_after : (f : List Token → Reads A) → FineAfter f → FineAfter (λ ts. f ts >>= g)
+  bind_after f h = record {
     shorter = λ ts. let a = shorter_bind (f ts) in let b = h.shorter ts in omega (arith, a, b);
     agree = λ a w v. agree_bind w v (f (a ++ w)) (f (a ++ v)) (h.agree a w v);
   }
@@ -91,12 +91,12 @@ module _ {A B : Type 0} (g : A × List Token → Reads B) (fine : (x : A) → Fi
     agree = λ a w v. agree_bind w v (f (a ++ w)) (f (a ++ v)) (h.agree a w v);
   }
 
-past_behind : {A : Type 0} (b : Bool) (t : Token) (go : List Token → Reads A) → Fine go → FineBehind (λ ts. go_on (t ∷ ts) go (cond b (Some ts) None))
-past_behind true t go fine = behind_fine go fine
-past_behind false t go fine = fault_behind (code_for (is_bad t.kind)) t
+past_after : {A : Type 0} (b : Bool) (t : Token) (go : List Token → Reads A) → Fine go → FineAfter (λ ts. go_on (t ∷ ts) go (cond b (Some ts) None))
+past_after true t go fine = rest_after_fine go fine
+past_after false t go fine = fault_after (code_for (is_bad t.kind)) t
 
 pub fine_past : {A : Type 0} (mark : Mark) (go : List Token → Reads A) → Fine go → Fine (λ ts. past mark ts go)
-fine_past mark go fine = fine_head (λ ts. past mark ts go) (omega arith) (λ t. past_behind (is_mark mark t.kind) t go fine)
+fine_past mark go fine = fine_head (λ ts. past mark ts go) (omega arith) (λ t. past_after (is_mark mark t.kind) t go fine)
 
 pub fine_same : {A : Type 0} (f g : List Token → Reads A) → ((ts : List Token) → f ts ≡ g ts) → Fine f → Fine g
 fine_same f g same h = record {
@@ -165,7 +165,7 @@ module _ {A : Type 0} (step : List Token → Option (Reads A)) (strict : (ts : L
   turns (suc n) zero ts p q = absurd (omega arith)
   turns (suc n) (suc m) ts p q = turn_on n m ts (step ts) refl (λ rest h. turns n m rest (omega arith) (omega arith))
 
-  -- where nothing stands behind the last token, a turn for each is enough
+  -- where nothing stands after the last token, a turn for each is enough
   pub last_turn : step [] ≡ None → (n m : ℕ) (ts : List Token) → length ts < n → length ts ≤ m → many step n ts ≡ many step m ts
   last_turn none zero m ts p q = absurd (omega arith)
   last_turn none (suc n) zero [] p q = ap (many_then (many step n) []) none

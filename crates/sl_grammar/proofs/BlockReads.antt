@@ -12,14 +12,14 @@ use Rattle.sl_lexer.specs.declared.token.TokenKind.{TokenKind}
 use Rattle.sl_lexer.specs.declared.token.TokenKind.TheVariants as kinds
 use Rattle.sl_lexer.specs.declared.token.Word.TheVariants as words
 use Rattle.sl_lexer.specs.declared.token.Mark.TheVariants.{LeftParen, LeftBrace, RightBrace, Semicolon}
-use Rattle.sl_expression_grammar.specs.Reading.{Reads, ◌>>=◌, many, past, behind, is_mark}
+use Rattle.sl_expression_grammar.specs.Reading.{Reads, ◌>>=◌, many, past, rest_after, is_mark}
 use Rattle.sl_expression_grammar.specs.Expressions.{expr_at}
 use Rattle.sl_parser.specs.declared.declarations.Valued.TheVariants.{Freely}
 use Rattle.sl_parser.specs.Statements.{set_with, group_with, begins_stmt, is_else, stmt_unless, next_stmt, block_in, test_with, else_then, for_head, pair_with, lights_head, lights_with, solar_head, stmt_opened, stmt_at}
 use Rattle.sl_parser.specs.Spelled.{kinds_of, spelled, spelled_set, spelled_cone, spelled_pair, spelled_class, spelled_names, spelled_group, spelled_light, spelled_test, spelled_for, spelled_stmt, spelled_stmts}
 use Rattle.sl_grammar.specs.Bare.{bare, bare_set, bare_pair, bare_stmt, bare_stmts, bare_group}
 use Rattle.sl_grammar.specs.Grammatical.{Grammatical, GrammaticalNames, GrammaticalSet, GrammaticalCone, takes_else, GrammaticalStmt, GrammaticalStmts}
-use Rattle.sl_grammar.proofs.Got.{Got, got_bind, got_more, got_past, at_front, token, Lacks, not_behind, many_more, many_none}
+use Rattle.sl_grammar.proofs.Got.{Got, got_bind, got_more, got_past, at_front, token, Lacks, not_after, many_more, many_none}
 use Rattle.sl_grammar.proofs.ExprReads.{whole_read, kinds_length}
 use Rattle.sl_grammar.proofs.Rises.{Same}
 use Rattle.sl_grammar.proofs.StmtReads.{Seen, set_read, group_read, test_read, SeenFor, for_read, pair_read, SeenLights, lights_read}
@@ -73,7 +73,7 @@ lacks_else s ks = let f = first_of_stmt s in subst (λ js. Lacks is_else (js ++ 
 lacks_brace : (s : S.Stmt) (ks : List TokenKind) → Lacks (is_mark RightBrace) (spelled_stmt s ++ ks)
 lacks_brace s ks = let f = first_of_stmt s in subst (λ js. Lacks (is_mark RightBrace) (js ++ ks)) (sym f.is) (no_brace f.kind f.begins)
 
--- no `else` stands behind where the statement would take it
+-- no `else` stands after where the statement would take it
 abbrev Ended : S.Stmt → List TokenKind → Type 0
 Ended s ks = takes_else s ≡ true → Lacks is_else ks
 
@@ -81,7 +81,7 @@ abbrev StmtRead : S.Stmt → Type 0
 StmtRead s =
     (levels : ℕ) → levels_stmt s ≤ levels → (ks : List TokenKind) → Ended s ks → (ts : List Token) → kinds_of ts ≡ spelled_stmt s ++ ks → Got (stmt_at levels ts) (Seen bare_stmt s ks)
 
--- behind the level that it opens
+-- after the level that it opens
 abbrev OpenedRead : S.Stmt → Type 0
 OpenedRead s =
     (levels : ℕ) → levels_stmt s ≤ suc levels → (ks : List TokenKind) → Ended s ks → (ts : List Token) → kinds_of ts ≡ spelled_stmt s ++ ks
@@ -152,8 +152,8 @@ assign_read : (a : S.Assignment) → Grammatical a.value → OpenedRead (S.assig
 assign_read a g levels w ks h ts t =
     let end = kinds.Mark Semicolon ∷ [] in
     let Q = Seen bare_stmt (S.assign a) ks in
-    let behind_name = kinds.Set a.operator ∷ (spelled a.value ++ (end ++ ks)) in
-    at_front ts (kinds.Name a.name) behind_name (t ∙ append_assoc (spelled_set a) end ks) (λ ts. Got (at levels ts) Q) (λ here rest r.
+    let after_name = kinds.Set a.operator ∷ (spelled a.value ++ (end ++ ks)) in
+    at_front ts (kinds.Name a.name) after_name (t ∙ append_assoc (spelled_set a) end ks) (λ ts. Got (at levels ts) Q) (λ here rest r.
     got_bind (set_with (expr_at levels) (token (kinds.Name a.name) here ∷ rest)) (λ set. past Semicolon set.1 λ rest. Ok (S.assign set.0, rest)) (Seen bare_set a (end ++ ks)) Q
     (set_read levels a g (omega (arith, w)) (end ++ ks) (omega arith) (token (kinds.Name a.name) here ∷ rest) (ap (λ js. kinds.Name a.name ∷ js) r)) (λ x p.
     past_semicolon levels (S.assign a) (S.assign x.0) ks x.1 p.1 (ap (λ y. S.assign y) p.0)))
@@ -179,17 +179,17 @@ declare_read (Some class) kind names line g levels w ks h ts t =
     at_front ts (kinds.Class class) (kinds.Type kind ∷ (spelled_names names ++ (end ++ ks))) (t ∙ append_assoc (spelled_group group) end ks) (λ ts. Got (at levels ts) (Seen bare_stmt (S.declare (Some class) kind names line) ks)) (λ here rest r.
     declared_read group line g levels (omega (arith, w)) ks here (token (kinds.Class class) here ∷ rest) (ap (λ js. kinds.Class class ∷ js) r))
 
--- behind a test
+-- after a test
 test_then_read : (e : S.Expr) (s : S.Stmt) (line : ℕ) → Grammatical e → StmtRead s → OpenedRead (S.test e s line)
 test_then_read e s line g r levels w ks h ts t =
     let Q = Seen bare_stmt (S.test e s line) ks in
     let stmt = stmt_at levels in
     at_front ts (kinds.Word words.If) ((spelled_test e ++ spelled_stmt s) ++ ks) t (λ ts. Got (at levels ts) Q) (λ here rest i.
-    got_bind (test_with (expr_at levels) rest) (λ test. stmt test.1 >>= λ first. else_then stmt test.0 first.0 here first.1 (behind is_else first.1)) (Same e (spelled_stmt s ++ ks)) Q
+    got_bind (test_with (expr_at levels) rest) (λ test. stmt test.1 >>= λ first. else_then stmt test.0 first.0 here first.1 (rest_after is_else first.1)) (Same e (spelled_stmt s ++ ks)) Q
     (test_read levels e g (omega (arith, w)) (spelled_stmt s ++ ks) rest (i ∙ append_assoc (spelled_test e) (spelled_stmt s) ks)) (λ x p.
-    got_bind (stmt x.1) (λ first. else_then stmt x.0 first.0 here first.1 (behind is_else first.1)) (Seen bare_stmt s ks) Q
+    got_bind (stmt x.1) (λ first. else_then stmt x.0 first.0 here first.1 (rest_after is_else first.1)) (Seen bare_stmt s ks) Q
     (r levels (omega (arith, w)) ks (λ takes. h refl) x.1 p.1) (λ y q.
-    subst (λ o. Got (else_then stmt x.0 y.0 here y.1 o) Q) (sym (not_behind is_else y.1 (subst (Lacks is_else) (sym q.1) (h refl))))
+    subst (λ o. Got (else_then stmt x.0 y.0 here y.1 o) Q) (sym (not_after is_else y.1 (subst (Lacks is_else) (sym q.1) (h refl))))
     (ap (λ z. S.test z (bare_stmt y.0) 0) p.0 ∙ ap (λ z. S.test (bare e) z 0) q.0, q.1))))
 
 no_taker : (s : S.Stmt) (ks : List TokenKind) → takes_else s ≡ false → Ended s ks
@@ -201,11 +201,11 @@ test_else_read e s r line g n rs rr levels w ks h ts t =
     let stmt = stmt_at levels in
     let second = kinds.Word words.Else ∷ spelled_stmt r in
     at_front ts (kinds.Word words.If) ((spelled_test e ++ (spelled_stmt s ++ second)) ++ ks) t (λ ts. Got (at levels ts) Q) (λ here rest i.
-    got_bind (test_with (expr_at levels) rest) (λ test. stmt test.1 >>= λ first. else_then stmt test.0 first.0 here first.1 (behind is_else first.1)) (Same e ((spelled_stmt s ++ second) ++ ks)) Q
+    got_bind (test_with (expr_at levels) rest) (λ test. stmt test.1 >>= λ first. else_then stmt test.0 first.0 here first.1 (rest_after is_else first.1)) (Same e ((spelled_stmt s ++ second) ++ ks)) Q
     (test_read levels e g (omega (arith, w)) ((spelled_stmt s ++ second) ++ ks) rest (i ∙ append_assoc (spelled_test e) (spelled_stmt s ++ second) ks)) (λ x p.
-    got_bind (stmt x.1) (λ first. else_then stmt x.0 first.0 here first.1 (behind is_else first.1)) (Seen bare_stmt s (second ++ ks)) Q
+    got_bind (stmt x.1) (λ first. else_then stmt x.0 first.0 here first.1 (rest_after is_else first.1)) (Seen bare_stmt s (second ++ ks)) Q
     (rs levels (omega (arith, w)) (second ++ ks) (no_taker s (second ++ ks) n) x.1 (p.1 ∙ append_assoc (spelled_stmt s) second ks)) (λ y q.
-    at_front y.1 (kinds.Word words.Else) (spelled_stmt r ++ ks) q.1 (λ us. Got (else_then stmt x.0 y.0 here us (behind is_else us)) Q) (λ other left u.
+    at_front y.1 (kinds.Word words.Else) (spelled_stmt r ++ ks) q.1 (λ us. Got (else_then stmt x.0 y.0 here us (rest_after is_else us)) Q) (λ other left u.
     got_bind (stmt left) (λ second. Ok (S.test_else x.0 y.0 second.0 here, second.1)) (Seen bare_stmt r ks) Q (rr levels (omega (arith, w)) ks h left u) (λ z o.
     (ap (λ a. S.test_else a (bare_stmt y.0) (bare_stmt z.0) 0) p.0 ∙ ap (λ a. S.test_else (bare e) a (bare_stmt z.0) 0) q.0 ∙ ap (λ a. S.test_else (bare e) (bare_stmt s) a 0) o.0, o.1))))))
 
@@ -308,7 +308,7 @@ stmts_first s rest r m levels w ks (suc turns) ts l t =
     let u : kinds_of ts ≡ spelled_stmt s ++ after = t ∙ append_assoc (spelled_stmt s) (spelled_stmts rest) close in
     let n = kinds_length ts (spelled_stmt s ++ after) u in
     let some = shorter s after in
-    let here : behind (is_mark RightBrace) ts ≡ None = not_behind (is_mark RightBrace) ts (subst (Lacks (is_mark RightBrace)) (sym u) (lacks_brace s after)) in
+    let here : rest_after (is_mark RightBrace) ts ≡ None = not_after (is_mark RightBrace) ts (subst (Lacks (is_mark RightBrace)) (sym u) (lacks_brace s after)) in
     many_more (next_stmt stmt) turns ts (stmt ts) (ap (λ o. stmt_unless stmt ts o) here) (Seen bare_stmt s after) Q
     (r levels (omega (arith, w)) after (λ takes. ends_stmts rest ks) ts u) (λ x vs p.
     let k = kinds_length vs after p.1 in

@@ -19,7 +19,7 @@ use Rattle.sl_lexer.specs.declared.token.Mark.TheVariants.{LeftParen, RightParen
 use Rattle.sl_lexer.specs.declared.token.Word.{Word}
 use Rattle.sl_lexer.specs.declared.token.Word.TheVariants as words
 use Rattle.sl_expression_grammar.specs.declared.fault.SlCode.TheVariants.{P3}
-use Rattle.sl_expression_grammar.specs.Reading.{Reads, ◌>>=◌, with_front, many_then, many, after_comma, commas, go_on, past, behind, line_behind, is_mark, is_bad, code_for, head_is, unexpected, too_deep}
+use Rattle.sl_expression_grammar.specs.Reading.{Reads, ◌>>=◌, with_front, many_then, many, after_comma, commas, go_on, past, rest_after, line_and_rest, is_mark, is_bad, code_for, head_is, unexpected, too_deep}
 use Rattle.sl_expression_grammar.specs.Expressions.{link, next_link, operator_at, most_links, chain_of, links_in, chain, chains, choice_then, expr_with, args_with, args_in, name_then, paren_with, space_at, triple_then, value_then, typed_with, prim_in, prim_with, prefix_at, unary_then, unary_with, deep_typed, deep_operand, begins_expr, expr_at, unary_at, prim_at}
 use Rattle.sl_expression_grammar.specs.Rows.{typed_at, operand_at}
 use Rattle.sl_expression_grammar.proofs.Levels.{prim_is, unary_is}
@@ -45,7 +45,7 @@ kept_go ts f g h None = inl refl
 kept_go ts f g h (Some rest) = h rest
 
 kept_past : {A : Type 0} (mark : Mark) (ts : List Token) (f g : List Token → Reads A) → ((ts : List Token) → Kept (f ts) (g ts)) → Kept (past mark ts f) (past mark ts g)
-kept_past mark ts f g h = kept_go ts f g h (behind (is_mark mark) ts)
+kept_past mark ts f g h = kept_go ts f g h (rest_after (is_mark mark) ts)
 
 kept_front : {A : Type 0} (xs : List A) (r s : Reads (List A)) → Kept r s → Kept (with_front xs r) (with_front xs s)
 kept_front xs r s (inl e) = inl (ap (with_front xs) e)
@@ -76,7 +76,7 @@ kept_commas : {A : Type 0} (f g : List Token → Reads A) → ((ts : List Token)
 kept_commas f g h ts =
     kept_bind (f ts) (g ts) (λ x. with_front (x.0 ∷ []) (many (after_comma f) (length x.1) x.1)) (λ x. with_front (x.0 ∷ []) (many (after_comma g) (length x.1) x.1)) (h ts) (λ x.
     kept_front (x.0 ∷ []) (many (after_comma f) (length x.1) x.1) (many (after_comma g) (length x.1) x.1)
-    (kept_many (after_comma f) (after_comma g) (λ ts. kept_map f g h (behind (is_mark Comma) ts)) (length x.1) x.1))
+    (kept_many (after_comma f) (after_comma g) (λ ts. kept_map f g h (rest_after (is_mark Comma) ts)) (length x.1) x.1))
 
 abbrev pub Keeps : {A : Type 0} → (List Token → Reads A) → (List Token → Reads A) → Type 0
 Keeps f g = (ts : List Token) → Kept (f ts) (g ts)
@@ -100,8 +100,8 @@ module _ (f g : List Token → Reads S.Expr) (h : Keeps f g) where
 
   kept_expr : (u v : List Token → Reads S.Expr) → Keeps u v → Keeps (expr_with u f) (expr_with v g)
   kept_expr u v k ts =
-      kept_bind (chains u ts) (chains v ts) (λ test. choice_then f test.0 test.1 (line_behind Question test.1)) (λ test. choice_then g test.0 test.1 (line_behind Question test.1)) (kept_chains u v k ts)
-      (λ test. kept_choice test.0 test.1 (line_behind Question test.1))
+      kept_bind (chains u ts) (chains v ts) (λ test. choice_then f test.0 test.1 (line_and_rest Question test.1)) (λ test. choice_then g test.0 test.1 (line_and_rest Question test.1)) (kept_chains u v k ts)
+      (λ test. kept_choice test.0 test.1 (line_and_rest Question test.1))
 
   kept_args : (ts : List Token) (o : Option (List Token)) → Kept (args_with f ts o) (args_with g ts o)
   kept_args ts (Some rest) = inl refl
@@ -110,7 +110,7 @@ module _ (f g : List Token → Reads S.Expr) (h : Keeps f g) where
   kept_name : (name : List ℕ) (line : ℕ) (ts : List Token) (o : Option (List Token)) → Kept (name_then f name line ts o) (name_then g name line ts o)
   kept_name name line ts None = inl refl
   kept_name name line ts (Some inside) =
-      kept_bind (args_in f inside) (args_in g inside) (λ args. Ok (S.call name (S.exprs args.0) line, args.1)) (λ args. Ok (S.call name (S.exprs args.0) line, args.1)) (kept_args inside (behind (is_mark RightParen) inside)) (λ args. inl refl)
+      kept_bind (args_in f inside) (args_in g inside) (λ args. Ok (S.call name (S.exprs args.0) line, args.1)) (λ args. Ok (S.call name (S.exprs args.0) line, args.1)) (kept_args inside (rest_after (is_mark RightParen) inside)) (λ args. inl refl)
 
   kept_paren : (line : ℕ) → Keeps (paren_with f line) (paren_with g line)
   kept_paren line ts = kept_bind (f ts) (g ts) _ _ (h ts) (λ e. kept_past RightParen e.1 _ _ (λ rest. inl refl))
@@ -124,15 +124,15 @@ module _ (f g : List Token → Reads S.Expr) (h : Keeps f g) where
     kept_value : (p q : List Token → Reads S.Expr) → Keeps p q → (ts : List Token) (o : Option (ℕ × List Token)) → Kept (value_then f p kind space line ts o) (value_then g q kind space line ts o)
     kept_value p q k ts None = kept_bind (p ts) (q ts) _ _ (k ts) (λ e. inl refl)
     kept_value p q k ts (Some i) =
-        kept_bind (f i.1) (g i.1) (λ x. triple_then f kind space line i.0 x.0 x.1 (behind (is_mark Comma) x.1)) (λ x. triple_then g kind space line i.0 x.0 x.1 (behind (is_mark Comma) x.1)) (h i.1)
-        (λ x. kept_triple i.0 x.0 x.1 (behind (is_mark Comma) x.1))
+        kept_bind (f i.1) (g i.1) (λ x. triple_then f kind space line i.0 x.0 x.1 (rest_after (is_mark Comma) x.1)) (λ x. triple_then g kind space line i.0 x.0 x.1 (rest_after (is_mark Comma) x.1)) (h i.1)
+        (λ x. kept_triple i.0 x.0 x.1 (rest_after (is_mark Comma) x.1))
 
   kept_typed : (p q : List Token → Reads S.Expr) → Keeps p q → (kind : SlType) (line : ℕ) → Keeps (typed_with f p kind line) (typed_with g q kind line)
-  kept_typed p q k kind line ts = let s = space_at ts in kept_value kind s.0 line p q k s.1 (line_behind LeftParen s.1)
+  kept_typed p q k kind line ts = let s = space_at ts in kept_value kind s.0 line p q k s.1 (line_and_rest LeftParen s.1)
 
   module _ (typed other : SlType → ℕ → List Token → List Token → Reads S.Expr) (k : (kind : SlType) (line : ℕ) (rest ts : List Token) → Kept (typed kind line rest ts) (other kind line rest ts)) where
     kept_in : (kind : TokenKind) (line : ℕ) (rest ts : List Token) → Kept (prim_in f typed kind line rest ts) (prim_in g other kind line rest ts)
-    kept_in (kinds.Name name) line rest ts = kept_name name line rest (behind (is_mark LeftParen) rest)
+    kept_in (kinds.Name name) line rest ts = kept_name name line rest (rest_after (is_mark LeftParen) rest)
     kept_in (kinds.Mark LeftParen) line rest ts = kept_paren line rest
     kept_in (kinds.Type kind) line rest ts = k kind line rest ts
     kept_in _ line rest ts = inl refl
@@ -237,7 +237,7 @@ module _ (f g : List Token → Reads S.Expr) (h : Keeps f g) where
   kept_declared valued ts =
       kept_named (λ name line rest. T.value_with f valued rest >>= λ value. Ok (record { name = name; value = value.0; line = line; set_line = T.front_line rest }, value.1))
       (λ name line rest. T.value_with g valued rest >>= λ value. Ok (record { name = name; value = value.0; line = line; set_line = T.front_line rest }, value.1))
-      (λ name line rest. kept_bind (T.value_with f valued rest) (T.value_with g valued rest) _ _ (kept_given valued rest (behind T.is_equals rest)) (λ value. inl refl)) ts (T.name_at ts)
+      (λ name line rest. kept_bind (T.value_with f valued rest) (T.value_with g valued rest) _ _ (kept_given valued rest (rest_after T.is_equals rest)) (λ value. inl refl)) ts (T.name_at ts)
 
   kept_group_then : (valued : Valued) (class : Option Class) (ts : List Token) (o : Option (SlType × List Token)) → Kept (T.group_then f valued class ts o) (T.group_then g valued class ts o)
   kept_group_then valued class ts None = inl refl
@@ -275,7 +275,7 @@ module _ (f g : List Token → Reads S.Expr) (h : Keeps f g) where
   kept_place : Keeps (T.lights_head f) (T.lights_head g)
   kept_place ts =
       kept_past LeftParen ts _ _ (λ inside. kept_bind (f inside) (g inside) _ _ (h inside) (λ place.
-      kept_bind (T.cone_in f place.1) (T.cone_in g place.1) (λ cone. Ok ((place.0, cone.0), cone.1)) (λ cone. Ok ((place.0, cone.0), cone.1)) (kept_cone place.1 (behind (is_mark Comma) place.1)) (λ cone. inl refl)))
+      kept_bind (T.cone_in f place.1) (T.cone_in g place.1) (λ cone. Ok ((place.0, cone.0), cone.1)) (λ cone. Ok ((place.0, cone.0), cone.1)) (kept_cone place.1 (rest_after (is_mark Comma) place.1)) (λ cone. inl refl)))
 
   kept_sun : Keeps (T.solar_head f) (T.solar_head g)
   kept_sun ts = kept_past LeftParen ts (λ inside. T.pair_with f inside) (λ inside. T.pair_with g inside) kept_pair
@@ -288,7 +288,7 @@ module _ (f g : List Token → Reads S.Expr) (h : Keeps f g) where
     kept_block : Keeps (T.block_in s) (T.block_in r)
     kept_block ts =
         kept_bind (many (T.next_stmt s) (length ts + 1) ts) (many (T.next_stmt r) (length ts + 1) ts) _ _
-        (kept_many (T.next_stmt s) (T.next_stmt r) (λ ts. kept_unless ts (behind (is_mark RightBrace) ts)) (length ts + 1) ts) (λ body. kept_past RightBrace body.1 _ _ (λ rest. inl refl))
+        (kept_many (T.next_stmt s) (T.next_stmt r) (λ ts. kept_unless ts (rest_after (is_mark RightBrace) ts)) (length ts + 1) ts) (λ body. kept_past RightBrace body.1 _ _ (λ rest. inl refl))
 
     kept_else : (test : S.Expr) (first : S.Stmt) (line : ℕ) (ts : List Token) (o : Option (List Token)) → Kept (T.else_then s test first line ts o) (T.else_then r test first line ts o)
     kept_else test first line ts None = inl refl
@@ -297,8 +297,8 @@ module _ (f g : List Token → Reads S.Expr) (h : Keeps f g) where
     kept_if : (line : ℕ) → Keeps (T.if_with s f line) (T.if_with r g line)
     kept_if line ts =
         kept_bind (T.test_with f ts) (T.test_with g ts) _ _ (kept_test ts) (λ test.
-        kept_bind (s test.1) (r test.1) (λ first. T.else_then s test.0 first.0 line first.1 (behind T.is_else first.1)) (λ first. T.else_then r test.0 first.0 line first.1 (behind T.is_else first.1)) (k test.1)
-        (λ first. kept_else test.0 first.0 line first.1 (behind T.is_else first.1)))
+        kept_bind (s test.1) (r test.1) (λ first. T.else_then s test.0 first.0 line first.1 (rest_after T.is_else first.1)) (λ first. T.else_then r test.0 first.0 line first.1 (rest_after T.is_else first.1)) (k test.1)
+        (λ first. kept_else test.0 first.0 line first.1 (rest_after T.is_else first.1)))
 
     kept_word : (word : Word) (line : ℕ) (rest ts : List Token) → Kept (T.word_with s f word line rest ts) (T.word_with r g word line rest ts)
     kept_word words.Break line rest ts = inl refl
@@ -387,8 +387,8 @@ module _ (n m : ℕ) (l : n ≤ m) where
 
     groups_kept : Keeps (F.groups_with n valued) (F.groups_with m valued)
     groups_kept ts =
-        kept_past LeftParen ts (λ inside. F.groups_in few inside (behind (is_mark RightParen) inside)) (λ inside. F.groups_in many_levels inside (behind (is_mark RightParen) inside))
-        (λ inside. inside_kept inside (behind (is_mark RightParen) inside))
+        kept_past LeftParen ts (λ inside. F.groups_in few inside (rest_after (is_mark RightParen) inside)) (λ inside. F.groups_in many_levels inside (rest_after (is_mark RightParen) inside))
+        (λ inside. inside_kept inside (rest_after (is_mark RightParen) inside))
 
   body_kept : Keeps (F.body_at n) (F.body_at m)
   body_kept ts =

@@ -15,14 +15,14 @@ use Rattle.sl_lexer.specs.declared.token.Token.{Token}
 use Rattle.sl_lexer.specs.declared.token.TokenKind.{TokenKind}
 use Rattle.sl_lexer.specs.declared.token.TokenKind.TheVariants as kinds
 use Rattle.sl_lexer.specs.declared.token.Mark.TheVariants.{LeftParen, RightParen, Comma, Question, Colon}
-use Rattle.sl_expression_grammar.specs.Reading.{◌>>=◌, with_front, many, after_comma, commas, past, behind, line_behind, is_mark}
+use Rattle.sl_expression_grammar.specs.Reading.{◌>>=◌, with_front, many, after_comma, commas, past, rest_after, line_and_rest, is_mark}
 use Rattle.sl_expression_grammar.specs.Expressions.{row_of, same_row, is_single, most_links, link, next_link, chain_of, links_in, chain, choice_then, args_with, args_in, name_then, triple_then, value_then, prim_with, prefix_in, prefix_at, unary_then, expr_at, unary_at, prim_at}
 use Rattle.sl_expression_grammar.specs.Rows.{rows_from, typed_at, operand_at}
 use Rattle.sl_parser.specs.Spelled.{kinds_of, spelled, spelled_args, spelled_more, spelled_links, spelled_prefix, spelled_space}
 use Rattle.sl_grammar.specs.Bare.{bare_space, bare, bare_args, bare_links}
 use Rattle.sl_grammar.specs.Grammatical.{looseness, count, Grammatical, GrammaticalArgs, GrammaticalLinks, Ends}
 use Rattle.sl_expression_grammar.proofs.Levels.{prim_is, unary_is}
-use Rattle.sl_grammar.proofs.Got.{Got, got_bind, got_front, got_more, got_past, at_front, token, Lacks, not_behind, many_more, many_none, got_both, tokens_for, tokens_for_is}
+use Rattle.sl_grammar.proofs.Got.{Got, got_bind, got_front, got_more, got_past, at_front, token, Lacks, not_after, many_more, many_none, got_both, tokens_for, tokens_for_is}
 use Rattle.sl_grammar.proofs.ExprFronts.{is_paren, Front, front_of, lacks_paren, opens_not_closed, spaced}
 use Rattle.sl_grammar.proofs.Rises.{Same, from_unary, reader, no_link, loosened, tightens}
 
@@ -93,7 +93,7 @@ name_read : (text : List ℕ) (line : ℕ) → PrimRead (S.name text line)
 name_read text line levels w ks h ts t =
     at_front ts (kinds.Name text) ks t (λ ts. Got (prim_with (expr_at levels) (typed_at levels) ts) (Same (S.name text line) ks)) (λ at rest r.
     subst (λ o. Got (name_then (expr_at levels) text at rest o) (Same (S.name text line) ks))
-    (sym (not_behind (is_mark LeftParen) rest (subst (Lacks (is_mark LeftParen)) (sym r) (lacks_paren ks h)))) (refl, r))
+    (sym (not_after (is_mark LeftParen) rest (subst (Lacks (is_mark LeftParen)) (sym r) (lacks_paren ks h)))) (refl, r))
 
 -- arguments
 abbrev amount : S.Exprs → ℕ
@@ -158,7 +158,7 @@ args_some e rest r m levels w ks ts t =
     let after = spelled_more rest ++ close in
     let u : kinds_of ts ≡ spelled e ++ after = t ∙ append_assoc (spelled e) (spelled_more rest) close in
     let item = expr_at levels in
-    subst (λ o. Got (args_with item ts o) (SameArgs (S.more e rest) ks)) (sym (not_behind (is_mark RightParen) ts (subst (Lacks (is_mark RightParen)) (sym u) (opens_not_closed e after))))
+    subst (λ o. Got (args_with item ts o) (SameArgs (S.more e rest) ks)) (sym (not_after (is_mark RightParen) ts (subst (Lacks (is_mark RightParen)) (sym u) (opens_not_closed e after))))
     (got_bind (commas item ts) (λ args. past RightParen args.1 λ rest. Ok (args.0, rest)) (SameArgs (S.more e rest) close) (SameArgs (S.more e rest) ks)
     (got_bind (item ts) (λ x. with_front (x.0 ∷ []) (many (after_comma item) (length x.1) x.1)) (Same e after) (SameArgs (S.more e rest) close)
     (r levels (omega (arith, w)) after (ends_more rest ks) ts u) (λ x p.
@@ -173,7 +173,7 @@ call_read text args line a levels w ks h ts t =
     let inner = (spelled_args args ++ (kinds.Mark RightParen ∷ [])) ++ ks in
     let Q = Same (S.call text args line) ks in
     at_front ts (kinds.Name text) (kinds.Mark LeftParen ∷ inner) t (λ ts. Got (prim_with (expr_at levels) (typed_at levels) ts) Q) (λ at rest r.
-    at_front rest (kinds.Mark LeftParen) inner r (λ us. Got (name_then (expr_at levels) text at us (behind (is_mark LeftParen) us)) Q) (λ second inside i.
+    at_front rest (kinds.Mark LeftParen) inner r (λ us. Got (name_then (expr_at levels) text at us (rest_after (is_mark LeftParen) us)) Q) (λ second inside i.
     got_bind (args_in (expr_at levels) inside) (λ args. Ok (S.call text (S.exprs args.0) at, args.1)) (SameArgs args ks) Q
     (a levels w ks inside (i ∙ append_assoc (spelled_args args) (kinds.Mark RightParen ∷ []) ks)) (λ x p. (ap (λ ys. S.call text ys 0) p.0, p.1))))
 
@@ -186,7 +186,7 @@ paren_read e line r levels w ks h ts t =
     (r levels (omega (arith, w)) (kinds.Mark RightParen ∷ ks) (omega arith) inside (i ∙ append_assoc (spelled e) (kinds.Mark RightParen ∷ []) ks)) (λ x p.
     got_past RightParen x.1 ks (λ rest. Ok (S.paren x.0 at, rest)) Q p.1 (λ rest v. (ap (λ y. S.paren y 0) p.0, v))))
 
--- behind a type
+-- after a type
 space_bare : (s space : Option Space) (e x : S.Expr) (kind : SlType) → bare_space s ≡ bare_space space → bare x ≡ bare e → S.typed kind (bare_space s) (bare x) 0 ≡ S.typed kind (bare_space space) (bare e) 0
 space_bare s space e x kind b p = ap (λ o. S.typed kind o (bare x) 0) b ∙ ap (λ y. S.typed kind (bare_space space) y 0) p
 
@@ -202,7 +202,7 @@ typed_read kind space e line z n r (suc levels) w ks h ts t =
     spaced expr prim kind at space f.kind us f.value (λ line rest e. f.alone ks h line rest (token f.kind line ∷ rest) e) rest
     (i ∙ append_assoc (spelled_space space) (spelled e) ks ∙ ap (λ js. spelled_space space ++ (js ++ ks)) f.is) Q (λ s vs b v.
     subst (λ o. Got (value_then expr prim kind s at vs o) Q)
-    (sym (at_front vs f.kind us v (λ vs. line_behind LeftParen vs ≡ None) (λ line rest e. ap (λ b. cond b (Some (line, rest)) None) (f.unopened n))))
+    (sym (at_front vs f.kind us v (λ vs. line_and_rest LeftParen vs ≡ None) (λ line rest e. ap (λ b. cond b (Some (line, rest)) None) (f.unopened n))))
     (got_bind (prim vs) (λ e. Ok (S.typed kind s e.0 at, e.1)) (Same e ks) Q
     (r levels 0 (omega (arith, z)) (omega arith) (omega (arith, w)) ks h vs (v ∙ ap (λ js. js ++ ks) (sym f.is)))
     (λ x p. (space_bare s space e x.0 kind b p.0, p.1)))))
@@ -218,10 +218,10 @@ typed_paren_read kind space e inner line r (suc levels) w ks h ts t =
     at_front ts (kinds.Type kind) ((spelled_space space ++ (kinds.Mark LeftParen ∷ (spelled e ++ close))) ++ ks) t (λ ts. Got (prim_with (expr_at (suc levels)) (typed_at (suc levels)) ts) Q) (λ at rest i.
     spaced expr prim kind at space (kinds.Mark LeftParen) us refl (λ line rest e. refl) rest
     (i ∙ append_assoc (spelled_space space) (kinds.Mark LeftParen ∷ (spelled e ++ close)) ks) Q (λ s vs b v.
-    at_front vs (kinds.Mark LeftParen) us v (λ vs. Got (value_then expr prim kind s at vs (line_behind LeftParen vs)) Q) (λ opened inside j.
-    got_bind (expr inside) (λ x. triple_then expr kind s at opened x.0 x.1 (behind (is_mark Comma) x.1)) (Same e (kinds.Mark RightParen ∷ ks)) Q
+    at_front vs (kinds.Mark LeftParen) us v (λ vs. Got (value_then expr prim kind s at vs (line_and_rest LeftParen vs)) Q) (λ opened inside j.
+    got_bind (expr inside) (λ x. triple_then expr kind s at opened x.0 x.1 (rest_after (is_mark Comma) x.1)) (Same e (kinds.Mark RightParen ∷ ks)) Q
     (r levels (omega (arith, w)) (kinds.Mark RightParen ∷ ks) (omega arith) inside (j ∙ append_assoc (spelled e) close ks)) (λ x p.
-    at_front x.1 (kinds.Mark RightParen) ks p.1 (λ ws. Got (triple_then expr kind s at opened x.0 ws (behind (is_mark Comma) ws)) Q) (λ closed left m.
+    at_front x.1 (kinds.Mark RightParen) ks p.1 (λ ws. Got (triple_then expr kind s at opened x.0 ws (rest_after (is_mark Comma) ws)) Q) (λ closed left m.
     (space_bare s space (S.paren e 0) (S.paren x.0 0) kind b (ap (λ y. S.paren y 0) p.0), m))))))
 
 triple_bare : (s space : Option Space) (a b c x y z : S.Expr) (kind : SlType) → bare_space s ≡ bare_space space → bare a ≡ bare x → bare b ≡ bare y → bare c ≡ bare z
@@ -245,18 +245,18 @@ triple_read kind space x y z line rx ry rz (suc levels) w ks h ts t =
     at_front ts (kinds.Type kind) ((spelled_space space ++ (kinds.Mark LeftParen ∷ (spelled x ++ second))) ++ ks) t (λ ts. Got (prim_with (expr_at (suc levels)) (typed_at (suc levels)) ts) Q) (λ at rest i.
     spaced expr prim kind at space (kinds.Mark LeftParen) us refl (λ line rest e. refl) rest
     (i ∙ append_assoc (spelled_space space) (kinds.Mark LeftParen ∷ (spelled x ++ second)) ks) Q (λ s vs d v.
-    at_front vs (kinds.Mark LeftParen) us v (λ vs. Got (value_then expr prim kind s at vs (line_behind LeftParen vs)) Q) (λ opened inside j.
-    got_bind (expr inside) (λ x. triple_then expr kind s at opened x.0 x.1 (behind (is_mark Comma) x.1)) (Same x (second ++ ks)) Q
+    at_front vs (kinds.Mark LeftParen) us v (λ vs. Got (value_then expr prim kind s at vs (line_and_rest LeftParen vs)) Q) (λ opened inside j.
+    got_bind (expr inside) (λ x. triple_then expr kind s at opened x.0 x.1 (rest_after (is_mark Comma) x.1)) (Same x (second ++ ks)) Q
     (rx levels (omega (arith, w)) (second ++ ks) (omega arith) inside (j ∙ append_assoc (spelled x) second ks)) (λ a p.
-    at_front a.1 (kinds.Mark Comma) ((spelled y ++ third) ++ ks) p.1 (λ ws. Got (triple_then expr kind s at opened a.0 ws (behind (is_mark Comma) ws)) Q) (λ comma behind_x m.
-    got_bind (expr behind_x) (λ y. past Comma y.1 λ behind_y. expr behind_y >>= λ z. past RightParen z.1 λ rest. Ok (S.triple kind s a.0 y.0 z.0 at, rest)) (Same y (third ++ ks)) Q
-    (ry levels (omega (arith, w)) (third ++ ks) (omega arith) behind_x (m ∙ append_assoc (spelled y) third ks)) (λ b q.
-    got_past Comma b.1 ((spelled z ++ close) ++ ks) (λ behind_y. expr behind_y >>= λ z. past RightParen z.1 λ rest. Ok (S.triple kind s a.0 b.0 z.0 at, rest)) Q q.1 (λ behind_y u.
-    got_bind (expr behind_y) (λ z. past RightParen z.1 λ rest. Ok (S.triple kind s a.0 b.0 z.0 at, rest)) (Same z (close ++ ks)) Q
-    (rz levels (omega (arith, w)) (close ++ ks) (omega arith) behind_y (u ∙ append_assoc (spelled z) close ks)) (λ c o.
+    at_front a.1 (kinds.Mark Comma) ((spelled y ++ third) ++ ks) p.1 (λ ws. Got (triple_then expr kind s at opened a.0 ws (rest_after (is_mark Comma) ws)) Q) (λ comma after_x m.
+    got_bind (expr after_x) (λ y. past Comma y.1 λ after_y. expr after_y >>= λ z. past RightParen z.1 λ rest. Ok (S.triple kind s a.0 y.0 z.0 at, rest)) (Same y (third ++ ks)) Q
+    (ry levels (omega (arith, w)) (third ++ ks) (omega arith) after_x (m ∙ append_assoc (spelled y) third ks)) (λ b q.
+    got_past Comma b.1 ((spelled z ++ close) ++ ks) (λ after_y. expr after_y >>= λ z. past RightParen z.1 λ rest. Ok (S.triple kind s a.0 b.0 z.0 at, rest)) Q q.1 (λ after_y u.
+    got_bind (expr after_y) (λ z. past RightParen z.1 λ rest. Ok (S.triple kind s a.0 b.0 z.0 at, rest)) (Same z (close ++ ks)) Q
+    (rz levels (omega (arith, w)) (close ++ ks) (omega arith) after_y (u ∙ append_assoc (spelled z) close ks)) (λ c o.
     got_past RightParen c.1 ks (λ rest. Ok (S.triple kind s a.0 b.0 c.0 at, rest)) Q o.1 (λ left f. (triple_bare s space a.0 b.0 c.0 x y z kind d p.0 q.0 o.0, f))))))))))
 
--- behind a prefix operator
+-- after a prefix operator
 prefix_of : (p : Prefix) → prefix_in (spelled_prefix p) ≡ Some p
 prefix_of prefixes.Negative = refl
 prefix_of prefixes.Not = refl
@@ -303,7 +303,7 @@ links_end row levels w ks h turns ts l t =
     let operand = reader levels (rows_from row) in
     many_none (next_link row operand) turns ts (no_link row operand ts (subst (Ends (1 + rows_from row)) (sym t) h)) (SameLinks S.end ks) (refl, t)
 
--- an operand ends before the operator behind it
+-- an operand ends before the operator after it
 ends_links : (row : Row) (ls : S.Links) → GrammaticalLinks row ls → (ks : List TokenKind) → Ends (1 + rows_from row) ks → Ends (rows_from row) (spelled_links ls ++ ks)
 ends_links row S.end f [] h = tt
 ends_links row S.end f (k ∷ ks) h = omega (arith, h)
@@ -392,9 +392,9 @@ choice_here c e f line low rc re rf levels w ks h ts t =
     let expr = expr_at levels in
     let second = kinds.Mark Colon ∷ spelled f in
     let first = kinds.Mark Question ∷ (spelled e ++ second) in
-    got_bind (reader levels 9 ts) (λ test. choice_then expr test.0 test.1 (line_behind Question test.1)) (Same c (first ++ ks)) Q
+    got_bind (reader levels 9 ts) (λ test. choice_then expr test.0 test.1 (line_and_rest Question test.1)) (Same c (first ++ ks)) Q
     (rc levels 9 low (omega arith) (omega (arith, w)) (first ++ ks) (omega arith) ts (t ∙ append_assoc (spelled c) first ks)) (λ x p.
-    at_front x.1 (kinds.Mark Question) ((spelled e ++ second) ++ ks) p.1 (λ us. Got (choice_then expr x.0 us (line_behind Question us)) Q) (λ at rest i.
+    at_front x.1 (kinds.Mark Question) ((spelled e ++ second) ++ ks) p.1 (λ us. Got (choice_then expr x.0 us (line_and_rest Question us)) Q) (λ at rest i.
     got_bind (expr rest) (λ first. past Colon first.1 λ rest. expr rest >>= λ second. Ok (S.choice x.0 first.0 second.0 at, second.1)) (Same e (second ++ ks)) Q
     (re levels (omega (arith, w)) (second ++ ks) (omega arith) rest (i ∙ append_assoc (spelled e) second ks)) (λ y q.
     got_past Colon y.1 (spelled f ++ ks) (λ rest. expr rest >>= λ second. Ok (S.choice x.0 y.0 second.0 at, second.1)) Q q.1 (λ left u.

@@ -11,12 +11,12 @@ use Rattle.sl_lexer.specs.declared.token.Token.{Token}
 use Rattle.sl_lexer.specs.declared.token.TokenKind.{TokenKind}
 use Rattle.sl_lexer.specs.declared.token.TokenKind.TheVariants as kinds
 use Rattle.sl_lexer.specs.declared.token.Mark.TheVariants.{LeftParen, RightParen, Comma, Question, Colon}
-use Rattle.sl_expression_grammar.specs.Reading.{Reads, ◌>>=◌, with_front, many, after_comma, commas, past, behind, line_behind, is_mark, too_deep}
+use Rattle.sl_expression_grammar.specs.Reading.{Reads, ◌>>=◌, with_front, many, after_comma, commas, past, rest_after, line_and_rest, is_mark, too_deep}
 use Rattle.sl_expression_grammar.specs.Expressions.{row_of, same_row, is_single, most_links, operator_in, operator_at, link, next_link, chain_of, links_in, chain, chains, choice_then, expr_with, args_with, args_in, name_then, paren_with, space_at, triple_then, value_then, typed_with, prim_in, prim_with, prefix_at, unary_then, unary_with, deep_typed, deep_operand, begins_expr, expr_at, unary_at, prim_at}
 use Rattle.sl_expression_grammar.specs.Rows.{rows_from}
 use Rattle.sl_grammar.specs.Grammatical.{looseness, count, Grammatical, GrammaticalArgs, GrammaticalLinks}
 use Rattle.sl_parser.specs.Spelled.{spelled, spelled_args, spelled_more, spelled_links, spelled_prefix, spelled_space}
-use Rattle.sl_parser.proofs.Fronts.{passed, mapped, operator_at_is, line_behind_is, mark_behind, prefix_at_is, space_at_is}
+use Rattle.sl_parser.proofs.Fronts.{passed, mapped, operator_at_is, line_after_is, mark_after, prefix_at_is, space_at_is}
 use Rattle.sl_parser.proofs.Good.{Takes, and_then}
 use Rattle.sl_grammar.proofs.Starts.{Shape, Starts, then_starts, starts_on, taken_on, Done, begun_here, done_bind, done_past, done_deep, done_more, done_front, done_many}
 
@@ -129,11 +129,11 @@ chains_done unary ok =
     chain_done rows.Or _ (chain_done rows.And _ (chain_done rows.Equality _ (chain_done rows.Relation _ (chain_done rows.Sum _ (chain_done rows.Cross _ (chain_done rows.Product _ (chain_done rows.Dot unary ok)))))))
 
 module _ (expr : List Token → Reads S.Expr) (ok : (ts : List Token) → Done whole ts (expr ts)) where
-  choice_done : (ts after : List Token) (t : S.Expr) → (looseness t ≤ 9) × Grammatical t → Takes ts (spelled t) after → (o : Option (ℕ × List Token)) → line_behind Question after ≡ o
+  choice_done : (ts after : List Token) (t : S.Expr) → (looseness t ≤ 9) × Grammatical t → Takes ts (spelled t) after → (o : Option (ℕ × List Token)) → line_and_rest Question after ≡ o
       → Done whole ts (choice_then expr t after o)
   choice_done ts after t p u None e = ((u, p.1), tt)
   choice_done ts after t p u (Some q) e =
-      let mark : Takes after (kinds.Mark Question ∷ []) q.1 = record { text = line_behind_is Question after q e } in
+      let mark : Takes after (kinds.Mark Question ∷ []) q.1 = record { text = line_after_is Question after q e } in
       let second = kinds.Mark Colon ∷ spelled blank in
       done_bind whole whole ts q.1 (expr q.1) (λ first. past Colon first.1 λ rest. expr rest >>= λ second. Ok (S.choice t first.0 second.0 q.0, second.1)) (ok q.1)
       (λ x rest f s. record { item = S.choice t x blank 0; fine = (p, (f, tt)); starts = then_starts u (then_starts mark (starts_on second s)) }) (λ x v f h.
@@ -145,18 +145,18 @@ module _ (expr : List Token → Reads S.Expr) (ok : (ts : List Token) → Done w
 
   expr_done : (unary : List Token → Reads S.Expr) → ((ts : List Token) → Done (tight 1) ts (unary ts)) → (ts : List Token) → Done whole ts (expr_with unary expr ts)
   expr_done unary u ts =
-      done_bind (tight 9) whole ts ts (chains unary ts) (λ test. choice_then expr test.0 test.1 (line_behind Question test.1)) (chains_done unary u ts)
-      (λ x rest f s. record { item = x; fine = f.1; starts = s }) (λ x t f h. choice_done ts x.1 x.0 f t (line_behind Question x.1) refl)
+      done_bind (tight 9) whole ts ts (chains unary ts) (λ test. choice_then expr test.0 test.1 (line_and_rest Question test.1)) (chains_done unary u ts)
+      (λ x rest f s. record { item = x; fine = f.1; starts = s }) (λ x t f h. choice_done ts x.1 x.0 f t (line_and_rest Question x.1) refl)
 
-  abbrev behind_comma : Shape S.Expr
-  behind_comma = record { spell = λ e. kinds.Mark Comma ∷ spelled e; fine = Grammatical; ends = λ e rest. Unit {0} }
+  abbrev rest_after_comma : Shape S.Expr
+  rest_after_comma = record { spell = λ e. kinds.Mark Comma ∷ spelled e; fine = Grammatical; ends = λ e rest. Unit {0} }
 
-  comma_done : (ts : List Token) (r : Reads S.Expr) → after_comma expr ts ≡ Some r → Done behind_comma ts r
+  comma_done : (ts : List Token) (r : Reads S.Expr) → after_comma expr ts ≡ Some r → Done rest_after_comma ts r
   comma_done ts r e =
-      let m = mapped expr (behind (is_mark Comma) ts) r e in
-      let t : Takes ts (kinds.Mark Comma ∷ []) m.0 = record { text = mark_behind Comma ts m.0 m.1.0 } in
-      subst (λ r. Done behind_comma ts r) m.1.1
-      (done_more whole behind_comma ts m.0 (expr m.0) (ok m.0) (λ x rest f s. record { item = x; fine = f; starts = then_starts t s }) (λ x rest u f h. ((and_then t u, f), tt)))
+      let m = mapped expr (rest_after (is_mark Comma) ts) r e in
+      let t : Takes ts (kinds.Mark Comma ∷ []) m.0 = record { text = mark_after Comma ts m.0 m.1.0 } in
+      subst (λ r. Done rest_after_comma ts r) m.1.1
+      (done_more whole rest_after_comma ts m.0 (expr m.0) (ok m.0) (λ x rest f s. record { item = x; fine = f; starts = then_starts t s }) (λ x rest u f h. ((and_then t u, f), tt)))
 
   abbrev FineArgs : List S.Expr → Type 0
   FineArgs es = GrammaticalArgs (S.exprs es)
@@ -172,7 +172,7 @@ module _ (expr : List Token → Reads S.Expr) (ok : (ts : List Token) → Done w
 
   more_done : (k : ℕ) (ts : List Token) → Done more_args ts (many (after_comma expr) k ts)
   more_done k ts =
-      done_many behind_comma (λ es. spelled_more (S.exprs es)) (λ k es. FineArgs es) refl (λ x xs. refl) (λ k. tt) (λ k x xs f g. (f, g)) (after_comma expr) comma_done k ts
+      done_many rest_after_comma (λ es. spelled_more (S.exprs es)) (λ k es. FineArgs es) refl (λ x xs. refl) (λ k. tt) (λ k x xs f g. (f, g)) (after_comma expr) comma_done k ts
 
   some_done : (ts : List Token) → Done some_args ts (commas expr ts)
   some_done ts =
@@ -182,8 +182,8 @@ module _ (expr : List Token → Reads S.Expr) (ok : (ts : List Token) → Done w
       (λ xs rest g s. record { item = x.0 ∷ xs; fine = (f, g); starts = then_starts t s })
       (λ xs rest u g. ((and_then t u, (f, g)), tt)))
 
-  args_done : (ts : List Token) (o : Option (List Token)) → behind (is_mark RightParen) ts ≡ o → Done closed_args ts (args_with expr ts o)
-  args_done ts (Some rest) e = ((record { text = mark_behind RightParen ts rest e }, tt), tt)
+  args_done : (ts : List Token) (o : Option (List Token)) → rest_after (is_mark RightParen) ts ≡ o → Done closed_args ts (args_with expr ts o)
+  args_done ts (Some rest) e = ((record { text = mark_after RightParen ts rest e }, tt), tt)
   args_done ts None e =
       let close = kinds.Mark RightParen ∷ [] in
       done_bind some_args closed_args ts ts (commas expr ts) (λ args. past RightParen args.1 λ rest. Ok (args.0, rest)) (some_done ts)
@@ -191,12 +191,12 @@ module _ (expr : List Token → Reads S.Expr) (ok : (ts : List Token) → Done w
       done_past closed_args RightParen ts x.1 (λ rest. Ok (x.0, rest)) (record { item = x.0; fine = f; starts = taken_on close t })
       (λ rest u. ((and_then t u, f), tt)))
 
-  name_done : (before ts : List Token) (name : List ℕ) (line : ℕ) → Takes before (kinds.Name name ∷ []) ts → (o : Option (List Token)) → behind (is_mark LeftParen) ts ≡ o
+  name_done : (before ts : List Token) (name : List ℕ) (line : ℕ) → Takes before (kinds.Name name ∷ []) ts → (o : Option (List Token)) → rest_after (is_mark LeftParen) ts ≡ o
       → Done (tight 0) before (name_then expr name line ts o)
   name_done before ts name line t None e = ((t, (omega arith, tt)), tt)
   name_done before ts name line t (Some inside) e =
-      let mark : Takes ts (kinds.Mark LeftParen ∷ []) inside = record { text = mark_behind LeftParen ts inside e } in
-      done_bind closed_args (tight 0) before inside (args_in expr inside) (λ args. Ok (S.call name (S.exprs args.0) line, args.1)) (args_done inside (behind (is_mark RightParen) inside) refl)
+      let mark : Takes ts (kinds.Mark LeftParen ∷ []) inside = record { text = mark_after LeftParen ts inside e } in
+      done_bind closed_args (tight 0) before inside (args_in expr inside) (λ args. Ok (S.call name (S.exprs args.0) line, args.1)) (args_done inside (rest_after (is_mark RightParen) inside) refl)
       (λ xs rest f s. record { item = S.call name (S.exprs xs) 0; fine = (omega arith, f); starts = then_starts t (then_starts mark s) })
       (λ x u f h. ((and_then t (and_then mark u), (omega arith, f)), tt))
 
@@ -208,17 +208,17 @@ module _ (expr : List Token → Reads S.Expr) (ok : (ts : List Token) → Done w
       done_past (tight 0) RightParen before x.1 (λ rest. Ok (S.paren x.0 line, rest)) (record { item = S.paren x.0 0; fine = (omega arith, f); starts = then_starts t (taken_on close u) })
       (λ rest v. ((and_then t (and_then u v), (omega arith, f)), tt)))
 
--- behind a type
+-- after a type
 module _ (expr prim : List Token → Reads S.Expr) (ok : (ts : List Token) → Done whole ts (expr ts)) (prim_fine : (ts : List Token) → Done (tight 0) ts (prim ts))
     (kind : SlType) (line : ℕ) (before : List Token) (space : Option Space) (inside : List Token) (t : Takes before (kinds.Type kind ∷ spelled_space space) inside) where
   triple_done : (inner : ℕ) (ts after : List Token) (x : S.Expr) → Takes inside (kinds.Mark LeftParen ∷ []) ts → Takes ts (spelled x) after → Grammatical x
-      → (o : Option (List Token)) → behind (is_mark Comma) after ≡ o → Done (tight 0) before (triple_then expr kind space line inner x after o)
+      → (o : Option (List Token)) → rest_after (is_mark Comma) after ≡ o → Done (tight 0) before (triple_then expr kind space line inner x after o)
   triple_done inner ts after x paren u p None e =
       done_past (tight 0) RightParen before after (λ rest. Ok (S.typed kind space (S.paren x inner) line, rest))
       (record { item = S.typed kind space (S.paren x inner) line; fine = (omega arith, (refl, p)); starts = then_starts t (then_starts paren (taken_on (kinds.Mark RightParen ∷ []) u)) })
       (λ rest close. ((and_then t (and_then paren (and_then u close)), (omega arith, (refl, p))), tt))
   triple_done inner ts after x paren u p (Some second) e =
-      let comma : Takes after (kinds.Mark Comma ∷ []) second = record { text = mark_behind Comma after second e } in
+      let comma : Takes after (kinds.Mark Comma ∷ []) second = record { text = mark_after Comma after second e } in
       let close = kinds.Mark RightParen ∷ [] in
       let last = kinds.Mark Comma ∷ (spelled blank ++ close) in
       done_bind whole (tight 0) before second (expr second) (λ y. past Comma y.1 λ third. expr third >>= λ z. past RightParen z.1 λ rest. Ok (S.triple kind space x y.0 z.0 line, rest)) (ok second)
@@ -231,30 +231,30 @@ module _ (expr prim : List Token → Reads S.Expr) (ok : (ts : List Token) → D
       (record { item = S.triple kind space x y.0 z.0 line; fine = (omega arith, (p, (q, r))); starts = then_starts t (then_starts paren (then_starts u (then_starts comma (then_starts v (then_starts comma_two (taken_on close w)))))) }) (λ rest c.
       ((and_then t (and_then paren (and_then u (and_then comma (and_then v (and_then comma_two (and_then w c)))))), (omega arith, (p, (q, r)))), tt)))))
 
-  value_done : (o : Option (ℕ × List Token)) → line_behind LeftParen inside ≡ o → Done (tight 0) before (value_then expr prim kind space line inside o)
+  value_done : (o : Option (ℕ × List Token)) → line_and_rest LeftParen inside ≡ o → Done (tight 0) before (value_then expr prim kind space line inside o)
   value_done None e =
       done_bind (tight 0) (tight 0) before inside (prim inside) (λ e. Ok (S.typed kind space e.0 line, e.1)) (prim_fine inside)
       (λ x rest f s. let l = f.0 in record { item = S.typed kind space x line; fine = (omega arith, (omega (arith, l), f.1)); starts = then_starts t s })
       (λ x u f h. let l = f.0 in ((and_then t u, (omega arith, (omega (arith, l), f.1))), tt))
   value_done (Some q) e =
-      let paren : Takes inside (kinds.Mark LeftParen ∷ []) q.1 = record { text = line_behind_is LeftParen inside q e } in
-      done_bind whole (tight 0) before q.1 (expr q.1) (λ x. triple_then expr kind space line q.0 x.0 x.1 (behind (is_mark Comma) x.1)) (ok q.1)
+      let paren : Takes inside (kinds.Mark LeftParen ∷ []) q.1 = record { text = line_after_is LeftParen inside q e } in
+      done_bind whole (tight 0) before q.1 (expr q.1) (λ x. triple_then expr kind space line q.0 x.0 x.1 (rest_after (is_mark Comma) x.1)) (ok q.1)
       (λ x rest f s. record { item = S.typed kind space (S.paren x q.0) line; fine = (omega arith, (refl, f)); starts = then_starts t (then_starts paren (starts_on (kinds.Mark RightParen ∷ []) s)) })
-      (λ x u f h. triple_done q.0 q.1 x.1 x.0 paren u f (behind (is_mark Comma) x.1) refl)
+      (λ x u f h. triple_done q.0 q.1 x.1 x.0 paren u f (rest_after (is_mark Comma) x.1) refl)
 
 typed_done : (expr prim : List Token → Reads S.Expr) → ((ts : List Token) → Done whole ts (expr ts)) → ((ts : List Token) → Done (tight 0) ts (prim ts)) → (kind : SlType) (line : ℕ) (rest ts : List Token)
     → Takes ts (kinds.Type kind ∷ []) rest → Done (tight 0) ts (typed_with expr prim kind line rest)
 typed_done expr prim ok prim_fine kind line rest ts t =
     let s = space_at rest in
     let space : Takes rest (spelled_space s.0) s.1 = record { text = space_at_is rest } in
-    value_done expr prim ok prim_fine kind line ts s.0 s.1 (and_then t space) (line_behind LeftParen s.1) refl
+    value_done expr prim ok prim_fine kind line ts s.0 s.1 (and_then t space) (line_and_rest LeftParen s.1) refl
 
 module _ (expr : List Token → Reads S.Expr) (ok : (ts : List Token) → Done whole ts (expr ts)) (typed : SlType → ℕ → List Token → List Token → Reads S.Expr)
     (typed_fine : (kind : SlType) (line : ℕ) (rest ts : List Token) → Takes ts (kinds.Type kind ∷ []) rest → Done (tight 0) ts (typed kind line rest ts)) where
   prim_on : (k : TokenKind) (line : ℕ) (rest ts : List Token) → Takes ts (k ∷ []) rest → Done (tight 0) ts (prim_in expr typed k line rest ts)
   prim_on (kinds.Number text) line rest ts t = ((t, (omega arith, tt)), tt)
   prim_on (kinds.Str text) line rest ts t = ((t, (omega arith, tt)), tt)
-  prim_on (kinds.Name name) line rest ts t = name_done expr ok ts rest name line t (behind (is_mark LeftParen) rest) refl
+  prim_on (kinds.Name name) line rest ts t = name_done expr ok ts rest name line t (rest_after (is_mark LeftParen) rest) refl
   prim_on (kinds.Mark LeftParen) line rest ts t = paren_done expr ok ts rest line t
   prim_on (kinds.Type kind) line rest ts t = typed_fine kind line rest ts t
   prim_on _ line rest ts t = begun_here (tight 0) ts blank (omega arith, tt)

@@ -12,7 +12,7 @@ use Rattle.sl_lexer.specs.declared.token.Mark.TheVariants.{LeftParen, RightParen
 use Rattle.sl_lexer.specs.Tokens.{tokens_of, last_line}
 use Rattle.sl_expression_grammar.specs.declared.fault.SlCode.{SlCode}
 use Rattle.sl_expression_grammar.specs.declared.fault.SlCode.TheVariants.{P3}
-use Rattle.sl_expression_grammar.specs.Reading.{Reads, ◌>>=◌, with_front, many, behind, is_mark}
+use Rattle.sl_expression_grammar.specs.Reading.{Reads, ◌>>=◌, with_front, many, rest_after, is_mark}
 use Rattle.sl_expression_grammar.specs.Expressions.{expr_at}
 use Rattle.sl_parser.specs.declared.declarations.Valued.{Valued}
 use Rattle.sl_parser.specs.declared.declarations.Valued.TheVariants.{Always, Never}
@@ -21,7 +21,7 @@ use Rattle.sl_parser.specs.Files.{unless_closed, next_group, Groups, groups_end,
 use Rattle.sl_parser.specs.Spelled.{kinds_of, spelled_names, spelled_class, spelled_stmts, spelled_group, spelled_end, further_groups, spelled_groups, spelled_list, spelled_block, spelled_function, spelled_functions, spelled_shader}
 use Rattle.sl_grammar.specs.Bare.{bare_stmts, bare_group, bare_function, bare_shader}
 use Rattle.sl_grammar.specs.Grammatical.{GrammaticalStmts, EachGrammatical, GrammaticalGroups, GrammaticalFunctions, GrammaticalShader}
-use Rattle.sl_grammar.proofs.Got.{Got, got_bind, got_front, got_more, got_past, at_front, token, Lacks, not_behind, many_more, many_none, got_both, tokens_for, tokens_for_is}
+use Rattle.sl_grammar.proofs.Got.{Got, got_bind, got_front, got_more, got_past, at_front, token, Lacks, not_after, many_more, many_none, got_both, tokens_for, tokens_for_is}
 use Rattle.sl_grammar.proofs.ExprReads.{kinds_length}
 use Rattle.sl_grammar.proofs.StmtReads.{Seen, ClosesNames, group_read}
 use Rattle.sl_grammar.proofs.Deeper.{Kept, file_kept}
@@ -47,7 +47,7 @@ module _ (levels : ℕ) where
   no_group : (valued : Valued) (end : Bool) (ks : List TokenKind) (ts : List Token) → kinds_of ts ≡ spelled_end end ++ ks → next_group (group valued) ts ≡ None
   no_group valued true ks ts t =
       at_front ts (kinds.Mark Semicolon) (kinds.Mark RightParen ∷ ks) t (λ ts. next_group (group valued) ts ≡ None) (λ at rest r.
-      at_front rest (kinds.Mark RightParen) ks r (λ us. option_map (group valued) (unless_closed (Some us) (behind (is_mark RightParen) us)) ≡ None) (λ line us u. refl))
+      at_front rest (kinds.Mark RightParen) ks r (λ us. option_map (group valued) (unless_closed (Some us) (rest_after (is_mark RightParen) us)) ≡ None) (λ line us u. refl))
   no_group valued false ks ts t = at_front ts (kinds.Mark RightParen) ks t (λ ts. next_group (group valued) ts ≡ None) (λ at rest r. refl)
 
   further_read : (valued : Valued) (gs : List S.Group) (end : Bool) → EachGrammatical valued gs → levels_groups gs ≤ levels → (ks : List TokenKind) (turns : ℕ) (ts : List Token) → length ts ≤ turns
@@ -64,7 +64,7 @@ module _ (levels : ℕ) where
       let n = kinds_length ts (further_groups (x ∷ gs) ++ close) t in
       at_front ts (kinds.Mark Semicolon) ((spelled_group x ++ further_groups gs) ++ close) t (λ ts. Got (many step (suc turns) ts) Q) (λ at us u.
       let v : kinds_of us ≡ spelled_group x ++ after = u ∙ append_assoc (spelled_group x) (further_groups gs) close in
-      let here = not_behind (is_mark RightParen) us (subst (Lacks (is_mark RightParen)) (sym v) (group_open x after)) in
+      let here = not_after (is_mark RightParen) us (subst (Lacks (is_mark RightParen)) (sym v) (group_open x after)) in
       many_more step turns (token (kinds.Mark Semicolon) at ∷ us) (group valued us) (ap (λ o. option_map (group valued) (unless_closed (Some us) o)) here) (Seen bare_group x after) Q
       (group_read levels valued x g.0 (omega (arith, w)) after (closes_groups gs end ks) us v) (λ y vs p.
       let k = kinds_length vs after p.1 in
@@ -77,12 +77,12 @@ module _ (levels : ℕ) where
   SeenGroups groups end ks x rest = ((map bare_group x.0 ≡ map bare_group groups) × (x.1 ≡ end)) × (kinds_of rest ≡ ks)
 
   end_read : (groups xs : List S.Group) (end : Bool) (ks : List TokenKind) (ts : List Token) → map bare_group xs ≡ map bare_group groups → kinds_of ts ≡ spelled_end end ++ ks
-      → Got (groups_end xs ts (behind (is_mark Semicolon) ts)) (SeenGroups groups end ks)
+      → Got (groups_end xs ts (rest_after (is_mark Semicolon) ts)) (SeenGroups groups end ks)
   end_read groups xs true ks ts e t =
-      at_front ts (kinds.Mark Semicolon) (kinds.Mark RightParen ∷ ks) t (λ ts. Got (groups_end xs ts (behind (is_mark Semicolon) ts)) (SeenGroups groups true ks)) (λ at rest r.
+      at_front ts (kinds.Mark Semicolon) (kinds.Mark RightParen ∷ ks) t (λ ts. Got (groups_end xs ts (rest_after (is_mark Semicolon) ts)) (SeenGroups groups true ks)) (λ at rest r.
       got_past RightParen rest ks (λ rest. Ok ((xs, true), rest)) (SeenGroups groups true ks) r (λ us u. ((e, refl), u)))
   end_read groups xs false ks ts e t =
-      at_front ts (kinds.Mark RightParen) ks t (λ ts. Got (groups_end xs ts (behind (is_mark Semicolon) ts)) (SeenGroups groups false ks)) (λ at rest r. ((e, refl), r))
+      at_front ts (kinds.Mark RightParen) ks t (λ ts. Got (groups_end xs ts (rest_after (is_mark Semicolon) ts)) (SeenGroups groups false ks)) (λ at rest r. ((e, refl), r))
 
   some_read : (valued : Valued) (x : S.Group) (gs : List S.Group) (end : Bool) → EachGrammatical valued (x ∷ gs) → levels_groups (x ∷ gs) ≤ levels → (ks : List TokenKind) (ts : List Token)
       → kinds_of ts ≡ spelled_group x ++ (further_groups gs ++ (spelled_end end ++ ks)) → Got (some_groups (group valued) ts) (Seen (map bare_group) (x ∷ gs) (spelled_end end ++ ks))
@@ -96,24 +96,24 @@ module _ (levels : ℕ) where
       (λ xs left q. (ap (λ z. z ∷ map bare_group xs) p.0 ∙ ap (λ zs. bare_group x ∷ zs) q.0, q.1)))
 
   inside_read : (valued : Valued) (groups : List S.Group) (end : Bool) → GrammaticalGroups valued groups end → levels_groups groups ≤ levels → (ks : List TokenKind) (ts : List Token)
-      → kinds_of ts ≡ (spelled_groups groups ++ spelled_end end) ++ ks → Got (groups_in (group valued) ts (behind (is_mark RightParen) ts)) (SeenGroups groups end ks)
+      → kinds_of ts ≡ (spelled_groups groups ++ spelled_end end) ++ ks → Got (groups_in (group valued) ts (rest_after (is_mark RightParen) ts)) (SeenGroups groups end ks)
   inside_read valued [] true g w ks ts t = absurd (cc g)
   inside_read valued [] false g w ks ts t =
-      at_front ts (kinds.Mark RightParen) ks t (λ ts. Got (groups_in (group valued) ts (behind (is_mark RightParen) ts)) (SeenGroups [] false ks)) (λ at rest r. ((refl, refl), r))
+      at_front ts (kinds.Mark RightParen) ks t (λ ts. Got (groups_in (group valued) ts (rest_after (is_mark RightParen) ts)) (SeenGroups [] false ks)) (λ at rest r. ((refl, refl), r))
   inside_read valued (x ∷ gs) end g w ks ts t =
       let close = spelled_end end ++ ks in
       let after = further_groups gs ++ close in
       let u : kinds_of ts ≡ spelled_group x ++ after =
       t ∙ append_assoc (spelled_group x ++ further_groups gs) (spelled_end end) ks ∙ append_assoc (spelled_group x) (further_groups gs) close in
-      let here = not_behind (is_mark RightParen) ts (subst (Lacks (is_mark RightParen)) (sym u) (group_open x after)) in
+      let here = not_after (is_mark RightParen) ts (subst (Lacks (is_mark RightParen)) (sym u) (group_open x after)) in
       subst (λ o. Got (groups_in (group valued) ts o) (SeenGroups (x ∷ gs) end ks)) (sym here)
-      (got_bind (some_groups (group valued) ts) (λ groups. groups_end groups.0 groups.1 (behind (is_mark Semicolon) groups.1)) (Seen (map bare_group) (x ∷ gs) close) (SeenGroups (x ∷ gs) end ks)
+      (got_bind (some_groups (group valued) ts) (λ groups. groups_end groups.0 groups.1 (rest_after (is_mark Semicolon) groups.1)) (Seen (map bare_group) (x ∷ gs) close) (SeenGroups (x ∷ gs) end ks)
       (some_read valued x gs end g w ks ts u) (λ y p. end_read (x ∷ gs) y.0 end ks y.1 p.0 p.1))
 
   groups_read : (valued : Valued) (groups : List S.Group) (end : Bool) → GrammaticalGroups valued groups end → levels_groups groups ≤ levels → (ks : List TokenKind) (ts : List Token)
       → kinds_of ts ≡ spelled_list groups end ++ ks → Got (groups_with levels valued ts) (SeenGroups groups end ks)
   groups_read valued groups end g w ks ts t =
-      got_past LeftParen ts ((spelled_groups groups ++ spelled_end end) ++ ks) (λ inside. groups_in (group valued) inside (behind (is_mark RightParen) inside)) (SeenGroups groups end ks) t (λ inside i.
+      got_past LeftParen ts ((spelled_groups groups ++ spelled_end end) ++ ks) (λ inside. groups_in (group valued) inside (rest_after (is_mark RightParen) inside)) (SeenGroups groups end ks) t (λ inside i.
       inside_read valued groups end g w ks inside i)
 
   abbrev SeenBody : S.Stmts → List TokenKind → List S.Stmt → List Token → Type 0
@@ -249,6 +249,6 @@ refused ts rest code e s g t =
       exceeds levels 64 (λ w. unread 64 s code rest (file_of 64 ts) (file_read 64 s g w ts t) e),
     )
 
-pub unspelled : (before : List Token) (faulty : Token) (behind other : List Token) (code : SlCode) → file_of 64 (before ++ (faulty ∷ behind)) ≡ Err (code, faulty ∷ behind)
+pub unspelled : (before : List Token) (faulty : Token) (rest_after other : List Token) (code : SlCode) → file_of 64 (before ++ (faulty ∷ rest_after)) ≡ Err (code, faulty ∷ rest_after)
     → (s : S.Shader) → GrammaticalShader s → kinds_of (before ++ (faulty ∷ other)) ≡ spelled_shader s → (code ≡ P3) × (64 < levels_file s.functions s.params s.body)
-unspelled before faulty behind other code e s g t = refused (before ++ (faulty ∷ other)) (faulty ∷ other) code (fault_stays 64 before faulty behind other code e) s g t
+unspelled before faulty rest_after other code e s g t = refused (before ++ (faulty ∷ other)) (faulty ∷ other) code (fault_stays 64 before faulty rest_after other code e) s g t

@@ -11,7 +11,7 @@ use Rattle.sl_lexer.specs.declared.token.TokenKind.TheVariants as kinds
 use Rattle.sl_lexer.specs.declared.token.Mark.TheVariants.{LeftParen, RightParen, LeftBrace, Semicolon}
 use Rattle.sl_lexer.specs.Tokens.{tokens_of, last_line}
 use Rattle.sl_expression_grammar.specs.declared.fault.SlCode.{SlCode}
-use Rattle.sl_expression_grammar.specs.Reading.{Reads, ◌>>=◌, with_front, many, behind, is_mark}
+use Rattle.sl_expression_grammar.specs.Reading.{Reads, ◌>>=◌, with_front, many, rest_after, is_mark}
 use Rattle.sl_expression_grammar.specs.Expressions.{expr_at}
 use Rattle.sl_parser.specs.declared.declarations.Valued.{Valued}
 use Rattle.sl_parser.specs.declared.declarations.Valued.TheVariants.{Always, Never}
@@ -19,7 +19,7 @@ use Rattle.sl_parser.specs.Statements.{type_at, group_with, block_in, stmt_at}
 use Rattle.sl_parser.specs.Files.{semicolon_at, next_group, Groups, groups_end, some_groups, groups_in, groups_with, body_at, function_with, next_function, functions_in, sort_at, shader_then, ended, file_of, placed, parsed}
 use Rattle.sl_grammar.specs.Grammatical.{GrammaticalNames, GrammaticalStmts, EachGrammatical, GrammaticalGroups, GrammaticalFunctions, GrammaticalShader}
 use Rattle.sl_parser.specs.Spelled.{kinds_of, spelled_group, spelled_end, further_groups, spelled_groups, spelled_list, spelled_block, spelled_function, spelled_functions, spelled_shader}
-use Rattle.sl_parser.proofs.Fronts.{mapped, mark_behind}
+use Rattle.sl_parser.proofs.Fronts.{mapped, mark_after}
 use Rattle.sl_parser.proofs.FrontNames.{type_at_is, sort_at_is}
 use Rattle.sl_parser.proofs.Good.{Good, Takes, and_then}
 use Rattle.sl_grammar.proofs.Starts.{Shape, then_starts, starts_on, taken_on, taken_whole, Done, begun_here, done_bind, done_past, done_more, done_front, done_many}
@@ -54,7 +54,7 @@ module _ (n : ℕ) where
     next_done : (ts : List Token) (r : Reads S.Group) → next_group item ts ≡ Some r → Done next_shape ts r
     next_done ts r e =
         let m = mapped item (semicolon_at ts) r e in
-        let t : Takes ts (kinds.Mark Semicolon ∷ []) m.0 = record { text = mark_behind Semicolon ts m.0 (goes_on_is (behind (is_mark Semicolon) ts) m.0 m.1.0) } in
+        let t : Takes ts (kinds.Mark Semicolon ∷ []) m.0 = record { text = mark_after Semicolon ts m.0 (goes_on_is (rest_after (is_mark Semicolon) ts) m.0 m.1.0) } in
         subst (λ r. Done next_shape ts r) m.1.1
         (done_more (group_shape valued) next_shape ts m.0 (item m.0) (item_done m.0) (λ x rest f s. record { item = x; fine = f; starts = then_starts t s }) (λ x rest u f h. ((and_then t u, f), tt)))
 
@@ -69,25 +69,25 @@ module _ (n : ℕ) where
         (λ xs rest g s. record { item = x.0 ∷ xs; fine = λ end. (f, g); starts = then_starts t s })
         (λ xs rest u g. ((and_then t u, λ end. (f, g)), tt)))
 
-    end_done : (before ts : List Token) (gs : List S.Group) → ((end : Bool) → GrammaticalGroups valued gs end) → Takes before (spelled_groups gs) ts → (o : Option (List Token)) → behind (is_mark Semicolon) ts ≡ o
+    end_done : (before ts : List Token) (gs : List S.Group) → ((end : Bool) → GrammaticalGroups valued gs end) → Takes before (spelled_groups gs) ts → (o : Option (List Token)) → rest_after (is_mark Semicolon) ts ≡ o
         → Done groups_shape before (groups_end gs ts o)
     end_done before ts gs f t None e =
         done_past groups_shape RightParen before ts (λ rest. Ok ((gs, false), rest)) (record { item = (gs, false); fine = f false; starts = taken_on (spelled_end false) t }) (λ rest u. ((and_then t u, f false), tt))
     end_done before ts gs f t (Some after) e =
-        let mark : Takes ts (kinds.Mark Semicolon ∷ []) after = record { text = mark_behind Semicolon ts after e } in
+        let mark : Takes ts (kinds.Mark Semicolon ∷ []) after = record { text = mark_after Semicolon ts after e } in
         done_past groups_shape RightParen before after (λ rest. Ok ((gs, true), rest)) (record { item = (gs, true); fine = f true; starts = then_starts t (taken_on (kinds.Mark RightParen ∷ []) mark) })
         (λ rest u. ((and_then t (and_then mark u), f true), tt))
 
-    groups_done : (ts : List Token) (o : Option (List Token)) → behind (is_mark RightParen) ts ≡ o → Done groups_shape ts (groups_in item ts o)
+    groups_done : (ts : List Token) (o : Option (List Token)) → rest_after (is_mark RightParen) ts ≡ o → Done groups_shape ts (groups_in item ts o)
     groups_done ts None e =
-        done_bind some_shape groups_shape ts ts (some_groups item ts) (λ groups. groups_end groups.0 groups.1 (behind (is_mark Semicolon) groups.1)) (some_done ts)
-        (λ gs rest f s. record { item = (gs, false); fine = f false; starts = starts_on (spelled_end false) s }) (λ x t f h. end_done ts x.1 x.0 f t (behind (is_mark Semicolon) x.1) refl)
-    groups_done ts (Some rest) e = ((record { text = mark_behind RightParen ts rest e }, refl), tt)
+        done_bind some_shape groups_shape ts ts (some_groups item ts) (λ groups. groups_end groups.0 groups.1 (rest_after (is_mark Semicolon) groups.1)) (some_done ts)
+        (λ gs rest f s. record { item = (gs, false); fine = f false; starts = starts_on (spelled_end false) s }) (λ x t f h. end_done ts x.1 x.0 f t (rest_after (is_mark Semicolon) x.1) refl)
+    groups_done ts (Some rest) e = ((record { text = mark_after RightParen ts rest e }, refl), tt)
 
     list_done : (ts : List Token) → Done list_shape ts (groups_with n valued ts)
     list_done ts =
-        done_past list_shape LeftParen ts ts (λ inside. groups_in item inside (behind (is_mark RightParen) inside)) (begun_here list_shape ts ([], false) refl) (λ inside t.
-        done_more groups_shape list_shape ts inside (groups_in item inside (behind (is_mark RightParen) inside)) (groups_done inside (behind (is_mark RightParen) inside) refl)
+        done_past list_shape LeftParen ts ts (λ inside. groups_in item inside (rest_after (is_mark RightParen) inside)) (begun_here list_shape ts ([], false) refl) (λ inside t.
+        done_more groups_shape list_shape ts inside (groups_in item inside (rest_after (is_mark RightParen) inside)) (groups_done inside (rest_after (is_mark RightParen) inside) refl)
         (λ x rest f s. record { item = x; fine = f; starts = then_starts t s }) (λ x rest u f h. ((and_then t u, f), tt)))
 
   abbrev block_shape : Shape (List S.Stmt)

@@ -5,7 +5,7 @@ use Rattle.sl_lexer.specs.declared.token.TokenKind.{TokenKind}
 use Rattle.sl_lexer.specs.declared.token.TokenKind.TheVariants as kinds
 use Rattle.sl_lexer.specs.declared.token.Mark.{Mark}
 use Rattle.sl_lexer.specs.declared.token.Mark.TheVariants as marks
-use Rattle.sl_expression_grammar.specs.Reading.{Reads, ◌>>=◌, with_front, many_then, many, go_on, past, behind, same_mark}
+use Rattle.sl_expression_grammar.specs.Reading.{Reads, ◌>>=◌, with_front, many_then, many, go_on, past, rest_after, same_mark}
 use Rattle.sl_parser.specs.Spelled.{kinds_of}
 
 abbrev pub Got : {A : Type 0} → Reads A → (A → List Token → Type 0) → Type 0
@@ -62,9 +62,9 @@ abbrev pub Lacks : (TokenKind → Bool) → List TokenKind → Type 0
 Lacks p [] = Unit {0}
 Lacks p (k ∷ ks) = p k ≡ false
 
-pub not_behind : (p : TokenKind → Bool) (ts : List Token) → Lacks p (kinds_of ts) → behind p ts ≡ None
-not_behind p [] h = refl
-not_behind p (t ∷ ts) h = ap (λ b. cond b (Some ts) None) h
+pub not_after : (p : TokenKind → Bool) (ts : List Token) → Lacks p (kinds_of ts) → rest_after p ts ≡ None
+not_after p [] h = refl
+not_after p (t ∷ ts) h = ap (λ b. cond b (Some ts) None) h
 
 -- one item more, and none
 pub many_more : {A : Type 0} (step : List Token → Option (Reads A)) (turns : ℕ) (ts : List Token) (r : Reads A) → step ts ≡ Some r

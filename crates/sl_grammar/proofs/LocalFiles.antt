@@ -10,7 +10,7 @@ use Rattle.sl_lexer.specs.declared.token.TokenKind.{TokenKind}
 use Rattle.sl_lexer.specs.declared.token.TokenKind.TheVariants as kinds
 use Rattle.sl_lexer.specs.declared.token.Mark.TheVariants.{LeftParen, RightParen, LeftBrace, Semicolon}
 use Rattle.sl_expression_grammar.specs.declared.fault.SlCode.{SlCode}
-use Rattle.sl_expression_grammar.specs.Reading.{Reads, ◌>>=◌, with_front, many_then, many, go_on, is_bad, code_for, unexpected, past, behind, is_mark}
+use Rattle.sl_expression_grammar.specs.Reading.{Reads, ◌>>=◌, with_front, many_then, many, go_on, is_bad, code_for, unexpected, past, rest_after, is_mark}
 use Rattle.sl_expression_grammar.specs.Expressions.{expr_at}
 use Rattle.sl_parser.specs.declared.declarations.Valued.{Valued}
 use Rattle.sl_parser.specs.declared.declarations.Valued.TheVariants.{Always, Never}
@@ -21,8 +21,8 @@ use Rattle.sl_parser.proofs.Good.{Good}
 use Rattle.sl_parser.proofs.ExprTexts.{Spells}
 use Rattle.sl_parser.proofs.Fronts.{mapped, passed}
 use Rattle.sl_parser.proofs.FileTexts.{goes_on_is, stmt_read}
-use Rattle.sl_grammar.proofs.Agreeing.{left_of, Agree, Fine, FineBehind, behind_fine, fine_head, fine_ok, fault_behind, fine_unexpected, fine_deep, fine_bind, fine_past, fine_same, fine_each, last_turn, enough_turns}
-use Rattle.sl_grammar.proofs.Looking.{only, paired, placed_at, behind_looks, type_looks, sort_looks, behind_same, with_token, fine_look, fine_step, strict_step}
+use Rattle.sl_grammar.proofs.Agreeing.{left_of, Agree, Fine, FineAfter, rest_after_fine, fine_head, fine_ok, fault_after, fine_unexpected, fine_deep, fine_bind, fine_past, fine_same, fine_each, last_turn, enough_turns}
+use Rattle.sl_grammar.proofs.Looking.{only, paired, placed_at, after_looks, type_looks, sort_looks, after_same, with_token, fine_look, fine_step, strict_step}
 use Rattle.sl_grammar.proofs.LocalExprs.{expr_fine}
 use Rattle.sl_grammar.proofs.LocalStmts.{fine_named, group_fine, block_fine, opened_fine}
 
@@ -66,7 +66,7 @@ stmt_fine (suc n) = opened_fine (expr_at n) (expr_fine n) (stmt_at n) (stmt_fine
 -- groups, with what ends them
 module _ (group : List Token → Reads S.Group) (fine : Fine group) where
   abbrev end : List S.Group × List Token → Reads Groups
-  end gs = groups_end gs.0 gs.1 (behind (is_mark Semicolon) gs.1)
+  end gs = groups_end gs.0 gs.1 (rest_after (is_mark Semicolon) gs.1)
 
   abbrev in_front : S.Group → Groups × List Token → Reads Groups
   in_front g x = Ok ((g ∷ x.0.0, x.0.1), x.1)
@@ -77,11 +77,11 @@ module _ (group : List Token → Reads S.Group) (fine : Fine group) where
   closed_front g gs b ts (Some rest) = refl
 
   end_front : (g : S.Group) (gs : List S.Group) (ts : List Token) (o : Option (List Token)) → groups_end (g ∷ gs) ts o ≡ (groups_end gs ts o >>= in_front g)
-  end_front g gs ts None = closed_front g gs false ts (behind (is_mark RightParen) ts)
-  end_front g gs ts (Some after) = closed_front g gs true after (behind (is_mark RightParen) after)
+  end_front g gs ts None = closed_front g gs false ts (rest_after (is_mark RightParen) ts)
+  end_front g gs ts (Some after) = closed_front g gs true after (rest_after (is_mark RightParen) after)
 
   with_end : (g : S.Group) (r : Reads (List S.Group)) → (with_front (g ∷ []) r >>= end) ≡ ((r >>= end) >>= in_front g)
-  with_end g (Ok x) = end_front g x.0 x.1 (behind (is_mark Semicolon) x.1)
+  with_end g (Ok x) = end_front g x.0 x.1 (rest_after (is_mark Semicolon) x.1)
   with_end g (Err e) = refl
 
   abbrev rest_of : ℕ → List Token → Reads Groups
@@ -94,19 +94,19 @@ module _ (group : List Token → Reads S.Group) (fine : Fine group) where
   bound n (Ok x) = with_end x.0 (many (next_group group) n x.1)
   bound n (Err e) = refl
 
-  -- behind a semicolon: the closing parenthesis, or a further group
+  -- after a semicolon: the closing parenthesis, or a further group
   abbrev after_mark : ℕ → List Token → Option (List Token) → Reads Groups
   after_mark n ts (Some rest) = Ok (([], true), rest)
   after_mark n ts None = more_of (rest_of n) ts
 
-  opened : (n : ℕ) (t : Token) (ts : List Token) (mark : behind (is_mark Semicolon) (t ∷ ts) ≡ Some ts) (o : Option (List Token)) → behind (is_mark RightParen) ts ≡ o
+  opened : (n : ℕ) (t : Token) (ts : List Token) (mark : rest_after (is_mark Semicolon) (t ∷ ts) ≡ Some ts) (o : Option (List Token)) → rest_after (is_mark RightParen) ts ≡ o
       → (many_then (many (next_group group) n) (t ∷ ts) (option_map group (unless_closed (Some ts) o)) >>= end) ≡ after_mark n ts o
   opened n t ts mark None e = bound n (group ts)
   opened n t ts mark (Some rest) e = ap (groups_end [] (t ∷ ts)) mark ∙ ap (go_on ts (λ rest. Ok (([], true), rest))) e
 
-  after_fine : (n : ℕ) → Fine (rest_of n) → Fine (λ ts. after_mark n ts (behind (is_mark RightParen) ts))
+  after_fine : (n : ℕ) → Fine (rest_of n) → Fine (λ ts. after_mark n ts (rest_after (is_mark RightParen) ts))
   after_fine n ih =
-      fine_look only (behind (is_mark RightParen)) refl (behind_looks (is_mark RightParen)) (after_mark n) (more_of (rest_of n)) (λ y ts. Ok (([], true), ts)) (λ ts. refl) (λ ts rest y. refl)
+      fine_look only (rest_after (is_mark RightParen)) refl (after_looks (is_mark RightParen)) (after_mark n) (more_of (rest_of n)) (λ y ts. Ok (([], true), ts)) (λ ts. refl) (λ ts rest y. refl)
       (fine_bind (λ g. rest_of n g.1 >>= in_front g.0) (λ g. fine_bind (in_front g) (λ gs. fine_ok (g ∷ gs.0, gs.1)) (rest_of n) ih) group fine) (λ y. fine_ok ([], true))
 
   abbrev closing : List Token → Reads Groups
@@ -115,25 +115,25 @@ module _ (group : List Token → Reads S.Group) (fine : Fine group) where
   closing_fine : Fine closing
   closing_fine = fine_past RightParen (λ rest. Ok (([], false), rest)) (fine_ok ([], false))
 
-  end_fine : Fine (λ ts. groups_end [] ts (behind (is_mark Semicolon) ts))
+  end_fine : Fine (λ ts. groups_end [] ts (rest_after (is_mark Semicolon) ts))
   end_fine =
-      fine_look only (behind (is_mark Semicolon)) refl (behind_looks (is_mark Semicolon)) (groups_end []) closing (λ y ts. past RightParen ts λ rest. Ok (([], true), rest)) (λ ts. refl) (λ ts rest y. refl)
+      fine_look only (rest_after (is_mark Semicolon)) refl (after_looks (is_mark Semicolon)) (groups_end []) closing (λ y ts. past RightParen ts λ rest. Ok (([], true), rest)) (λ ts. refl) (λ ts rest y. refl)
       closing_fine (λ y. fine_past RightParen (λ rest. Ok (([], true), rest)) (fine_ok ([], true)))
 
   abbrev turned : ℕ → Token → List Token → Option (List Token) → Reads Groups
   turned n t ts o = many_then (many (next_group group) n) (t ∷ ts) (option_map group (goes_on o)) >>= end
 
-  by_mark : (n : ℕ) → Fine (rest_of n) → (b : Bool) (t : Token) → is_mark Semicolon t.kind ≡ b → FineBehind (λ ts. rest_of (suc n) (t ∷ ts))
+  by_mark : (n : ℕ) → Fine (rest_of n) → (b : Bool) (t : Token) → is_mark Semicolon t.kind ≡ b → FineAfter (λ ts. rest_of (suc n) (t ∷ ts))
   by_mark n ih true t e =
-      behind_same (λ ts. after_mark n ts (behind (is_mark RightParen) ts)) (λ ts. rest_of (suc n) (t ∷ ts))
+      after_same (λ ts. after_mark n ts (rest_after (is_mark RightParen) ts)) (λ ts. rest_of (suc n) (t ∷ ts))
       (λ ts.
-      let mark : behind (is_mark Semicolon) (t ∷ ts) ≡ Some ts = ap (λ b. cond b (Some ts) None) e in
-      sym (ap (turned n t ts) mark ∙ opened n t ts mark (behind (is_mark RightParen) ts) refl))
-      (behind_fine (λ ts. after_mark n ts (behind (is_mark RightParen) ts)) (after_fine n ih))
+      let mark : rest_after (is_mark Semicolon) (t ∷ ts) ≡ Some ts = ap (λ b. cond b (Some ts) None) e in
+      sym (ap (turned n t ts) mark ∙ opened n t ts mark (rest_after (is_mark RightParen) ts) refl))
+      (rest_after_fine (λ ts. after_mark n ts (rest_after (is_mark RightParen) ts)) (after_fine n ih))
   by_mark n ih false t e =
-      behind_same (λ ts. closing (t ∷ ts)) (λ ts. rest_of (suc n) (t ∷ ts))
+      after_same (λ ts. closing (t ∷ ts)) (λ ts. rest_of (suc n) (t ∷ ts))
       (λ ts.
-      let mark : behind (is_mark Semicolon) (t ∷ ts) ≡ None = ap (λ b. cond b (Some ts) None) e in
+      let mark : rest_after (is_mark Semicolon) (t ∷ ts) ≡ None = ap (λ b. cond b (Some ts) None) e in
       sym (ap (turned n t ts) mark ∙ ap (groups_end [] (t ∷ ts)) mark))
       (with_token closing closing_fine t)
 
@@ -141,14 +141,14 @@ module _ (group : List Token → Reads S.Group) (fine : Fine group) where
   rest_fine zero = end_fine
   rest_fine (suc n) = fine_head (rest_of (suc n)) (closing_fine.shorter []) (λ t. by_mark n (rest_fine n) (is_mark Semicolon t.kind) t refl)
 
-  behind_less : (p : TokenKind → Bool) (ts rest : List Token) → behind p ts ≡ Some rest → length rest < length ts
-  behind_less p [] rest e = absurd (cc e)
-  behind_less p (t ∷ ts) rest e = let same = (passed (p t.kind) ts rest e).1 in let len : length ts ≡ length rest = ap length same in omega (arith, len)
+  after_less : (p : TokenKind → Bool) (ts rest : List Token) → rest_after p ts ≡ Some rest → length rest < length ts
+  after_less p [] rest e = absurd (cc e)
+  after_less p (t ∷ ts) rest e = let same = (passed (p t.kind) ts rest e).1 in let len : length ts ≡ length rest = ap length same in omega (arith, len)
 
   group_strict : (ts : List Token) (x : S.Group) (rest : List Token) → next_group group ts ≡ Some (Ok (x, rest)) → length rest < length ts
   group_strict ts x rest e =
       let m = mapped group (semicolon_at ts) (Ok (x, rest)) e in
-      let less = behind_less (is_mark Semicolon) ts m.0 (goes_on_is (behind (is_mark Semicolon) ts) m.0 m.1.0) in
+      let less = after_less (is_mark Semicolon) ts m.0 (goes_on_is (rest_after (is_mark Semicolon) ts) m.0 m.1.0) in
       let low : length rest ≤ length m.0 = subst (λ r. left_of r ≤ length m.0) m.1.1 (fine.shorter m.0) in
       omega (arith, less, low)
 
@@ -164,15 +164,15 @@ module _ (group : List Token → Reads S.Group) (fine : Fine group) where
       fine_same (λ ts. group ts >>= λ g. rest_of (length g.1) g.1 >>= in_front g.0) (λ ts. some_groups group ts >>= end) (λ ts. sym (whole_is (group ts)))
       (fine_bind (λ g. rest_of (length g.1) g.1 >>= in_front g.0) (λ g. fine_bind (in_front g) (λ gs. fine_ok (g ∷ gs.0, gs.1)) (λ ts. rest_of (length ts) ts) all_fine) group fine)
 
-  pub groups_fine : Fine (λ ts. groups_in group ts (behind (is_mark RightParen) ts))
+  pub groups_fine : Fine (λ ts. groups_in group ts (rest_after (is_mark RightParen) ts))
   groups_fine =
-      fine_look only (behind (is_mark RightParen)) refl (behind_looks (is_mark RightParen)) (groups_in group) (λ ts. some_groups group ts >>= end) (λ y ts. Ok (([], false), ts)) (λ ts. refl) (λ ts rest y. refl)
+      fine_look only (rest_after (is_mark RightParen)) refl (after_looks (is_mark RightParen)) (groups_in group) (λ ts. some_groups group ts >>= end) (λ y ts. Ok (([], false), ts)) (λ ts. refl) (λ ts rest y. refl)
       some_fine (λ y. fine_ok ([], false))
 
 module _ (n : ℕ) where
   list_fine : (valued : Valued) → Fine (groups_with n valued)
   list_fine valued =
-      fine_past LeftParen (λ inside. groups_in (group_with (expr_at n) valued) inside (behind (is_mark RightParen) inside))
+      fine_past LeftParen (λ inside. groups_in (group_with (expr_at n) valued) inside (rest_after (is_mark RightParen) inside))
       (groups_fine (group_with (expr_at n) valued) (group_fine (expr_at n) (expr_fine n) valued))
 
   body_fine : Fine (body_at n)
@@ -219,7 +219,7 @@ module _ (n : ℕ) where
         (λ y. fine_named (shader_end y.0 y.1) (shader_end_fine y.0 y.1))
 
   ended_fine : (s : S.Shader) → Fine (λ ts. ended (s, ts))
-  ended_fine s = fine_head (λ ts. ended (s, ts)) (omega arith) (λ t. fault_behind (code_for (is_bad t.kind)) t)
+  ended_fine s = fine_head (λ ts. ended (s, ts)) (omega arith) (λ t. fault_after (code_for (is_bad t.kind)) t)
 
   pub file_fine : Fine (file_of n)
   file_fine =
@@ -251,7 +251,7 @@ module _ (t : Token) (w v : List Token) (code : SlCode) where
 one_token : (a : List Token) (t : Token) (ts : List Token) → (a ++ (t ∷ [])) ++ ts ≡ a ++ (t ∷ ts)
 one_token a t ts = append_assoc a (t ∷ []) ts
 
--- whatever stands behind the faulty token, the fault is the same
+-- whatever stands after the faulty token, the fault is the same
 pub fault_stays : (n : ℕ) (before : List Token) (t : Token) (w v : List Token) (code : SlCode)
     → file_of n (before ++ (t ∷ w)) ≡ Err (code, t ∷ w) → file_of n (before ++ (t ∷ v)) ≡ Err (code, t ∷ v)
 fault_stays n before t w v code e =

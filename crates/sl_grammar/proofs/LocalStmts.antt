@@ -1,4 +1,4 @@
--- Reading a statement or a file looks no further than the token behind it.
+-- Reading a statement or a file looks no further than the token after it.
 use Rattle.std.proofs.Common.{◌≡◌, ℕ, ◌+◌, ◌≤◌, ◌<◌, ◌∷◌, [], ◌++◌, List, Option, Some, None, Ok, Bool, true, false, cond, length, refl, subst, arith}
 use Rattle.sl_ast.specs.Syntax as S
 use Rattle.sl_ast.specs.declared.kinds.Class.{Class}
@@ -10,12 +10,12 @@ use Rattle.sl_lexer.specs.declared.token.TokenKind.TheVariants as kinds
 use Rattle.sl_lexer.specs.declared.token.Word.{Word}
 use Rattle.sl_lexer.specs.declared.token.Word.TheVariants as words
 use Rattle.sl_lexer.specs.declared.token.Mark.TheVariants.{LeftParen, RightParen, LeftBrace, RightBrace, Semicolon, Comma, Question, Colon}
-use Rattle.sl_expression_grammar.specs.Reading.{Reads, ◌>>=◌, many, commas, is_bad, code_for, unexpected, past, behind, is_mark}
+use Rattle.sl_expression_grammar.specs.Reading.{Reads, ◌>>=◌, many, commas, is_bad, code_for, unexpected, past, rest_after, is_mark}
 use Rattle.sl_parser.specs.declared.declarations.Valued.{Valued}
 use Rattle.sl_parser.specs.declared.declarations.Valued.TheVariants.{Always, Never, Freely}
-use Rattle.sl_parser.specs.Statements.{front_line, name_at, named_then, named, set_at, set_then, set_with, type_at, class_in, is_equals, value_behind, value_then, value_with, declared_with, group_then, group_behind, group_with, is_else, stmt_unless, next_stmt, block_in, test_with, else_then, if_with, while_with, set_or, is_name, set_maybe, For, for_head, for_with, pair_with, cone_then, cone_in, lights_head, lights_with, solar_head, solar_with, return_with, assign_with, declare_with, word_with, stmt_in, stmt_opened}
-use Rattle.sl_grammar.proofs.Agreeing.{left_of, StepAgree, Fine, FineBehind, FineStep, behind_fine, fine_head, fine_ok, fault_behind, fine_unexpected, fine_bind, fine_past, fine_turns}
-use Rattle.sl_grammar.proofs.Looking.{only, paired, placed_at, behind_looks, name_looks, set_looks, type_looks, with_token, fine_look, fine_commas}
+use Rattle.sl_parser.specs.Statements.{front_line, name_at, named_then, named, set_at, set_then, set_with, type_at, class_in, is_equals, value_after, value_then, value_with, declared_with, group_then, group_after, group_with, is_else, stmt_unless, next_stmt, block_in, test_with, else_then, if_with, while_with, set_or, is_name, set_maybe, For, for_head, for_with, pair_with, cone_then, cone_in, lights_head, lights_with, solar_head, solar_with, return_with, assign_with, declare_with, word_with, stmt_in, stmt_opened}
+use Rattle.sl_grammar.proofs.Agreeing.{left_of, StepAgree, Fine, FineAfter, FineStep, rest_after_fine, fine_head, fine_ok, fault_after, fine_unexpected, fine_bind, fine_past, fine_turns}
+use Rattle.sl_grammar.proofs.Looking.{only, paired, placed_at, after_looks, name_looks, set_looks, type_looks, with_token, fine_look, fine_commas}
 
 pub fine_named : {A : Type 0} (go : List ℕ → ℕ → List Token → Reads A) → ((name : List ℕ) (line : ℕ) → Fine (go name line)) → Fine (λ ts. named ts go)
 fine_named go fine =
@@ -38,14 +38,14 @@ module _ (expr : List Token → Reads S.Expr) (fine : Fine expr) where
       fine_named (λ name line rest. set_then expr name line (front_line rest) rest (set_at rest))
       (λ name line. fine_lined (λ set_line ts. set_then expr name line set_line ts (set_at ts)) (set_on name line))
 
-  given_fine : Fine (value_behind expr)
+  given_fine : Fine (value_after expr)
   given_fine = fine_bind (λ e. Ok (Some e.0, e.1)) (λ e. fine_ok (Some e)) expr fine
 
   value_fine : (valued : Valued) → Fine (value_with expr valued)
   value_fine Always =
-      fine_look only (behind is_equals) refl (behind_looks is_equals) (λ ts o. value_then expr Always ts o) (λ ts. unexpected ts) (λ y. value_behind expr) (λ ts. refl) (λ ts rest y. refl) fine_unexpected (λ y. given_fine)
+      fine_look only (rest_after is_equals) refl (after_looks is_equals) (λ ts o. value_then expr Always ts o) (λ ts. unexpected ts) (λ y. value_after expr) (λ ts. refl) (λ ts rest y. refl) fine_unexpected (λ y. given_fine)
   value_fine Freely =
-      fine_look only (behind is_equals) refl (behind_looks is_equals) (λ ts o. value_then expr Freely ts o) (λ ts. Ok (None, ts)) (λ y. value_behind expr) (λ ts. refl) (λ ts rest y. refl) (fine_ok None) (λ y. given_fine)
+      fine_look only (rest_after is_equals) refl (after_looks is_equals) (λ ts o. value_then expr Freely ts o) (λ ts. Ok (None, ts)) (λ y. value_after expr) (λ ts. refl) (λ ts rest y. refl) (fine_ok None) (λ y. given_fine)
   value_fine Never = fine_ok None
 
   declared_fine : (valued : Valued) → Fine (declared_with expr valued)
@@ -62,8 +62,8 @@ module _ (expr : List Token → Reads S.Expr) (fine : Fine expr) where
       (λ k. fine_bind (λ names. Ok (record { class = class; kind = k; names = names.0 }, names.1)) (λ ds. fine_ok (record { class = class; kind = k; names = ds }))
       (commas (declared_with expr valued)) (fine_commas (declared_with expr valued) (declared_fine valued)))
 
-  group_by : (valued : Valued) (k : TokenKind) (t : Token) → FineBehind (λ ts. group_behind expr valued (class_in k ts (t ∷ ts)))
-  group_by valued (kinds.Class class) t = behind_fine (λ ts. group_then expr valued (Some class) ts (type_at ts)) (group_on valued (Some class))
+  group_by : (valued : Valued) (k : TokenKind) (t : Token) → FineAfter (λ ts. group_after expr valued (class_in k ts (t ∷ ts)))
+  group_by valued (kinds.Class class) t = rest_after_fine (λ ts. group_then expr valued (Some class) ts (type_at ts)) (group_on valued (Some class))
   group_by valued (kinds.Number x) t = with_token (λ ts. group_then expr valued None ts (type_at ts)) (group_on valued None) t
   group_by valued (kinds.Str x) t = with_token (λ ts. group_then expr valued None ts (type_at ts)) (group_on valued None) t
   group_by valued (kinds.Name x) t = with_token (λ ts. group_then expr valued None ts (type_at ts)) (group_on valued None) t
@@ -84,7 +84,7 @@ module _ (expr : List Token → Reads S.Expr) (fine : Fine expr) where
       fine_past LeftParen (λ inside. expr inside >>= λ e. past RightParen e.1 λ rest. Ok (e.0, rest))
       (fine_bind (λ e. past RightParen e.1 λ rest. Ok (e.0, rest)) (λ e. fine_past RightParen (λ rest. Ok (e, rest)) (fine_ok e)) expr fine)
 
-  maybe_on : (b : Bool) (t : Token) → FineBehind (λ ts. set_or expr (t ∷ ts) b)
+  maybe_on : (b : Bool) (t : Token) → FineAfter (λ ts. set_or expr (t ∷ ts) b)
   maybe_on true t =
       with_token (λ ts. set_with expr ts >>= λ set. Ok (Some set.0, set.1)) (fine_bind (λ set. Ok (Some set.0, set.1)) (λ a. fine_ok (Some a)) (set_with expr) set_fine) t
   maybe_on false t = with_token (λ ts. Ok (None, ts)) (fine_ok None) t
@@ -126,7 +126,7 @@ module _ (expr : List Token → Reads S.Expr) (fine : Fine expr) where
 
   cone_fine : Fine (cone_in expr)
   cone_fine =
-      fine_look only (behind (is_mark Comma)) refl (behind_looks (is_mark Comma)) (λ ts o. cone_then expr ts o) (λ ts. past RightParen ts λ rest. Ok (None, rest))
+      fine_look only (rest_after (is_mark Comma)) refl (after_looks (is_mark Comma)) (λ ts o. cone_then expr ts o) (λ ts. past RightParen ts λ rest. Ok (None, rest))
       (λ y ts. pair_with expr ts >>= λ cone. Ok (Some cone.0, cone.1)) (λ ts. refl) (λ ts rest y. refl) (fine_past RightParen (λ rest. Ok (None, rest)) (fine_ok None))
       (λ y. fine_bind (λ cone. Ok (Some cone.0, cone.1)) (λ c. fine_ok (Some c)) (pair_with expr) pair_fine)
 
@@ -156,26 +156,26 @@ module _ (expr : List Token → Reads S.Expr) (fine : Fine expr) where
 
     next_fine : FineStep (next_stmt stmt)
     next_fine = record {
-      shorter = λ ts r e. unless_shorter ts (behind (is_mark RightBrace) ts) r e;
+      shorter = λ ts r e. unless_shorter ts (rest_after (is_mark RightBrace) ts) r e;
       agree = λ t a w v. unless_agree (is_mark RightBrace t.kind) t a w v;
     }
 
     pub block_fine : Fine (block_in stmt)
     block_fine =
         fine_bind (λ body. past RightBrace body.1 λ rest. Ok (body.0, rest)) (λ b. fine_past RightBrace (λ rest. Ok (b, rest)) (fine_ok b))
-        (λ ts. many (next_stmt stmt) (length ts + 1) ts) (fine_turns (next_stmt stmt) (λ ts x rest e. unless_strict ts (behind (is_mark RightBrace) ts) x rest e) next_fine)
+        (λ ts. many (next_stmt stmt) (length ts + 1) ts) (fine_turns (next_stmt stmt) (λ ts x rest e. unless_strict ts (rest_after (is_mark RightBrace) ts) x rest e) next_fine)
 
     module _ (line : ℕ) where
-      else_on : (test : S.Expr) (first : S.Stmt) → Fine (λ ts. else_then stmt test first line ts (behind is_else ts))
+      else_on : (test : S.Expr) (first : S.Stmt) → Fine (λ ts. else_then stmt test first line ts (rest_after is_else ts))
       else_on test first =
-          fine_look only (behind is_else) refl (behind_looks is_else) (λ ts o. else_then stmt test first line ts o) (λ ts. Ok (S.test test first line, ts))
+          fine_look only (rest_after is_else) refl (after_looks is_else) (λ ts o. else_then stmt test first line ts o) (λ ts. Ok (S.test test first line, ts))
           (λ y ts. stmt ts >>= λ second. Ok (S.test_else test first second.0 line, second.1)) (λ ts. refl) (λ ts rest y. refl) (fine_ok (S.test test first line))
           (λ y. fine_bind (λ second. Ok (S.test_else test first second.0 line, second.1)) (λ s. fine_ok (S.test_else test first s line)) stmt stmt_fine)
 
       if_fine : Fine (if_with stmt expr line)
       if_fine =
-          fine_bind (λ test. stmt test.1 >>= λ first. else_then stmt test.0 first.0 line first.1 (behind is_else first.1))
-          (λ test. fine_bind (λ first. else_then stmt test first.0 line first.1 (behind is_else first.1)) (λ first. else_on test first) stmt stmt_fine) (test_with expr) test_fine
+          fine_bind (λ test. stmt test.1 >>= λ first. else_then stmt test.0 first.0 line first.1 (rest_after is_else first.1))
+          (λ test. fine_bind (λ first. else_then stmt test first.0 line first.1 (rest_after is_else first.1)) (λ first. else_on test first) stmt stmt_fine) (test_with expr) test_fine
 
       while_fine : Fine (while_with stmt expr line)
       while_fine =
@@ -208,42 +208,42 @@ module _ (expr : List Token → Reads S.Expr) (fine : Fine expr) where
     assign_fine : Fine (assign_with expr)
     assign_fine = fine_bind (λ set. past Semicolon set.1 λ rest. Ok (S.assign set.0, rest)) (λ a. fine_past Semicolon (λ rest. Ok (S.assign a, rest)) (fine_ok (S.assign a))) (set_with expr) set_fine
 
-    word_by : (word : Word) (line : ℕ) (t : Token) → FineBehind (λ ts. word_with stmt expr word line ts (t ∷ ts))
-    word_by words.Break line t = behind_fine (λ ts. past Semicolon ts λ left. Ok (S.leave line, left)) (fine_past Semicolon (λ left. Ok (S.leave line, left)) (fine_ok (S.leave line)))
-    word_by words.Continue line t = behind_fine (λ ts. past Semicolon ts λ left. Ok (S.again line, left)) (fine_past Semicolon (λ left. Ok (S.again line, left)) (fine_ok (S.again line)))
-    word_by words.Return line t = behind_fine (return_with expr line) (return_fine line)
-    word_by words.If line t = behind_fine (if_with stmt expr line) (if_fine line)
-    word_by words.Else line t = fault_behind (code_for (is_bad t.kind)) t
-    word_by words.While line t = behind_fine (while_with stmt expr line) (while_fine line)
-    word_by words.For line t = behind_fine (for_with stmt expr line) (for_with_fine line)
-    word_by words.Illuminance line t = behind_fine (lights_with stmt expr light_words.Illuminance line) (lights_fine line light_words.Illuminance)
-    word_by words.Illuminate line t = behind_fine (lights_with stmt expr light_words.Illuminate line) (lights_fine line light_words.Illuminate)
-    word_by words.Solar line t = behind_fine (solar_with stmt expr line) (solar_fine line)
+    word_by : (word : Word) (line : ℕ) (t : Token) → FineAfter (λ ts. word_with stmt expr word line ts (t ∷ ts))
+    word_by words.Break line t = rest_after_fine (λ ts. past Semicolon ts λ left. Ok (S.leave line, left)) (fine_past Semicolon (λ left. Ok (S.leave line, left)) (fine_ok (S.leave line)))
+    word_by words.Continue line t = rest_after_fine (λ ts. past Semicolon ts λ left. Ok (S.again line, left)) (fine_past Semicolon (λ left. Ok (S.again line, left)) (fine_ok (S.again line)))
+    word_by words.Return line t = rest_after_fine (return_with expr line) (return_fine line)
+    word_by words.If line t = rest_after_fine (if_with stmt expr line) (if_fine line)
+    word_by words.Else line t = fault_after (code_for (is_bad t.kind)) t
+    word_by words.While line t = rest_after_fine (while_with stmt expr line) (while_fine line)
+    word_by words.For line t = rest_after_fine (for_with stmt expr line) (for_with_fine line)
+    word_by words.Illuminance line t = rest_after_fine (lights_with stmt expr light_words.Illuminance line) (lights_fine line light_words.Illuminance)
+    word_by words.Illuminate line t = rest_after_fine (lights_with stmt expr light_words.Illuminate line) (lights_fine line light_words.Illuminate)
+    word_by words.Solar line t = rest_after_fine (solar_with stmt expr line) (solar_fine line)
 
     abbrev blocked : ℕ → List Token → Reads S.Stmt
     blocked line ts = block_in stmt ts >>= λ body. Ok (S.block (S.stmts body.0) line, body.1)
 
-    stmt_by : (k : TokenKind) (line : ℕ) (t : Token) → FineBehind (λ ts. stmt_in stmt expr k line ts (t ∷ ts))
-    stmt_by (kinds.Mark Semicolon) line t = behind_fine (λ ts. Ok (S.empty line, ts)) (fine_ok (S.empty line))
+    stmt_by : (k : TokenKind) (line : ℕ) (t : Token) → FineAfter (λ ts. stmt_in stmt expr k line ts (t ∷ ts))
+    stmt_by (kinds.Mark Semicolon) line t = rest_after_fine (λ ts. Ok (S.empty line, ts)) (fine_ok (S.empty line))
     stmt_by (kinds.Mark LeftBrace) line t =
-        behind_fine (blocked line) (fine_bind (λ body. Ok (S.block (S.stmts body.0) line, body.1)) (λ b. fine_ok (S.block (S.stmts b) line)) (block_in stmt) block_fine)
+        rest_after_fine (blocked line) (fine_bind (λ body. Ok (S.block (S.stmts body.0) line, body.1)) (λ b. fine_ok (S.block (S.stmts b) line)) (block_in stmt) block_fine)
     stmt_by (kinds.Name name) line t = with_token (assign_with expr) assign_fine t
     stmt_by (kinds.Class class) line t = with_token (declare_with expr line) (declare_fine line) t
     stmt_by (kinds.Type kind) line t = with_token (declare_with expr line) (declare_fine line) t
     stmt_by (kinds.Word word) line t = word_by word line t
-    stmt_by (kinds.Mark LeftParen) line t = fault_behind (code_for (is_bad t.kind)) t
-    stmt_by (kinds.Mark RightParen) line t = fault_behind (code_for (is_bad t.kind)) t
-    stmt_by (kinds.Mark RightBrace) line t = fault_behind (code_for (is_bad t.kind)) t
-    stmt_by (kinds.Mark Comma) line t = fault_behind (code_for (is_bad t.kind)) t
-    stmt_by (kinds.Mark Question) line t = fault_behind (code_for (is_bad t.kind)) t
-    stmt_by (kinds.Mark Colon) line t = fault_behind (code_for (is_bad t.kind)) t
-    stmt_by (kinds.Number x) line t = fault_behind (code_for (is_bad t.kind)) t
-    stmt_by (kinds.Str x) line t = fault_behind (code_for (is_bad t.kind)) t
-    stmt_by (kinds.Kind x) line t = fault_behind (code_for (is_bad t.kind)) t
-    stmt_by (kinds.Operator x) line t = fault_behind (code_for (is_bad t.kind)) t
-    stmt_by kinds.Not line t = fault_behind (code_for (is_bad t.kind)) t
-    stmt_by (kinds.Set x) line t = fault_behind (code_for (is_bad t.kind)) t
-    stmt_by kinds.Bad line t = fault_behind (code_for (is_bad t.kind)) t
+    stmt_by (kinds.Mark LeftParen) line t = fault_after (code_for (is_bad t.kind)) t
+    stmt_by (kinds.Mark RightParen) line t = fault_after (code_for (is_bad t.kind)) t
+    stmt_by (kinds.Mark RightBrace) line t = fault_after (code_for (is_bad t.kind)) t
+    stmt_by (kinds.Mark Comma) line t = fault_after (code_for (is_bad t.kind)) t
+    stmt_by (kinds.Mark Question) line t = fault_after (code_for (is_bad t.kind)) t
+    stmt_by (kinds.Mark Colon) line t = fault_after (code_for (is_bad t.kind)) t
+    stmt_by (kinds.Number x) line t = fault_after (code_for (is_bad t.kind)) t
+    stmt_by (kinds.Str x) line t = fault_after (code_for (is_bad t.kind)) t
+    stmt_by (kinds.Kind x) line t = fault_after (code_for (is_bad t.kind)) t
+    stmt_by (kinds.Operator x) line t = fault_after (code_for (is_bad t.kind)) t
+    stmt_by kinds.Not line t = fault_after (code_for (is_bad t.kind)) t
+    stmt_by (kinds.Set x) line t = fault_after (code_for (is_bad t.kind)) t
+    stmt_by kinds.Bad line t = fault_after (code_for (is_bad t.kind)) t
 
     pub opened_fine : Fine (stmt_opened stmt expr)
     opened_fine = fine_head (stmt_opened stmt expr) (omega arith) (λ t. stmt_by t.kind t.line t)

@@ -8,7 +8,7 @@ use Rattle.sl_lexer.specs.declared.token.Token.{Token}
 use Rattle.sl_lexer.specs.declared.token.TokenKind.{TokenKind}
 use Rattle.sl_lexer.specs.declared.token.TokenKind.TheVariants as kinds
 use Rattle.sl_lexer.specs.declared.token.Mark.TheVariants as marks
-use Rattle.sl_expression_grammar.specs.Reading.{Reads, ◌>>=◌, is_mark, line_behind}
+use Rattle.sl_expression_grammar.specs.Reading.{Reads, ◌>>=◌, is_mark, line_and_rest}
 use Rattle.sl_expression_grammar.specs.Expressions.{same_row, row_of, operator_in, link, next_link, most_links, chain_of, links_in, chain, choice_then, expr_at, unary_at, prim_at}
 use Rattle.sl_expression_grammar.specs.Rows.{rows_from}
 use Rattle.sl_parser.specs.Spelled.{kinds_of}
@@ -30,7 +30,7 @@ looser expr (suc (suc (suc (suc zero)))) tighter = chain Relation tighter
 looser expr (suc (suc (suc (suc (suc zero))))) tighter = chain Equality tighter
 looser expr (suc (suc (suc (suc (suc (suc zero)))))) tighter = chain And tighter
 looser expr (suc (suc (suc (suc (suc (suc (suc zero))))))) tighter = chain Or tighter
-looser expr (suc (suc (suc (suc (suc (suc (suc (suc k)))))))) tighter = λ ts. tighter ts >>= λ test. choice_then expr test.0 test.1 (line_behind marks.Question test.1)
+looser expr (suc (suc (suc (suc (suc (suc (suc (suc k)))))))) tighter = λ ts. tighter ts >>= λ test. choice_then expr test.0 test.1 (line_and_rest marks.Question test.1)
 
 -- where so many levels are left: what reads expressions of at most that looseness, from the prefix operators on
 abbrev pub from_unary : ℕ → ℕ → List Token → Reads S.Expr
@@ -82,13 +82,13 @@ module _ (e : S.Expr) (ks : List TokenKind) (levels : ℕ) (ts : List Token) whe
   no_question (kinds.Mark marks.Question) h = absurd (omega (arith, h))
   no_question _ h = refl
 
-  no_choice : (us : List Token) → Ends 10 (kinds_of us) → line_behind marks.Question us ≡ None
+  no_choice : (us : List Token) → Ends 10 (kinds_of us) → line_and_rest marks.Question us ≡ None
   no_choice [] h = refl
   no_choice (t ∷ us) h = ap (λ b. cond b (Some (t.line, us)) None) (no_question t.kind h)
 
-  unchosen : (expr tighter : List Token → Reads S.Expr) → Ends 10 ks → Got (tighter ts) (Same e ks) → Got (tighter ts >>= λ test. choice_then expr test.0 test.1 (line_behind marks.Question test.1)) (Same e ks)
+  unchosen : (expr tighter : List Token → Reads S.Expr) → Ends 10 ks → Got (tighter ts) (Same e ks) → Got (tighter ts >>= λ test. choice_then expr test.0 test.1 (line_and_rest marks.Question test.1)) (Same e ks)
   unchosen expr tighter h g =
-      got_bind (tighter ts) (λ test. choice_then expr test.0 test.1 (line_behind marks.Question test.1)) (Same e ks) (Same e ks) g (λ x p.
+      got_bind (tighter ts) (λ test. choice_then expr test.0 test.1 (line_and_rest marks.Question test.1)) (Same e ks) (Same e ks) g (λ x p.
       subst (λ o. Got (choice_then expr x.0 x.1 o) (Same e ks)) (sym (no_choice x.1 (subst (Ends 10) (sym p.1) h))) p)
 
   rise : (k : ℕ) → k ≤ 8 → (expr tighter : List Token → Reads S.Expr) → Ends (2 + k) ks → Got (tighter ts) (Same e ks) → Got (looser expr k tighter ts) (Same e ks)

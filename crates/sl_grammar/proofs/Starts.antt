@@ -6,12 +6,12 @@ use Rattle.sl_lexer.specs.declared.token.TokenKind.TheVariants as kinds
 use Rattle.sl_lexer.specs.declared.token.Mark.{Mark}
 use Rattle.sl_expression_grammar.specs.declared.fault.SlCode.{SlCode}
 use Rattle.sl_expression_grammar.specs.declared.fault.SlCode.TheVariants.{P3}
-use Rattle.sl_expression_grammar.specs.Reading.{Reads, ◌>>=◌, with_front, many_then, many, go_on, past, behind, is_mark, is_bad, code_for, head_is, too_deep}
+use Rattle.sl_expression_grammar.specs.Reading.{Reads, ◌>>=◌, with_front, many_then, many, go_on, past, rest_after, is_mark, is_bad, code_for, head_is, too_deep}
 use Rattle.sl_parser.specs.Spelled.{kinds_of}
-use Rattle.sl_parser.proofs.Fronts.{mark_behind}
+use Rattle.sl_parser.proofs.Fronts.{mark_after}
 use Rattle.sl_parser.proofs.Good.{Takes, and_then}
 
--- how such items are spelled, which are of the grammar, and what is known of the tokens behind
+-- how such items are spelled, which are of the grammar, and what is known of the tokens after
 pub record Shape (A : Type 0) : Type 1 where
   pub spell : A → List TokenKind
   pub fine : A → Type 0
@@ -64,14 +64,14 @@ pub done_bind : {A B : Type 0} (a : Shape A) (b : Shape B) (before ts : List Tok
 done_bind a b before ts (Ok x) f d bad next = next x d.0.0 d.0.1 d.1
 done_bind a b before ts (Err e) f d bad next = bad d.item e.1 d.fine d.starts
 
-past_on : {B : Type 0} (b : Shape B) (mark : Mark) (before ts : List Token) (go : List Token → Reads B) (o : Option (List Token)) → behind (is_mark mark) ts ≡ o → Begun b before ts
+past_on : {B : Type 0} (b : Shape B) (mark : Mark) (before ts : List Token) (go : List Token → Reads B) (o : Option (List Token)) → rest_after (is_mark mark) ts ≡ o → Begun b before ts
     → ((rest : List Token) → Takes ts (kinds.Mark mark ∷ []) rest → Done b before (go rest)) → Done b before (go_on ts go o)
 past_on b mark before ts go None e bad next = bad
-past_on b mark before ts go (Some rest) e bad next = next rest (record { text = mark_behind mark ts rest e })
+past_on b mark before ts go (Some rest) e bad next = next rest (record { text = mark_after mark ts rest e })
 
 pub done_past : {B : Type 0} (b : Shape B) (mark : Mark) (before ts : List Token) (go : List Token → Reads B) → Begun b before ts
     → ((rest : List Token) → Takes ts (kinds.Mark mark ∷ []) rest → Done b before (go rest)) → Done b before (past mark ts go)
-done_past b mark before ts go bad next = past_on b mark before ts go (behind (is_mark mark) ts) refl bad next
+done_past b mark before ts go bad next = past_on b mark before ts go (rest_after (is_mark mark) ts) refl bad next
 
 done_cond : {A : Type 0} (shape : Shape A) (ts : List Token) (b : Bool) (c d : SlCode) → Begun shape ts ts → Done shape ts (cond b (Err (c, ts)) (Err (d, ts)))
 done_cond shape ts true c d bad = bad
@@ -93,7 +93,7 @@ pub done_front : {A : Type 0} (a b : Shape (List A)) (before ts : List Token) (x
 done_front a b before ts x (Ok y) d bad next = next y.0 y.1 d.0.0 d.0.1
 done_front a b before ts x (Err e) d bad next = bad d.item e.1 d.fine d.starts
 
--- items, of which each is spelled behind the one before; `fine` may count them
+-- items, of which each is spelled after the one before; `fine` may count them
 module _ {A : Type 0} (item : Shape A) (spell : List A → List TokenKind) (fine : ℕ → List A → Type 0)
     (spell_nil : spell [] ≡ []) (spell_cons : (x : A) (xs : List A) → spell (x ∷ xs) ≡ item.spell x ++ spell xs)
     (nil : (k : ℕ) → fine k []) (cons : (k : ℕ) (x : A) (xs : List A) → item.fine x → fine k xs → fine (suc k) (x ∷ xs))

@@ -17,7 +17,7 @@ use Rattle.sl_parser.specs.Statements.{front_line, set_at, set_then, set_with, t
 use Rattle.sl_parser.specs.Spelled.{kinds_of, spelled, spelled_set, spelled_maybe, spelled_value, spelled_declared, spelled_further, spelled_names, spelled_class, spelled_group, spelled_pair, spelled_cone, spelled_test, spelled_for}
 use Rattle.sl_grammar.specs.Bare.{bare, bare_set, bare_declared, bare_pair, bare_group}
 use Rattle.sl_grammar.specs.Grammatical.{Grammatical, Ends, GrammaticalValue, GrammaticalValues, GrammaticalNames, GrammaticalSet, GrammaticalCone}
-use Rattle.sl_grammar.proofs.Got.{Got, got_bind, got_front, got_more, got_past, at_front, token, Lacks, not_behind, many_more, many_none}
+use Rattle.sl_grammar.proofs.Got.{Got, got_bind, got_front, got_more, got_past, at_front, token, Lacks, not_after, many_more, many_none}
 use Rattle.sl_grammar.proofs.ExprReads.{whole_read, kinds_length}
 use Rattle.sl_grammar.proofs.Rises.{Same}
 
@@ -25,7 +25,7 @@ use Rattle.sl_grammar.proofs.Rises.{Same}
 abbrev pub Seen : {A : Type 0} → (A → A) → A → List TokenKind → A → List Token → Type 0
 Seen view a ks x rest = (view x ≡ view a) × (kinds_of rest ≡ ks)
 
--- what stands behind the value of a declaration, and behind the last name
+-- what stands after the value of a declaration, and after the last name
 abbrev pub Closes : List TokenKind → Type 0
 Closes ks = Ends 10 ks × Lacks is_equals ks
 
@@ -48,9 +48,9 @@ module _ (levels : ℕ) where
       → Got (value_with (expr_at levels) valued ts) (Seen (option_map bare) None ks)
   value_none Always g ts ks h t = absurd g
   value_none Never g ts ks h t =
-      subst (λ o. Got (value_then (expr_at levels) Never ts o) (Seen (option_map bare) None ks)) (sym (not_behind is_equals ts (subst (Lacks is_equals) (sym t) h))) (refl, t)
+      subst (λ o. Got (value_then (expr_at levels) Never ts o) (Seen (option_map bare) None ks)) (sym (not_after is_equals ts (subst (Lacks is_equals) (sym t) h))) (refl, t)
   value_none Freely g ts ks h t =
-      subst (λ o. Got (value_then (expr_at levels) Freely ts o) (Seen (option_map bare) None ks)) (sym (not_behind is_equals ts (subst (Lacks is_equals) (sym t) h))) (refl, t)
+      subst (λ o. Got (value_then (expr_at levels) Freely ts o) (Seen (option_map bare) None ks)) (sym (not_after is_equals ts (subst (Lacks is_equals) (sym t) h))) (refl, t)
 
   value_given : (e : S.Expr) → Grammatical e → levels_of e ≤ levels → (ts : List Token) (ks : List TokenKind) → Ends 10 ks → kinds_of ts ≡ spelled e ++ ks
       → Got (expr_at levels ts >>= λ e. Ok (Some e.0, e.1)) (Seen (option_map bare) (Some e) ks)
@@ -77,7 +77,7 @@ module _ (levels : ℕ) where
       got_bind (value_with (expr_at levels) valued rest) (λ value. Ok (record { name = d.name; value = value.0; line = at; set_line = front_line rest }, value.1)) (Seen (option_map bare) d.value ks) (Seen bare_declared d ks)
       (value_read valued d.value g w ks h rest r) (λ x p. (ap (λ y. record { name = d.name; value = y; line = 0; set_line = 0 }) p.0, p.1)))
 
-  -- what stands behind the last name
+  -- what stands after the last name
   abbrev pub ClosesNames : List TokenKind → Type 0
   ClosesNames ks = Closes ks × Lacks (is_mark Comma) ks
 
@@ -97,7 +97,7 @@ module _ (levels : ℕ) where
       → length ds ≤ turns → kinds_of ts ≡ spelled_further ds ++ ks → Got (many (after_comma (declared_with (expr_at levels) valued)) turns ts) (Seen (map bare_declared) ds ks)
   further_read valued [] g w ks h turns ts l t =
       let item = declared_with (expr_at levels) valued in
-      many_none (after_comma item) turns ts (ap (option_map item) (not_behind (is_mark Comma) ts (subst (Lacks (is_mark Comma)) (sym t) h.1))) (Seen (map bare_declared) [] ks) (refl, t)
+      many_none (after_comma item) turns ts (ap (option_map item) (not_after (is_mark Comma) ts (subst (Lacks (is_mark Comma)) (sym t) h.1))) (Seen (map bare_declared) [] ks) (refl, t)
   further_read valued (d ∷ ds) g w ks h zero ts l t = absurd (omega (arith, l))
   further_read valued (d ∷ ds) g w ks h (suc turns) ts l t =
       let item = declared_with (expr_at levels) valued in
@@ -181,11 +181,11 @@ module _ (levels : ℕ) where
       got_past LeftParen ts ((spelled_maybe a ++ second) ++ ks) _ Q t (λ inside i.
       got_bind (set_maybe expr inside) _ (Seen (option_map bare_set) a (second ++ ks)) Q
       (maybe_read a ga wa (second ++ ks) (omega arith) refl inside (i ∙ append_assoc (spelled_maybe a) second ks)) (λ x p.
-      got_past Semicolon x.1 ((spelled e ++ third) ++ ks) _ Q p.1 (λ behind_first u.
-      got_bind (expr behind_first) _ (Same e (third ++ ks)) Q (whole_read e ge levels we (third ++ ks) (omega arith) behind_first (u ∙ append_assoc (spelled e) third ks)) (λ y q.
-      got_past Semicolon y.1 ((spelled_maybe b ++ close) ++ ks) _ Q q.1 (λ behind_test v.
-      got_bind (set_maybe expr behind_test) _ (Seen (option_map bare_set) b (close ++ ks)) Q
-      (maybe_read b gb wb (close ++ ks) (omega arith) refl behind_test (v ∙ append_assoc (spelled_maybe b) close ks)) (λ z o.
+      got_past Semicolon x.1 ((spelled e ++ third) ++ ks) _ Q p.1 (λ after_first u.
+      got_bind (expr after_first) _ (Same e (third ++ ks)) Q (whole_read e ge levels we (third ++ ks) (omega arith) after_first (u ∙ append_assoc (spelled e) third ks)) (λ y q.
+      got_past Semicolon y.1 ((spelled_maybe b ++ close) ++ ks) _ Q q.1 (λ after_test v.
+      got_bind (set_maybe expr after_test) _ (Seen (option_map bare_set) b (close ++ ks)) Q
+      (maybe_read b gb wb (close ++ ks) (omega arith) refl after_test (v ∙ append_assoc (spelled_maybe b) close ks)) (λ z o.
       got_past RightParen z.1 ks (λ rest. Ok ((x.0, y.0, z.0), rest)) Q o.1 (λ rest r. ((p.0, (q.0, o.0)), r))))))))
 
   pub pair_read : (c : S.Expr × S.Expr) → Grammatical c.0 → Grammatical c.1 → levels_of c.0 ≤ levels → levels_of c.1 ≤ levels → (ks : List TokenKind) (ts : List Token)
@@ -195,9 +195,9 @@ module _ (levels : ℕ) where
       let second = kinds.Mark Comma ∷ (spelled c.1 ++ close) in
       let Q = Seen bare_pair c ks in
       let expr = expr_at levels in
-      got_bind (expr ts) (λ a. past Comma a.1 λ behind_a. expr behind_a >>= λ b. past RightParen b.1 λ rest. Ok ((a.0, b.0), rest)) (Same c.0 (second ++ ks)) Q
+      got_bind (expr ts) (λ a. past Comma a.1 λ after_a. expr after_a >>= λ b. past RightParen b.1 λ rest. Ok ((a.0, b.0), rest)) (Same c.0 (second ++ ks)) Q
       (whole_read c.0 f levels v (second ++ ks) (omega arith) ts (t ∙ append_assoc (spelled c.0) second ks)) (λ x p.
-      got_past Comma x.1 ((spelled c.1 ++ close) ++ ks) (λ behind_a. expr behind_a >>= λ b. past RightParen b.1 λ rest. Ok ((x.0, b.0), rest)) Q p.1 (λ us u.
+      got_past Comma x.1 ((spelled c.1 ++ close) ++ ks) (λ after_a. expr after_a >>= λ b. past RightParen b.1 λ rest. Ok ((x.0, b.0), rest)) Q p.1 (λ us u.
       got_bind (expr us) (λ b. past RightParen b.1 λ rest. Ok ((x.0, b.0), rest)) (Same c.1 (close ++ ks)) Q
       (whole_read c.1 g levels w (close ++ ks) (omega arith) us (u ∙ append_assoc (spelled c.1) close ks)) (λ y q.
       got_past RightParen y.1 ks (λ rest. Ok ((x.0, y.0), rest)) Q q.1 (λ rest r. (ap (λ z. (z, bare y.0)) p.0 ∙ ap (λ z. (bare c.0, z)) q.0, r)))))

@@ -1,4 +1,4 @@
--- What is read as a statement is one of the grammar, and no `else` that it would take stands behind it; and where a fault
+-- What is read as a statement is one of the grammar, and no `else` that it would take stands after it; and where a fault
 -- stands, the tokens before it begin one.
 use Rattle.std.proofs.Common.{◌≡◌, ℕ, zero, suc, ◌+◌, ◌∷◌, [], ◌++◌, List, Option, Some, None, Ok, Bool, true, false, length, refl, sym, subst, arith}
 use Rattle.sl_ast.specs.Syntax as S
@@ -15,14 +15,14 @@ use Rattle.sl_lexer.specs.declared.token.TokenKind.TheVariants as kinds
 use Rattle.sl_lexer.specs.declared.token.Word.{Word}
 use Rattle.sl_lexer.specs.declared.token.Word.TheVariants as words
 use Rattle.sl_lexer.specs.declared.token.Mark.TheVariants.{LeftParen, RightParen, LeftBrace, RightBrace, Semicolon, Comma}
-use Rattle.sl_expression_grammar.specs.Reading.{Reads, ◌>>=◌, with_front, many, after_comma, commas, past, behind, is_mark, head_is}
+use Rattle.sl_expression_grammar.specs.Reading.{Reads, ◌>>=◌, with_front, many, after_comma, commas, past, rest_after, is_mark, head_is}
 use Rattle.sl_expression_grammar.specs.Expressions.{expr_at}
 use Rattle.sl_parser.specs.declared.declarations.Valued.{Valued}
 use Rattle.sl_parser.specs.declared.declarations.Valued.TheVariants.{Always, Never, Freely}
-use Rattle.sl_parser.specs.Statements.{front_line, name_at, named_then, named, set_at, set_then, set_with, type_at, class_at, is_equals, value_behind, value_then, value_with, declared_with, group_then, group_with, begins_stmt, is_else, stmt_unless, next_stmt, block_in, test_with, else_then, if_with, while_with, set_or, is_name, set_maybe, For, for_head, for_with, pair_with, cone_then, cone_in, lights_head, lights_with, solar_head, solar_with, return_with, assign_with, declare_with, word_with, stmt_in, stmt_opened, stmt_at}
+use Rattle.sl_parser.specs.Statements.{front_line, name_at, named_then, named, set_at, set_then, set_with, type_at, class_at, is_equals, value_after, value_then, value_with, declared_with, group_then, group_with, begins_stmt, is_else, stmt_unless, next_stmt, block_in, test_with, else_then, if_with, while_with, set_or, is_name, set_maybe, For, for_head, for_with, pair_with, cone_then, cone_in, lights_head, lights_with, solar_head, solar_with, return_with, assign_with, declare_with, word_with, stmt_in, stmt_opened, stmt_at}
 use Rattle.sl_grammar.specs.Grammatical.{Grammatical, GrammaticalValue, GrammaticalValues, GrammaticalNames, GrammaticalSet, GrammaticalCone, takes_else, GrammaticalStmt, GrammaticalStmts}
 use Rattle.sl_parser.specs.Spelled.{spelled, spelled_set, spelled_maybe, spelled_value, spelled_declared, spelled_further, spelled_names, spelled_class, spelled_group, spelled_pair, spelled_cone, spelled_light, spelled_test, spelled_for, spelled_stmt, spelled_stmts}
-use Rattle.sl_parser.proofs.Fronts.{mapped, behind_is, mark_behind}
+use Rattle.sl_parser.proofs.Fronts.{mapped, after_is, mark_after}
 use Rattle.sl_parser.proofs.FrontNames.{name_at_is, set_at_is, type_at_is, class_at_is, is_equals_is, is_else_is}
 use Rattle.sl_parser.proofs.Good.{Takes, and_then}
 use Rattle.sl_grammar.proofs.Starts.{Shape, Starts, then_starts, starts_on, taken_on, Begun, Done, begun_here, done_bind, done_past, done_deep, done_more, done_front, done_many}
@@ -80,7 +80,7 @@ abbrev sun_shape : Shape (S.Expr × S.Expr)
 sun_shape = record { spell = λ c. kinds.Mark LeftParen ∷ spelled_pair c; fine = λ c. Grammatical c.0 × Grammatical c.1; ends = λ c rest. Unit {0} }
 
 abbrev pub stmt_shape : Shape S.Stmt
-stmt_shape = record { spell = spelled_stmt; fine = GrammaticalStmt; ends = λ s rest. takes_else s ≡ true → behind is_else rest ≡ None }
+stmt_shape = record { spell = spelled_stmt; fine = GrammaticalStmt; ends = λ s rest. takes_else s ≡ true → rest_after is_else rest ≡ None }
 
 abbrev body_shape : Shape (List S.Stmt)
 body_shape = record { spell = λ b. spelled_stmts (S.stmts b); fine = λ b. GrammaticalStmts (S.stmts b); ends = λ b rest. Unit {0} }
@@ -126,16 +126,16 @@ module _ (expr : List Token → Reads S.Expr) (ok : (ts : List Token) → Done w
   set_done ts =
       done_named set_shape ts ts (λ name line rest. set_then expr name line (front_line rest) rest (set_at rest)) (begun_here set_shape ts blank_set tt) (λ name line rest t. set_on ts rest name line (front_line rest) t (set_at rest) refl)
 
-  given : (valued : Valued) → ((x : S.Expr) → Grammatical x → GrammaticalValue valued (Some x)) → (ts rest : List Token) → Takes ts (kinds.Set sets.Set ∷ []) rest → Done (value_shape valued) ts (value_behind expr rest)
+  given : (valued : Valued) → ((x : S.Expr) → Grammatical x → GrammaticalValue valued (Some x)) → (ts rest : List Token) → Takes ts (kinds.Set sets.Set ∷ []) rest → Done (value_shape valued) ts (value_after expr rest)
   given valued may ts rest t =
       done_bind whole (value_shape valued) ts rest (expr rest) (λ e. Ok (Some e.0, e.1)) (ok rest) (λ x left f s. record { item = Some x; fine = may x f; starts = then_starts t s })
       (λ x u f h. ((and_then t u, may x.0 f), tt))
 
-  value_on : (valued : Valued) (ts : List Token) (o : Option (List Token)) → behind is_equals ts ≡ o → Done (value_shape valued) ts (value_then expr valued ts o)
+  value_on : (valued : Valued) (ts : List Token) (o : Option (List Token)) → rest_after is_equals ts ≡ o → Done (value_shape valued) ts (value_then expr valued ts o)
   value_on Always ts None e = begun_here (value_shape Always) ts (Some blank) tt
-  value_on Always ts (Some rest) e = given Always (λ x f. f) ts rest (record { text = behind_is is_equals (kinds.Set sets.Set) is_equals_is ts rest e })
+  value_on Always ts (Some rest) e = given Always (λ x f. f) ts rest (record { text = after_is is_equals (kinds.Set sets.Set) is_equals_is ts rest e })
   value_on Freely ts None e = ((nothing ts, tt), tt)
-  value_on Freely ts (Some rest) e = given Freely (λ x f. f) ts rest (record { text = behind_is is_equals (kinds.Set sets.Set) is_equals_is ts rest e })
+  value_on Freely ts (Some rest) e = given Freely (λ x f. f) ts rest (record { text = after_is is_equals (kinds.Set sets.Set) is_equals_is ts rest e })
   value_on Never ts None e = ((nothing ts, tt), tt)
   value_on Never ts (Some rest) e = ((nothing ts, tt), tt)
 
@@ -143,14 +143,14 @@ module _ (expr : List Token → Reads S.Expr) (ok : (ts : List Token) → Done w
   declared_done valued ts =
       done_named (declared_shape valued) ts ts (λ name line rest. value_with expr valued rest >>= λ value. Ok (record { name = name; value = value.0; line = line; set_line = front_line rest }, value.1))
       (begun_here (declared_shape valued) ts (blank_declared valued) (blank_value valued).1) (λ name line rest t.
-      done_bind (value_shape valued) (declared_shape valued) ts rest (value_with expr valued rest) (λ value. Ok (record { name = name; value = value.0; line = line; set_line = front_line rest }, value.1)) (value_on valued rest (behind is_equals rest) refl)
+      done_bind (value_shape valued) (declared_shape valued) ts rest (value_with expr valued rest) (λ value. Ok (record { name = name; value = value.0; line = line; set_line = front_line rest }, value.1)) (value_on valued rest (rest_after is_equals rest) refl)
       (λ v left f s. record { item = record { name = name; value = v; line = line; set_line = front_line rest }; fine = f; starts = then_starts t s })
       (λ v u f h. ((and_then t u, f), tt)))
 
   comma_done : (valued : Valued) (ts : List Token) (r : Reads S.Declared) → after_comma (declared_with expr valued) ts ≡ Some r → Done (comma_shape valued) ts r
   comma_done valued ts r e =
-      let m = mapped (declared_with expr valued) (behind (is_mark Comma) ts) r e in
-      let t : Takes ts (kinds.Mark Comma ∷ []) m.0 = record { text = mark_behind Comma ts m.0 m.1.0 } in
+      let m = mapped (declared_with expr valued) (rest_after (is_mark Comma) ts) r e in
+      let t : Takes ts (kinds.Mark Comma ∷ []) m.0 = record { text = mark_after Comma ts m.0 m.1.0 } in
       subst (λ r. Done (comma_shape valued) ts r) m.1.1
       (done_more (declared_shape valued) (comma_shape valued) ts m.0 (declared_with expr valued m.0) (declared_done valued m.0) (λ x rest f s. record { item = x; fine = f; starts = then_starts t s })
       (λ x rest u f h. ((and_then t u, f), tt)))
@@ -202,11 +202,11 @@ module _ (expr : List Token → Reads S.Expr) (ok : (ts : List Token) → Done w
       done_past for_shape LeftParen ts ts _ (begun_here for_shape ts (None, blank, None) (tt, (tt, tt))) (λ inside t.
       done_bind maybe_shape for_shape ts inside (set_maybe expr inside) _ (maybe_done inside (head_is is_name inside))
       (λ x rest f s. record { item = (x, blank, None); fine = (f, (tt, tt)); starts = then_starts t (starts_on second s) }) (λ a p f h.
-      done_past for_shape Semicolon ts a.1 _ (record { item = (a.0, blank, None); fine = (f, (tt, tt)); starts = then_starts t (taken_on second p) }) (λ behind_first u.
-      done_bind whole for_shape ts behind_first (expr behind_first) _ (ok behind_first)
+      done_past for_shape Semicolon ts a.1 _ (record { item = (a.0, blank, None); fine = (f, (tt, tt)); starts = then_starts t (taken_on second p) }) (λ after_first u.
+      done_bind whole for_shape ts after_first (expr after_first) _ (ok after_first)
       (λ x rest g s. record { item = (a.0, x, None); fine = (f, (g, tt)); starts = then_starts t (then_starts p (then_starts u (starts_on third s))) }) (λ e q g i.
-      done_past for_shape Semicolon ts e.1 _ (record { item = (a.0, e.0, None); fine = (f, (g, tt)); starts = then_starts t (then_starts p (then_starts u (taken_on third q))) }) (λ behind_test v.
-      done_bind maybe_shape for_shape ts behind_test (set_maybe expr behind_test) _ (maybe_done behind_test (head_is is_name behind_test))
+      done_past for_shape Semicolon ts e.1 _ (record { item = (a.0, e.0, None); fine = (f, (g, tt)); starts = then_starts t (then_starts p (then_starts u (taken_on third q))) }) (λ after_test v.
+      done_bind maybe_shape for_shape ts after_test (set_maybe expr after_test) _ (maybe_done after_test (head_is is_name after_test))
       (λ x rest k s. record { item = (a.0, e.0, x); fine = (f, (g, k)); starts = then_starts t (then_starts p (then_starts u (then_starts q (then_starts v (starts_on close s))))) }) (λ b r k j.
       done_past for_shape RightParen ts b.1 (λ rest. Ok ((a.0, e.0, b.0), rest))
       (record { item = (a.0, e.0, b.0); fine = (f, (g, k)); starts = then_starts t (then_starts p (then_starts u (then_starts q (then_starts v (taken_on close r))))) }) (λ rest w.
@@ -215,18 +215,18 @@ module _ (expr : List Token → Reads S.Expr) (ok : (ts : List Token) → Done w
   pair_done : (ts : List Token) → Done pair_shape ts (pair_with expr ts)
   pair_done ts =
       let second = kinds.Mark Comma ∷ (spelled blank ++ close) in
-      done_bind whole pair_shape ts ts (expr ts) (λ a. past Comma a.1 λ behind_a. expr behind_a >>= λ b. past RightParen b.1 λ rest. Ok ((a.0, b.0), rest)) (ok ts)
+      done_bind whole pair_shape ts ts (expr ts) (λ a. past Comma a.1 λ after_a. expr after_a >>= λ b. past RightParen b.1 λ rest. Ok ((a.0, b.0), rest)) (ok ts)
       (λ x rest f s. record { item = (x, blank); fine = (f, tt); starts = starts_on second s }) (λ a p f h.
-      done_past pair_shape Comma ts a.1 (λ behind_a. expr behind_a >>= λ b. past RightParen b.1 λ rest. Ok ((a.0, b.0), rest)) (record { item = (a.0, blank); fine = (f, tt); starts = taken_on second p }) (λ behind_a u.
-      done_bind whole pair_shape ts behind_a (expr behind_a) (λ b. past RightParen b.1 λ rest. Ok ((a.0, b.0), rest)) (ok behind_a)
+      done_past pair_shape Comma ts a.1 (λ after_a. expr after_a >>= λ b. past RightParen b.1 λ rest. Ok ((a.0, b.0), rest)) (record { item = (a.0, blank); fine = (f, tt); starts = taken_on second p }) (λ after_a u.
+      done_bind whole pair_shape ts after_a (expr after_a) (λ b. past RightParen b.1 λ rest. Ok ((a.0, b.0), rest)) (ok after_a)
       (λ x rest g s. record { item = (a.0, x); fine = (f, g); starts = then_starts p (then_starts u (starts_on close s)) }) (λ b q g k.
       done_past pair_shape RightParen ts b.1 (λ rest. Ok ((a.0, b.0), rest)) (record { item = (a.0, b.0); fine = (f, g); starts = then_starts p (then_starts u (taken_on close q)) }) (λ rest w.
       ((and_then p (and_then u (and_then q w)), (f, g)), tt)))))
 
-  cone_done : (ts : List Token) (o : Option (List Token)) → behind (is_mark Comma) ts ≡ o → Done cone_shape ts (cone_then expr ts o)
+  cone_done : (ts : List Token) (o : Option (List Token)) → rest_after (is_mark Comma) ts ≡ o → Done cone_shape ts (cone_then expr ts o)
   cone_done ts None e = done_past cone_shape RightParen ts ts (λ rest. Ok (None, rest)) (begun_here cone_shape ts None tt) (λ rest u. ((u, tt), tt))
   cone_done ts (Some inside) e =
-      let t : Takes ts (kinds.Mark Comma ∷ []) inside = record { text = mark_behind Comma ts inside e } in
+      let t : Takes ts (kinds.Mark Comma ∷ []) inside = record { text = mark_after Comma ts inside e } in
       done_bind pair_shape cone_shape ts inside (pair_with expr inside) (λ cone. Ok (Some cone.0, cone.1)) (pair_done inside)
       (λ x rest f s. record { item = Some x; fine = f; starts = then_starts t s }) (λ x u f h. ((and_then t u, f), tt))
 
@@ -235,7 +235,7 @@ module _ (expr : List Token → Reads S.Expr) (ok : (ts : List Token) → Done w
       done_past place_shape LeftParen ts ts (λ inside. expr inside >>= λ place. cone_in expr place.1 >>= λ cone. Ok ((place.0, cone.0), cone.1)) (begun_here place_shape ts (blank, None) (tt, tt)) (λ inside t.
       done_bind whole place_shape ts inside (expr inside) (λ place. cone_in expr place.1 >>= λ cone. Ok ((place.0, cone.0), cone.1)) (ok inside)
       (λ x rest f s. record { item = (x, None); fine = (f, tt); starts = then_starts t (starts_on close s) }) (λ a p f h.
-      done_bind cone_shape place_shape ts a.1 (cone_in expr a.1) (λ cone. Ok ((a.0, cone.0), cone.1)) (cone_done a.1 (behind (is_mark Comma) a.1) refl)
+      done_bind cone_shape place_shape ts a.1 (cone_in expr a.1) (λ cone. Ok ((a.0, cone.0), cone.1)) (cone_done a.1 (rest_after (is_mark Comma) a.1) refl)
       (λ c rest g s. record { item = (a.0, c); fine = (f, g); starts = then_starts t (then_starts p s) }) (λ c q g k. ((and_then t (and_then p q), (f, g)), tt))))
 
   sun_done : (ts : List Token) → Done sun_shape ts (solar_head expr ts)
@@ -247,7 +247,7 @@ module _ (expr : List Token → Reads S.Expr) (ok : (ts : List Token) → Done w
   not_taken false o rest h e = refl
   not_taken true o rest h e = let n = h refl in absurd (cc (n, e))
 
-  taken : (rest : List Token) → ◌≡◌ {A = Bool} false true → behind is_else rest ≡ None
+  taken : (rest : List Token) → ◌≡◌ {A = Bool} false true → rest_after is_else rest ≡ None
   taken rest h = absurd (cc h)
 
   module _ (stmt : List Token → Reads S.Stmt) (fine : (ts : List Token) → Done stmt_shape ts (stmt ts)) where
@@ -261,7 +261,7 @@ module _ (expr : List Token → Reads S.Expr) (ok : (ts : List Token) → Done w
     stmts_done : (k : ℕ) (ts : List Token) → Done body_shape ts (many (next_stmt stmt) k ts)
     stmts_done k ts =
         done_many stmt_shape (λ b. spelled_stmts (S.stmts b)) (λ k b. GrammaticalStmts (S.stmts b)) refl (λ x xs. refl) (λ k. tt) (λ k x xs f g. (f, g)) (next_stmt stmt)
-        (λ ts r e. unless_on ts (behind (is_mark RightBrace) ts) r e) k ts
+        (λ ts r e. unless_on ts (rest_after (is_mark RightBrace) ts) r e) k ts
 
     pub block_done : (ts : List Token) → Done closed_shape ts (block_in stmt ts)
     block_done ts =
@@ -275,22 +275,22 @@ module _ (expr : List Token → Reads S.Expr) (ok : (ts : List Token) → Done w
       end = kinds.Mark Semicolon ∷ []
 
       else_on : (mid after : List Token) (e : S.Expr) (s : S.Stmt) → Takes before (kinds.Word words.If ∷ spelled_test e) mid → Grammatical e → Takes mid (spelled_stmt s) after → GrammaticalStmt s
-          → (takes_else s ≡ true → behind is_else after ≡ None) → (o : Option (List Token)) → behind is_else after ≡ o → Done stmt_shape before (else_then stmt e s line after o)
+          → (takes_else s ≡ true → rest_after is_else after ≡ None) → (o : Option (List Token)) → rest_after is_else after ≡ o → Done stmt_shape before (else_then stmt e s line after o)
       else_on mid after e s t g u f h None i = ((and_then t u, (g, f)), λ takes. i)
       else_on mid after e s t g u f h (Some rest) i =
-          let v : Takes after (kinds.Word words.Else ∷ []) rest = record { text = behind_is is_else (kinds.Word words.Else) is_else_is after rest i } in
-          let n = not_taken (takes_else s) (behind is_else after) rest h i in
+          let v : Takes after (kinds.Word words.Else ∷ []) rest = record { text = after_is is_else (kinds.Word words.Else) is_else_is after rest i } in
+          let n = not_taken (takes_else s) (rest_after is_else after) rest h i in
           done_bind stmt_shape stmt_shape before rest (stmt rest) (λ second. Ok (S.test_else e s second.0 line, second.1)) (fine rest)
           (λ x left k w. record { item = S.test_else e s x line; fine = (g, ((n, f), k)); starts = then_starts t (then_starts u (then_starts v w)) })
           (λ x w k j. ((and_then t (and_then u (and_then v w)), (g, ((n, f), k))), j))
 
       if_done : (ts : List Token) → Takes before (kinds.Word words.If ∷ []) ts → Done stmt_shape before (if_with stmt expr line ts)
       if_done ts t =
-          done_bind test_shape stmt_shape before ts (test_with expr ts) (λ test. stmt test.1 >>= λ first. else_then stmt test.0 first.0 line first.1 (behind is_else first.1)) (test_done ts)
+          done_bind test_shape stmt_shape before ts (test_with expr ts) (λ test. stmt test.1 >>= λ first. else_then stmt test.0 first.0 line first.1 (rest_after is_else first.1)) (test_done ts)
           (λ x rest f s. record { item = S.test x blank_stmt line; fine = (f, tt); starts = then_starts t (starts_on end s) }) (λ e p f h.
-          done_bind stmt_shape stmt_shape before e.1 (stmt e.1) (λ first. else_then stmt e.0 first.0 line first.1 (behind is_else first.1)) (fine e.1)
+          done_bind stmt_shape stmt_shape before e.1 (stmt e.1) (λ first. else_then stmt e.0 first.0 line first.1 (rest_after is_else first.1)) (fine e.1)
           (λ x rest g s. record { item = S.test e.0 x line; fine = (f, g); starts = then_starts t (then_starts p s) })
-          (λ s q g k. else_on e.1 s.1 e.0 s.0 (and_then t p) f q g k (behind is_else s.1) refl))
+          (λ s q g k. else_on e.1 s.1 e.0 s.0 (and_then t p) f q g k (rest_after is_else s.1) refl))
 
       while_done : (ts : List Token) → Takes before (kinds.Word words.While ∷ []) ts → Done stmt_shape before (while_with stmt expr line ts)
       while_done ts t =

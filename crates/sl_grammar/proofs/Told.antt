@@ -15,7 +15,7 @@ use Rattle.sl_lexer.specs.declared.token.TokenKind.TheVariants as kinds
 use Rattle.sl_lexer.specs.declared.token.Mark.{Mark}
 use Rattle.sl_lexer.specs.declared.token.Mark.TheVariants.{LeftParen, RightParen, Comma, Question, Colon}
 use Rattle.sl_expression_grammar.specs.declared.fault.SlCode.TheVariants.{P3}
-use Rattle.sl_expression_grammar.specs.Reading.{Reads, ◌>>=◌, with_front, is_bad, code_for, head_is, unexpected, too_deep, many_then, many, behind, go_on, past, line_behind, is_mark, after_comma, commas}
+use Rattle.sl_expression_grammar.specs.Reading.{Reads, ◌>>=◌, with_front, is_bad, code_for, head_is, unexpected, too_deep, many_then, many, rest_after, go_on, past, line_and_rest, is_mark, after_comma, commas}
 use Rattle.sl_expression_grammar.specs.Expressions.{begins_expr, operator_at, link, next_link, most_links, links_in, chain, chains, choice_then, expr_with, args_with, args_in, name_then, paren_with, space_at, triple_then, inside_with, value_then, typed_with, prim_in, prim_with, prefix_in, unary_then, unary_with, deep_typed, deep_operand, expr_at, unary_at, prim_at}
 use Rattle.sl_parser.specs.Statements.{begins_stmt}
 use Rattle.sl_grammar.specs.Laws.{opens, StandsAt}
@@ -53,7 +53,7 @@ on_told {A} ts go None next = told_unexpected A ts
 on_told ts go (Some rest) next = next rest
 
 pub told_past : {A : Type 0} (mark : Mark) (ts : List Token) (go : List Token → Reads A) → ((rest : List Token) → Told (go rest)) → Told (past mark ts go)
-told_past mark ts go next = on_told ts go (behind (is_mark mark) ts) next
+told_past mark ts go next = on_told ts go (rest_after (is_mark mark) ts) next
 
 pub told_map : {A B : Type 0} (f : B → Reads A) (o : Option B) → ((x : B) → Told (f x)) → ToldSome (option_map f o)
 told_map f None h = tt
@@ -70,7 +70,7 @@ told_many step h (suc turns) ts = then_told (many step turns) ts (step ts) (h ts
 pub told_commas : {A : Type 0} (item : List Token → Reads A) → ((ts : List Token) → Told (item ts)) → (ts : List Token) → Told (commas item ts)
 told_commas item h ts =
     told_bind (item ts) (λ x. with_front (x.0 ∷ []) (many (after_comma item) (length x.1) x.1)) (h ts) (λ x.
-    told_front (x.0 ∷ []) (many (after_comma item) (length x.1) x.1) (told_many (after_comma item) (λ us. told_map item (behind (is_mark Comma) us) h) (length x.1) x.1))
+    told_front (x.0 ∷ []) (many (after_comma item) (length x.1) x.1) (told_many (after_comma item) (λ us. told_map item (rest_after (is_mark Comma) us) h) (length x.1) x.1))
 
 -- what opens a level
 or_right : (a b : Bool) → b ≡ true → (a || b) ≡ true
@@ -109,7 +109,7 @@ module _ (expr : List Token → Reads S.Expr) (h : (ts : List Token) → Told (e
       told_bind (expr q.1) _ (h q.1) (λ first. told_past Colon first.1 _ (λ rest. told_bind (expr rest) _ (h rest) (λ second. tt)))
 
   pub expr_with_told : (unary : List Token → Reads S.Expr) → ((ts : List Token) → Told (unary ts)) → (ts : List Token) → Told (expr_with unary expr ts)
-  expr_with_told unary u ts = told_bind (chains unary ts) _ (chains_told unary u ts) (λ test. choice_told test.0 test.1 (line_behind Question test.1))
+  expr_with_told unary u ts = told_bind (chains unary ts) _ (chains_told unary u ts) (λ test. choice_told test.0 test.1 (line_and_rest Question test.1))
 
   args_told : (ts : List Token) (o : Option (List Token)) → Told (args_with expr ts o)
   args_told ts (Some rest) = tt
@@ -117,18 +117,18 @@ module _ (expr : List Token → Reads S.Expr) (h : (ts : List Token) → Told (e
 
   name_told : (name : List ℕ) (line : ℕ) (ts : List Token) (o : Option (List Token)) → Told (name_then expr name line ts o)
   name_told name line ts None = tt
-  name_told name line ts (Some inside) = told_bind (args_in expr inside) _ (args_told inside (behind (is_mark RightParen) inside)) (λ args. tt)
+  name_told name line ts (Some inside) = told_bind (args_in expr inside) _ (args_told inside (rest_after (is_mark RightParen) inside)) (λ args. tt)
 
   paren_told : (line : ℕ) (ts : List Token) → Told (paren_with expr line ts)
   paren_told line ts = told_bind (expr ts) _ (h ts) (λ e. told_past RightParen e.1 _ (λ rest. tt))
 
   triple_told : (kind : SlType) (space : Option Space) (line inner : ℕ) (x : S.Expr) (ts : List Token) (o : Option (List Token)) → Told (triple_then expr kind space line inner x ts o)
   triple_told kind space line inner x ts None = told_past RightParen ts _ (λ rest. tt)
-  triple_told kind space line inner x ts (Some behind_x) =
-      told_bind (expr behind_x) _ (h behind_x) (λ y. told_past Comma y.1 _ (λ behind_y. told_bind (expr behind_y) _ (h behind_y) (λ z. told_past RightParen z.1 _ (λ rest. tt))))
+  triple_told kind space line inner x ts (Some after_x) =
+      told_bind (expr after_x) _ (h after_x) (λ y. told_past Comma y.1 _ (λ after_y. told_bind (expr after_y) _ (h after_y) (λ z. told_past RightParen z.1 _ (λ rest. tt))))
 
   inside_told : (kind : SlType) (space : Option Space) (line inner : ℕ) (ts : List Token) → Told (inside_with expr kind space line inner ts)
-  inside_told kind space line inner ts = told_bind (expr ts) _ (h ts) (λ x. triple_told kind space line inner x.0 x.1 (behind (is_mark Comma) x.1))
+  inside_told kind space line inner ts = told_bind (expr ts) _ (h ts) (λ x. triple_told kind space line inner x.0 x.1 (rest_after (is_mark Comma) x.1))
 
   module _ (prim : List Token → Reads S.Expr) (p : (ts : List Token) → Told (prim ts)) where
     value_told : (kind : SlType) (space : Option Space) (line : ℕ) (ts : List Token) (o : Option (ℕ × List Token)) → Told (value_then expr prim kind space line ts o)
@@ -136,13 +136,13 @@ module _ (expr : List Token → Reads S.Expr) (h : (ts : List Token) → Told (e
     value_told kind space line ts (Some q) = inside_told kind space line q.0 q.1
 
     pub typed_told : (kind : SlType) (line : ℕ) (ts : List Token) → Told (typed_with expr prim kind line ts)
-    typed_told kind line ts = value_told kind (space_at ts).0 line (space_at ts).1 (line_behind LeftParen (space_at ts).1)
+    typed_told kind line ts = value_told kind (space_at ts).0 line (space_at ts).1 (line_and_rest LeftParen (space_at ts).1)
 
   module _ (typed : SlType → ℕ → List Token → List Token → Reads S.Expr) (q : (kind : SlType) (t : Token) (ts : List Token) → t.kind ≡ kinds.Type kind → Told (typed kind t.line ts (t ∷ ts))) where
     prim_told : (k : TokenKind) (t : Token) (ts : List Token) → t.kind ≡ k → Told (prim_in expr typed k t.line ts (t ∷ ts))
     prim_told (kinds.Number text) t ts e = tt
     prim_told (kinds.Str text) t ts e = tt
-    prim_told (kinds.Name name) t ts e = name_told name t.line ts (behind (is_mark LeftParen) ts)
+    prim_told (kinds.Name name) t ts e = name_told name t.line ts (rest_after (is_mark LeftParen) ts)
     prim_told (kinds.Mark LeftParen) t ts e = paren_told t.line ts
     prim_told (kinds.Type kind) t ts e = q kind t ts e
     prim_told _ t ts e = told_unexpected S.Expr (t ∷ ts)

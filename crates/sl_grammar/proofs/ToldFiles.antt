@@ -16,7 +16,7 @@ use Rattle.sl_lexer.specs.declared.token.Word.TheVariants as words
 use Rattle.sl_lexer.specs.declared.token.Mark.TheVariants.{LeftParen, RightParen, LeftBrace, RightBrace, Semicolon, Comma}
 use Rattle.sl_expression_grammar.specs.declared.fault.SlCode.{SlCode}
 use Rattle.sl_expression_grammar.specs.declared.fault.SlCode.TheVariants.{P1, P2, P3}
-use Rattle.sl_expression_grammar.specs.Reading.{Reads, many, commas, head_is, is_bad, behind, is_mark}
+use Rattle.sl_expression_grammar.specs.Reading.{Reads, many, commas, head_is, is_bad, rest_after, is_mark}
 use Rattle.sl_expression_grammar.specs.Expressions.{expr_at}
 use Rattle.sl_parser.specs.declared.declarations.Valued.{Valued}
 use Rattle.sl_parser.specs.declared.declarations.Valued.TheVariants.{Always, Never, Freely}
@@ -49,7 +49,7 @@ module _ (expr : List Token → Reads S.Expr) (h : (ts : List Token) → Told (e
   value_told Never ts o = tt
 
   declared_told : (valued : Valued) (ts : List Token) → Told (declared_with expr valued ts)
-  declared_told valued ts = told_named ts _ (λ name line rest. told_bind (value_with expr valued rest) _ (value_told valued rest (behind is_equals rest)) (λ value. tt))
+  declared_told valued ts = told_named ts _ (λ name line rest. told_bind (value_with expr valued rest) _ (value_told valued rest (rest_after is_equals rest)) (λ value. tt))
 
   group_told : (valued : Valued) (class : Option Class) (ts : List Token) (o : Option (SlType × List Token)) → Told (group_then expr valued class ts o)
   group_told valued class ts None = told_unexpected S.Group ts
@@ -72,14 +72,14 @@ module _ (expr : List Token → Reads S.Expr) (h : (ts : List Token) → Told (e
   step_told first test ts = told_bind (set_maybe expr ts) _ (maybe_told ts) (λ step. told_past RightParen step.1 _ (λ rest. tt))
 
   steps_told : (first : Option S.Assignment) (ts : List Token) → Told (steps_with expr first ts)
-  steps_told first ts = told_bind (expr ts) _ (h ts) (λ test. told_past Semicolon test.1 _ (λ behind_test. step_told first test.0 behind_test))
+  steps_told first ts = told_bind (expr ts) _ (h ts) (λ test. told_past Semicolon test.1 _ (λ after_test. step_told first test.0 after_test))
 
   for_told : (ts : List Token) → Told (for_head expr ts)
   for_told ts =
-      told_past LeftParen ts _ (λ inside. told_bind (set_maybe expr inside) _ (maybe_told inside) (λ first. told_past Semicolon first.1 _ (λ behind_first. steps_told first.0 behind_first)))
+      told_past LeftParen ts _ (λ inside. told_bind (set_maybe expr inside) _ (maybe_told inside) (λ first. told_past Semicolon first.1 _ (λ after_first. steps_told first.0 after_first)))
 
   pair_told : (ts : List Token) → Told (pair_with expr ts)
-  pair_told ts = told_bind (expr ts) _ (h ts) (λ a. told_past Comma a.1 _ (λ behind_a. told_bind (expr behind_a) _ (h behind_a) (λ b. told_past RightParen b.1 _ (λ rest. tt))))
+  pair_told ts = told_bind (expr ts) _ (h ts) (λ a. told_past Comma a.1 _ (λ after_a. told_bind (expr after_a) _ (h after_a) (λ b. told_past RightParen b.1 _ (λ rest. tt))))
 
   cone_told : (ts : List Token) (o : Option (List Token)) → Told (cone_then expr ts o)
   cone_told ts None = told_past RightParen ts _ (λ rest. tt)
@@ -87,7 +87,7 @@ module _ (expr : List Token → Reads S.Expr) (h : (ts : List Token) → Told (e
 
   place_told : (ts : List Token) → Told (lights_head expr ts)
   place_told ts =
-      told_past LeftParen ts _ (λ inside. told_bind (expr inside) _ (h inside) (λ place. told_bind (cone_in expr place.1) _ (cone_told place.1 (behind (is_mark Comma) place.1)) (λ cone. tt)))
+      told_past LeftParen ts _ (λ inside. told_bind (expr inside) _ (h inside) (λ place. told_bind (cone_in expr place.1) _ (cone_told place.1 (rest_after (is_mark Comma) place.1)) (λ cone. tt)))
 
   declare_told : (line : ℕ) (ts : List Token) → Told (declare_with expr line ts)
   declare_told line ts = told_bind (group_with expr Freely ts) _ (group_with_told Freely ts) (λ g. told_past Semicolon g.1 _ (λ rest. tt))
@@ -102,7 +102,7 @@ module _ (expr : List Token → Reads S.Expr) (h : (ts : List Token) → Told (e
 
     pub block_told : (ts : List Token) → Told (block_in stmt ts)
     block_told ts =
-        told_bind (many (next_stmt stmt) (length ts + 1) ts) _ (told_many (next_stmt stmt) (λ us. unless_told us (behind (is_mark RightBrace) us)) (length ts + 1) ts)
+        told_bind (many (next_stmt stmt) (length ts + 1) ts) _ (told_many (next_stmt stmt) (λ us. unless_told us (rest_after (is_mark RightBrace) us)) (length ts + 1) ts)
         (λ body. told_past RightBrace body.1 _ (λ rest. tt))
 
     else_told : (test : S.Expr) (first : S.Stmt) (line : ℕ) (ts : List Token) (o : Option (List Token)) → Told (else_then stmt test first line ts o)
@@ -117,7 +117,7 @@ module _ (expr : List Token → Reads S.Expr) (h : (ts : List Token) → Told (e
     word_told words.Continue line rest ts = told_past Semicolon rest _ (λ left. tt)
     word_told words.Return line rest ts = told_bind (expr rest) _ (h rest) (λ e. told_past Semicolon e.1 _ (λ left. tt))
     word_told words.If line rest ts =
-        told_bind (test_with expr rest) _ (test_told rest) (λ test. told_bind (stmt test.1) _ (g test.1) (λ first. else_told test.0 first.0 line first.1 (behind is_else first.1)))
+        told_bind (test_with expr rest) _ (test_told rest) (λ test. told_bind (stmt test.1) _ (g test.1) (λ first. else_told test.0 first.0 line first.1 (rest_after is_else first.1)))
     word_told words.Else line rest ts = told_unexpected S.Stmt ts
     word_told words.While line rest ts = told_bind (test_with expr rest) _ (test_told rest) (λ test. told_bind (stmt test.1) _ (g test.1) (λ body. tt))
     word_told words.For line rest ts = told_bind (for_head expr rest) _ (for_told rest) (λ head. told_bind (stmt head.1) _ (g head.1) (λ body. tt))
@@ -146,7 +146,7 @@ stmt_told (suc n) ts = opened_told (expr_at n) (expr_told n) (stmt_at n) (stmt_t
 module _ (group : List Token → Reads S.Group) (h : (ts : List Token) → Told (group ts)) where
   end_told : (groups : List S.Group) (ts : List Token) (o : Option (List Token)) → Told (groups_end groups ts o)
   end_told groups ts None = told_past RightParen ts _ (λ rest. tt)
-  end_told groups ts (Some behind_mark) = told_past RightParen behind_mark _ (λ rest. tt)
+  end_told groups ts (Some rest_after_mark) = told_past RightParen rest_after_mark _ (λ rest. tt)
 
   some_told : (ts : List Token) → Told (some_groups group ts)
   some_told ts =
@@ -154,12 +154,12 @@ module _ (group : List Token → Reads S.Group) (h : (ts : List Token) → Told 
 
   groups_told : (ts : List Token) (o : Option (List Token)) → Told (groups_in group ts o)
   groups_told ts (Some rest) = tt
-  groups_told ts None = told_bind (some_groups group ts) _ (some_told ts) (λ groups. end_told groups.0 groups.1 (behind (is_mark Semicolon) groups.1))
+  groups_told ts None = told_bind (some_groups group ts) _ (some_told ts) (λ groups. end_told groups.0 groups.1 (rest_after (is_mark Semicolon) groups.1))
 
 module _ (n : ℕ) where
   list_told : (valued : Valued) (ts : List Token) → Told (groups_with n valued ts)
   list_told valued ts =
-      told_past LeftParen ts _ (λ inside. groups_told (group_with (expr_at n) valued) (group_with_told (expr_at n) (expr_told n) valued) inside (behind (is_mark RightParen) inside))
+      told_past LeftParen ts _ (λ inside. groups_told (group_with (expr_at n) valued) (group_with_told (expr_at n) (expr_told n) valued) inside (rest_after (is_mark RightParen) inside))
 
   body_told : (ts : List Token) → Told (body_at n ts)
   body_told ts = told_past LeftBrace ts _ (λ inside. block_told (expr_at n) (expr_told n) (stmt_at n) (stmt_told n) inside)

@@ -93,7 +93,7 @@ abbrev pub GrammaticalCone : Option (Expr × Expr) → Type 0
 GrammaticalCone None = Unit {0}
 GrammaticalCone (Some c) = Grammatical c.0 × Grammatical c.1
 
--- an `else` behind the statement would belong to an `if` at its end
+-- an `else` after the statement would belong to an `if` at its end
 abbrev pub takes_else : Stmt → Bool
 takes_else (test e s line) = true
 takes_else (test_else e s r line) = takes_else r
@@ -127,7 +127,7 @@ abbrev pub EachGrammatical : Valued → List Group → Type 0
 EachGrammatical valued [] = Unit {0}
 EachGrammatical valued (g ∷ gs) = GrammaticalNames valued g.names × EachGrammatical valued gs
 
--- a semicolon stands behind a group alone
+-- a semicolon stands after a group alone
 abbrev pub GrammaticalGroups : Valued → List Group → Bool → Type 0
 GrammaticalGroups valued [] ended = ended ≡ false
 GrammaticalGroups valued (g ∷ gs) ended = EachGrammatical valued (g ∷ gs)

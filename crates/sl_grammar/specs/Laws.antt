@@ -19,25 +19,25 @@ use Rattle.sl_lexer.specs.Found.{found_in}
 use Rattle.sl_lexer.specs.Tokens.{tokens_from, tokens_of}
 use Rattle.sl_parser.specs.Spelled.{kinds_of, spelled, spelled_shader}
 
--- the tokens of the bytes behind so many, on the line that these lead to
-abbrev pub tokens_behind : ℕ → ℕ → List ℕ → List Token
-tokens_behind n line bytes = tokens_from 0 (line + count_by (λ b. b == 10) (take n bytes)) (drop n bytes)
+-- the tokens of the bytes after so many, on the line that these lead to
+abbrev pub tokens_after : ℕ → ℕ → List ℕ → List Token
+tokens_after n line bytes = tokens_from 0 (line + count_by (λ b. b == 10) (take n bytes)) (drop n bytes)
 
--- what stands at the front, and then the tokens of what is behind it; none behind a bad one
+-- what stands at the front, and then the tokens of what is after it; none after a bad one
 abbrev pub in_turn : Found → ℕ → List ℕ → List Token
-in_turn (Blank n) line bytes = tokens_behind n line bytes
-in_turn (Whole kind n) line bytes = record { kind = kind; line = line } ∷ tokens_behind n line bytes
+in_turn (Blank n) line bytes = tokens_after n line bytes
+in_turn (Whole kind n) line bytes = record { kind = kind; line = line } ∷ tokens_after n line bytes
 in_turn Bad line bytes = record { kind = kinds.Bad; line = line } ∷ []
 
--- the tokens of a text stand one behind another
+-- the tokens of a text stand one after another
 abbrev pub TokensInTurn : Type 0
 TokensInTurn = (line b : ℕ) (bs : List ℕ) → tokens_from 0 line (b ∷ bs) ≡ in_turn (found_in (b ∷ bs)) line (b ∷ bs)
 
--- whatever stands behind the faulty token, the fault is the same: so no text that begins like this is accepted
+-- whatever stands after the faulty token, the fault is the same: so no text that begins like this is accepted
 abbrev pub FaultStays : Type 0
 FaultStays =
-    (before : List Token) (faulty : Token) (behind other : List Token) (code : SlCode)
-    → file_of 64 (before ++ (faulty ∷ behind)) ≡ Err (code, faulty ∷ behind)
+    (before : List Token) (faulty : Token) (rest_after other : List Token) (code : SlCode)
+    → file_of 64 (before ++ (faulty ∷ rest_after)) ≡ Err (code, faulty ∷ rest_after)
     → file_of 64 (before ++ (faulty ∷ other)) ≡ Err (code, faulty ∷ other)
 
 -- a token at which a level may open: one that a statement begins with, or an expression; prefix operators, and types before a value, are among
@@ -63,9 +63,9 @@ DeepTokens = (ts rest : List Token) → file_of 64 ts ≡ Err (P3, rest) → hea
 -- expression goes on at, where enough levels are left
 abbrev pub ExprAccepted : Type 0
 ExprAccepted =
-    (e : Expr) → Grammatical e → (levels : ℕ) → levels_of e ≤ levels → (ts : List Token) (behind : List TokenKind)
-    → kinds_of ts ≡ spelled e ++ behind → Ends 10 behind
-    → (x : Expr) × ((rest : List Token) × ((expr_at levels ts ≡ Ok (x, rest)) × ((bare x ≡ bare e) × (kinds_of rest ≡ behind))))
+    (e : Expr) → Grammatical e → (levels : ℕ) → levels_of e ≤ levels → (ts : List Token) (rest_after : List TokenKind)
+    → kinds_of ts ≡ spelled e ++ rest_after → Ends 10 rest_after
+    → (x : Expr) × ((rest : List Token) × ((expr_at levels ts ≡ Ok (x, rest)) × ((bare x ≡ bare e) × (kinds_of rest ≡ rest_after))))
 
 -- two expressions of the grammar that are spelled alike are the same up to lines
 abbrev pub ExprSpelledOnce : Type 0
@@ -104,6 +104,6 @@ TextUnspelled =
 -- token with which no text of the grammar goes on
 abbrev pub FaultUnspelled : Type 0
 FaultUnspelled =
-    (before : List Token) (faulty : Token) (behind other : List Token) (code : SlCode) → file_of 64 (before ++ (faulty ∷ behind)) ≡ Err (code, faulty ∷ behind)
+    (before : List Token) (faulty : Token) (rest_after other : List Token) (code : SlCode) → file_of 64 (before ++ (faulty ∷ rest_after)) ≡ Err (code, faulty ∷ rest_after)
     → (s : Shader) → GrammaticalShader s → kinds_of (before ++ (faulty ∷ other)) ≡ spelled_shader s
     → (code ≡ P3) × (64 < levels_file s.functions s.params s.body)

@@ -2,7 +2,7 @@
 ghost use Rattle.sl_grammar.specs.Laws.{BadTokens, DeepTokens, FaultStays, ExprAccepted, ExprSpelledOnce, ShaderAccepted, ShaderGrammatical, ShaderSpelledOnce, FaultFirst, TextUnspelled, FaultUnspelled, TokensInTurn};
 
 /// Does nothing: its contract is a law of tokens. Those of a text are what stands at its front, and then the tokens of the
-/// text behind it, with its lines counted on.
+/// text after it, with its lines counted on.
 pub fn tokens_in_turn()
     ensures { TokensInTurn }
 {}

@@ -25,21 +25,21 @@ pass (suc k) line (b ∷ bs) =
     ∙ ap (λ n. line + n) (sym (sum_by-cons (λ x. cond (eqb x 10) 1 0) b (take k bs))))
 
 -- what follows a token of n bytes
-abbrev pub behind : ℕ → ℕ → List ℕ → List Token
-behind n line bs = tokens_from 0 (line + line_feeds (take n bs)) (drop n bs)
+abbrev pub tokens_after : ℕ → ℕ → List ℕ → List Token
+tokens_after n line bs = tokens_from 0 (line + line_feeds (take n bs)) (drop n bs)
 
-pub passes : (n line b : ℕ) (bs : List ℕ) → 1 ≤ n → tokens_from (n - 1) (line_after b line) bs ≡ behind n line (b ∷ bs)
+pub passes : (n line b : ℕ) (bs : List ℕ) → 1 ≤ n → tokens_from (n - 1) (line_after b line) bs ≡ tokens_after n line (b ∷ bs)
 passes zero line b bs low = absurd (omega arith)
 passes (suc n) line b bs low =
     let e : suc n - 1 ≡ n = omega arith in
     ap (λ k. tokens_from k (line_after b line) bs) e ∙ pass (suc n) line (b ∷ bs)
 
-step-blank : (n line : ℕ) (bs : List ℕ) → 1 ≤ n → n ≤ length bs → found_in bs ≡ Blank n → tokens_from 0 line bs ≡ behind n line bs
+step-blank : (n line : ℕ) (bs : List ℕ) → 1 ≤ n → n ≤ length bs → found_in bs ≡ Blank n → tokens_from 0 line bs ≡ tokens_after n line bs
 step-blank n line [] low high is = absurd (omega arith)
 step-blank n line (b ∷ bs) low high is =
     ap (λ f. found_then f line (λ n. tokens_from (n - 1) (line_after b line) bs)) is ∙ passes n line b bs low
 
-step-whole : (kind : TokenKind) (n line : ℕ) (bs : List ℕ) → 1 ≤ n → n ≤ length bs → found_in bs ≡ Whole kind n → tokens_from 0 line bs ≡ record { kind = kind; line = line } ∷ behind n line bs
+step-whole : (kind : TokenKind) (n line : ℕ) (bs : List ℕ) → 1 ≤ n → n ≤ length bs → found_in bs ≡ Whole kind n → tokens_from 0 line bs ≡ record { kind = kind; line = line } ∷ tokens_after n line bs
 step-whole kind n line [] low high is = absurd (omega arith)
 step-whole kind n line (b ∷ bs) low high is =
     ap (λ f. found_then f line (λ n. tokens_from (n - 1) (line_after b line) bs)) is

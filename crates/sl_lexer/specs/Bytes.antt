@@ -39,7 +39,7 @@ is_sign b = b == 43 || b == 45
 abbrev pub is_e : ℕ → Bool
 is_e b = b == 101 || b == 69
 
--- what may not stand directly behind a number
+-- what may not stand directly after a number
 abbrev pub is_stuck : ℕ → Bool
 is_stuck b = is_name b || is_point b
 

@@ -13,7 +13,7 @@ use Rattle.sl_lexer.specs.declared.token.TokenKind.TheVariants as kinds
 use Rattle.sl_lexer.specs.declared.found.Found.{Found}
 use Rattle.sl_lexer.specs.declared.found.Found.TheVariants.{Blank, Whole, Bad}
 
--- what a byte behind a backslash stands for
+-- what a byte after a backslash stands for
 abbrev pub escaped : ℕ → Option (List ℕ)
 escaped b =
     if b == 34 then Some (34 ∷ [])
@@ -32,9 +32,9 @@ abbrev pub longer_where : Option (List ℕ) → Option (List ℕ × ℕ) → Opt
 longer_where None s = None
 longer_where (Some front) s = longer front 1 s
 
--- the string that goes on with these bytes, behind a backslash or not
+-- the string that goes on with these bytes, after a backslash or not
 abbrev pub string_in : Bool → List ℕ → Option (List ℕ × ℕ)
-string_in behind [] = None
+string_in after_backslash [] = None
 string_in true (b ∷ bs) = longer_where (escaped b) (string_in false bs)
 string_in false (b ∷ bs) =
     if b == 34 then Some ([], 1)
@@ -46,7 +46,7 @@ abbrev pub found_string : Option (List ℕ × ℕ) → Found
 found_string None = Bad
 found_string (Some s) = Whole (kinds.Str s.0) (s.1 + 1)
 
--- how many bytes there are up to the end of a comment, behind a star or not
+-- how many bytes there are up to the end of a comment, after a star or not
 abbrev pub comment_in : Bool → List ℕ → Option ℕ
 comment_in star [] = None
 comment_in star (b ∷ bs) = if star && b == 47 then Some 1 else option_map suc (comment_in (b == 42) bs)
@@ -63,7 +63,7 @@ with_equals single double bs = if head_byte is_equals bs then Whole double 2 els
 abbrev pub twice : ℕ → TokenKind → List ℕ → Found
 twice b double bs = if head_byte (λ x. x == b) bs then Whole double 2 else Bad
 
--- behind a slash
+-- after a slash
 abbrev pub found_slash : List ℕ → Found
 found_slash [] = Whole (kinds.Operator operators.Divide) 1
 found_slash (b ∷ bs) =

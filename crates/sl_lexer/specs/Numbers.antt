@@ -31,7 +31,7 @@ exponent_len (b ∷ bs) = if is_e b then power_of bs else Some 0
 abbrev pub decimal_len : List ℕ → ℕ
 decimal_len bs = digits_len bs + fraction_len (drop (digits_len bs) bs)
 
--- nothing may stand behind a number that would go on with it
+-- nothing may stand after a number that would go on with it
 abbrev pub closed_len : ℕ → List ℕ → Option ℕ → Option ℕ
 closed_len n rest None = None
 closed_len n rest (Some x) = if head_byte is_stuck (drop x rest) then None else Some (n + x)

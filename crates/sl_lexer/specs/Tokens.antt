@@ -6,15 +6,15 @@ use Rattle.sl_lexer.specs.declared.token.TokenKind.TheVariants as kinds
 use Rattle.sl_lexer.specs.declared.found.Found.{Found}
 use Rattle.sl_lexer.specs.declared.found.Found.TheVariants.{Blank, Whole, Bad}
 
--- the line behind a byte
+-- the line after a byte
 abbrev pub line_after : ℕ → ℕ → ℕ
 line_after b line = if b == 10 then line + 1 else line
 
--- what was found, and then what stands behind so many bytes
+-- what was found, and then what stands after so many bytes
 abbrev pub found_then : Found → ℕ → (ℕ → List Token) → List Token
-found_then (Blank n) line behind = behind n
-found_then (Whole kind n) line behind = record { kind = kind; line = line } ∷ behind n
-found_then Bad line behind = record { kind = kinds.Bad; line = line } ∷ []
+found_then (Blank n) line rest = rest n
+found_then (Whole kind n) line rest = record { kind = kind; line = line } ∷ rest n
+found_then Bad line rest = record { kind = kinds.Bad; line = line } ∷ []
 
 -- the tokens of these bytes, of which so many belong to what was taken before
 abbrev pub tokens_from : ℕ → ℕ → List ℕ → List Token
@@ -25,6 +25,6 @@ tokens_from zero line (b ∷ bs) = found_then (found_in (b ∷ bs)) line (λ n. 
 abbrev pub tokens_of : List ℕ → List Token
 tokens_of bytes = tokens_from 0 1 bytes
 
--- the line behind the last line feed
+-- the line after the last line feed
 abbrev pub last_line : List ℕ → ℕ
 last_line bytes = 1 + count_by (λ b. b == 10) bytes

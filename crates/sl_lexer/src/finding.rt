@@ -15,7 +15,7 @@ use fixed_math::{NoMemory, Text};
 use sl_ast::{Operator, SetOperator};
 use std::alloc::Global;
 
-// Behind a slash.
+// After a slash.
 fn find_slash(rest: &[u8]) -> Found
     ensures found { result ≡ found_slash rest.now }
     ensures within { IsWithin result (length rest.now + 1) }

@@ -61,8 +61,8 @@ pub fn number_len(bytes: &[u8]) -> Option<usize>
     let decimal = decimal_len(bytes);
     let (_, rest) = bytes.split_at(decimal);
     let exponent = exponent_len(rest)?;
-    let (_, behind) = rest.split_at(exponent);
-    if begins_stuck(behind) {
+    let (_, after) = rest.split_at(exponent);
+    if begins_stuck(after) {
         return None;
     }
     Some(decimal + exponent)

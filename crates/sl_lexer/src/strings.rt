@@ -1,7 +1,7 @@
 // Strings and comments.
 ghost use Rattle.std.specs.Prelude.{◌≡◌, ◌≤◌, ◌<◌, ◌∷◌, ℕ, List, All, Some, IfOk, IfSome, length, true, false};
 ghost use Rattle.sl_lexer.specs.Found.{string_in, comment_in};
-ghost use Rattle.sl_lexer.specs.StringBytes.{string_behind, IsAsciiByte};
+ghost use Rattle.sl_lexer.specs.StringBytes.{string_after, IsAsciiByte};
 
 use crate::bytes::plain;
 use fixed_math::{NoMemory, Text};
@@ -16,9 +16,9 @@ enum StringByte {
     Bad,
 }
 
-// A byte behind a backslash.
+// A byte after a backslash.
 fn escaped(byte: u8) -> StringByte
-    ensures goes { (bs : List ℕ) → string_in true (byte ∷ bs) ≡ string_behind result (string_in true bs) (string_in false bs) }
+    ensures goes { (bs : List ℕ) → string_in true (byte ∷ bs) ≡ string_after result (string_in true bs) (string_in false bs) }
     ensures ascii { IsAsciiByte result }
 {
     match byte {
@@ -33,7 +33,7 @@ fn escaped(byte: u8) -> StringByte
 
 // A byte that no backslash stands before.
 fn unescaped(byte: u8) -> StringByte
-    ensures goes { (bs : List ℕ) → string_in false (byte ∷ bs) ≡ string_behind result (string_in true bs) (string_in false bs) }
+    ensures goes { (bs : List ℕ) → string_in false (byte ∷ bs) ≡ string_after result (string_in true bs) (string_in false bs) }
     ensures ascii { IsAsciiByte result }
 {
     match byte {
@@ -44,11 +44,11 @@ fn unescaped(byte: u8) -> StringByte
     }
 }
 
-fn byte_at(behind: bool, byte: u8) -> StringByte
-    ensures goes { (bs : List ℕ) → string_in behind (byte ∷ bs) ≡ string_behind result (string_in true bs) (string_in false bs) }
+fn byte_at(after_backslash: bool, byte: u8) -> StringByte
+    ensures goes { (bs : List ℕ) → string_in after_backslash (byte ∷ bs) ≡ string_after result (string_in true bs) (string_in false bs) }
     ensures ascii { IsAsciiByte result }
 {
-    if behind {
+    if after_backslash {
         escaped(byte)
     } else {
         unescaped(byte)
@@ -63,22 +63,22 @@ fn ended(alloc: Global, text: &[u8], len: usize) -> Result<Option<(Text, usize)>
     Ok(Some((Text::from_bytes(alloc, text)?, len)))
 }
 
-// A string's text behind its opening quote, and how many bytes it takes with its closing one.
+// A string's text after its opening quote, and how many bytes it takes with its closing one.
 pub fn read_string(alloc: Global, bytes: &[u8]) -> Result<Option<(Text, usize)>, NoMemory>
     ensures found { IfOk result (λ s. s ≡ string_in false bytes.now) }
     ensures within { IfOk result (λ s. IfSome s (λ p. p.1 ≤ length bytes.now)) }
 {
     let mut text = Vec::new(alloc);
-    let mut behind = false;
+    let mut after_backslash = false;
     for (at, byte) in bytes.iter().enumerate() {
-        match byte_at(behind, *byte) {
+        match byte_at(after_backslash, *byte) {
             StringByte::End => return ended(alloc, &text, at + 1),
             StringByte::Bad => return Ok(None),
-            StringByte::Backslash => behind = true,
-            StringByte::Skipped => behind = false,
+            StringByte::Backslash => after_backslash = true,
+            StringByte::Skipped => after_backslash = false,
             StringByte::Byte(byte) => {
                 text.push(byte)?;
-                behind = false;
+                after_backslash = false;
             }
         }
     }

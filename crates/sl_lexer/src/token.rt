@@ -44,7 +44,7 @@ pub enum TokenKind {
     Operator(Operator),
     Not,
     Set(SetOperator),
-    /// A place where no token begins; the text behind it isn't read.
+    /// A place where no token begins; the text after it isn't read.
     Bad,
 }
 

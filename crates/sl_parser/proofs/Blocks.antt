@@ -6,27 +6,27 @@ use Rattle.sl_ast.specs.declared.kinds.SlType.{SlType}
 use Rattle.sl_lexer.specs.declared.token.Token.{Token}
 use Rattle.sl_lexer.specs.declared.token.Mark.TheVariants.{RightBrace}
 use Rattle.sl_expression_grammar.specs.declared.fault.SlCode.{SlCode}
-use Rattle.sl_expression_grammar.specs.Reading.{Reads, ◌>>=◌, with_front, many, go_on, past, behind, is_mark}
+use Rattle.sl_expression_grammar.specs.Reading.{Reads, ◌>>=◌, with_front, many, go_on, past, rest_after, is_mark}
 use Rattle.sl_expression_grammar.proofs.Readers.{many-turn, many-err, many-end}
 use Rattle.sl_parser.specs.Statements.{stmt_unless, next_stmt, block_in, type_at}
 use Rattle.sl_parser.specs.Files.{semicolon_at, next_group, function_with, next_function}
 
 module _ (stmt : List Token → Reads S.Stmt) where
   pub stmt-turn : (n : ℕ) (rest : List Token) (s : S.Stmt) (left : List Token)
-      → 1 ≤ n → None ≡ behind (is_mark RightBrace) rest → stmt rest ≡ Ok (s, left) → many (next_stmt stmt) n rest ≡ with_front (s ∷ []) (many (next_stmt stmt) (n - 1) left)
+      → 1 ≤ n → None ≡ rest_after (is_mark RightBrace) rest → stmt rest ≡ Ok (s, left) → many (next_stmt stmt) n rest ≡ with_front (s ∷ []) (many (next_stmt stmt) (n - 1) left)
   stmt-turn n rest s left low none is = many-turn (next_stmt stmt) n rest (stmt rest) s left low (ap (stmt_unless stmt rest) (sym none)) is
 
   abbrev closes : List S.Stmt × List Token → Reads (List S.Stmt)
   closes body = past RightBrace body.1 λ rest. Ok (body.0, rest)
 
   pub block-fails : (n : ℕ) (ts rest : List Token) (done : List S.Stmt) (x : SlCode × List Token)
-      → 1 ≤ n → None ≡ behind (is_mark RightBrace) rest → stmt rest ≡ Err x
+      → 1 ≤ n → None ≡ rest_after (is_mark RightBrace) rest → stmt rest ≡ Err x
       → with_front done (many (next_stmt stmt) n rest) ≡ many (next_stmt stmt) (length ts + 1) ts → block_in stmt ts ≡ Err x
   block-fails n ts rest done x low none is same =
       ap (λ r. r >>= closes) (sym same ∙ ap (with_front done) (many-err (next_stmt stmt) n rest (stmt rest) x low (ap (stmt_unless stmt rest) (sym none)) is))
 
   pub block-done : (n : ℕ) (ts rest left : List Token) (done : List S.Stmt)
-      → Some left ≡ behind (is_mark RightBrace) rest
+      → Some left ≡ rest_after (is_mark RightBrace) rest
       → with_front done (many (next_stmt stmt) n rest) ≡ many (next_stmt stmt) (length ts + 1) ts → block_in stmt ts ≡ Ok (done, left)
   block-done n ts rest left done at same =
       ap (λ r. r >>= closes) (sym same ∙ ap (with_front done) (many-end (next_stmt stmt) n rest (ap (stmt_unless stmt rest) (sym at))))

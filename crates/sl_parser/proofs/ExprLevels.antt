@@ -8,7 +8,7 @@ use Rattle.sl_lexer.specs.declared.token.Token.{Token}
 use Rattle.sl_lexer.specs.declared.token.TokenKind.{TokenKind}
 use Rattle.sl_lexer.specs.declared.token.TokenKind.TheVariants as kinds
 use Rattle.sl_lexer.specs.declared.token.Mark.TheVariants.{LeftParen, RightParen, LeftBrace, RightBrace, Semicolon, Comma, Question, Colon}
-use Rattle.sl_expression_grammar.specs.Reading.{Reads, behind, line_behind, is_mark, too_deep}
+use Rattle.sl_expression_grammar.specs.Reading.{Reads, rest_after, line_and_rest, is_mark, too_deep}
 use Rattle.sl_expression_grammar.specs.Expressions.{expr_with, space_at, typed_with, prim_in, prim_with, prefix_at, unary_then, unary_with, deep_typed, deep_operand, begins_expr, expr_at, unary_at, prim_at}
 use Rattle.sl_parser.specs.Spelled.{spelled, spelled_space, spelled_prefix}
 use Rattle.sl_parser.proofs.Fronts.{prefix_at_is, space_at_is}
@@ -21,7 +21,7 @@ typed_ok n expr prim ok prim_fine kind line rest ts t =
     let s = space_at rest in
     let space : Takes rest (spelled_space s.0) s.1 = record { text = space_at_is rest } in
     good_more (typed_with expr prim kind line rest) (IsPart (1 + n) ts) (IsPart (suc n) ts)
-    (value_ok n expr prim ok prim_fine kind line ts s.0 s.1 (and_then t space) (line_behind LeftParen s.1) refl)
+    (value_ok n expr prim ok prim_fine kind line ts s.0 s.1 (and_then t space) (line_and_rest LeftParen s.1) refl)
     (λ x after p. record { takes = p.takes; levels = omega (arith, p.levels) })
 
 module _ (n : ℕ) (expr : List Token → Reads S.Expr) (ok : (ts : List Token) → Good (expr ts) (IsExpr n ts)) (typed : SlType → ℕ → List Token → List Token → Reads S.Expr)
@@ -29,7 +29,7 @@ module _ (n : ℕ) (expr : List Token → Reads S.Expr) (ok : (ts : List Token) 
   prim_on : (k : TokenKind) (line : ℕ) (rest ts : List Token) → Takes ts (k ∷ []) rest → Good (prim_in expr typed k line rest ts) (IsPart n ts)
   prim_on (kinds.Number text) line rest ts t = record { takes = t; levels = omega arith }
   prim_on (kinds.Str text) line rest ts t = record { takes = t; levels = omega arith }
-  prim_on (kinds.Name name) line rest ts t = name_on n expr ok ts rest name line t (behind (is_mark LeftParen) rest) refl
+  prim_on (kinds.Name name) line rest ts t = name_on n expr ok ts rest name line t (rest_after (is_mark LeftParen) rest) refl
   prim_on (kinds.Mark LeftParen) line rest ts t = paren_ok n expr ok ts rest line t
   prim_on (kinds.Mark RightParen) line rest ts t = tt
   prim_on (kinds.Mark LeftBrace) line rest ts t = tt

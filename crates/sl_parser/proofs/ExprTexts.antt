@@ -10,10 +10,10 @@ use Rattle.sl_lexer.specs.declared.token.Token.{Token}
 use Rattle.sl_lexer.specs.declared.token.TokenKind.{TokenKind}
 use Rattle.sl_lexer.specs.declared.token.TokenKind.TheVariants as kinds
 use Rattle.sl_lexer.specs.declared.token.Mark.TheVariants.{LeftParen, RightParen, Comma, Question, Colon}
-use Rattle.sl_expression_grammar.specs.Reading.{Reads, with_front, many, after_comma, commas, behind, line_behind, is_mark}
+use Rattle.sl_expression_grammar.specs.Reading.{Reads, with_front, many, after_comma, commas, rest_after, line_and_rest, is_mark}
 use Rattle.sl_expression_grammar.specs.Expressions.{link, next_link, operator_at, most_links, chain_of, links_in, chain, chains, choice_then, expr_with, args_with, args_in, name_then, paren_with, triple_then, value_then}
 use Rattle.sl_parser.specs.Spelled.{spelled, spelled_args, spelled_more, spelled_links, spelled_space}
-use Rattle.sl_parser.proofs.Fronts.{mapped, operator_at_is, line_behind_is, mark_behind}
+use Rattle.sl_parser.proofs.Fronts.{mapped, operator_at_is, line_after_is, mark_after}
 use Rattle.sl_parser.proofs.Good.{Good, good_bind, good_past, good_front, good_many, comma_each, Takes, and_then}
 
 pub record Spells {A : Type 0} (spell : A → List TokenKind) (level : A → ℕ) (n : ℕ) (ts : List Token) (x : A) (rest : List Token) : Type 0 where
@@ -68,10 +68,10 @@ chains_ok n unary ok =
     chain_ok n rows.Or _ (chain_ok n rows.And _ (chain_ok n rows.Equality _ (chain_ok n rows.Relation _ (chain_ok n rows.Sum _ (chain_ok n rows.Cross _ (chain_ok n rows.Product _ (chain_ok n rows.Dot unary ok)))))))
 
 module _ (n : ℕ) (expr : List Token → Reads S.Expr) (ok : (ts : List Token) → Good (expr ts) (IsExpr n ts)) where
-  choice_ok : (ts after : List Token) (t : S.Expr) → IsPart n ts t after → (o : Option (ℕ × List Token)) → line_behind Question after ≡ o → Good (choice_then expr t after o) (IsPart n ts)
+  choice_ok : (ts after : List Token) (t : S.Expr) → IsPart n ts t after → (o : Option (ℕ × List Token)) → line_and_rest Question after ≡ o → Good (choice_then expr t after o) (IsPart n ts)
   choice_ok ts after t p None e = p
   choice_ok ts after t p (Some q) e =
-      let mark : Takes after (kinds.Mark Question ∷ []) q.1 = record { text = line_behind_is Question after q e } in
+      let mark : Takes after (kinds.Mark Question ∷ []) q.1 = record { text = line_after_is Question after q e } in
       good_bind (expr q.1) _ (IsExpr n q.1) (IsPart n ts) (ok q.1) (λ x a.
       good_past Colon x.1 _ (IsPart n ts) (λ rest colon.
       good_bind (expr rest) (λ second. Ok (S.choice t x.0 second.0 q.0, second.1)) (IsExpr n rest) (IsPart n ts) (ok rest) (λ y b.
@@ -79,8 +79,8 @@ module _ (n : ℕ) (expr : List Token → Reads S.Expr) (ok : (ts : List Token) 
 
   pub expr_ok : (unary : List Token → Reads S.Expr) → ((ts : List Token) → Good (unary ts) (IsPart n ts)) → (ts : List Token) → Good (expr_with unary expr ts) (IsPart n ts)
   expr_ok unary u ts =
-      good_bind (chains unary ts) (λ test. choice_then expr test.0 test.1 (line_behind Question test.1)) (IsPart n ts) (IsPart n ts) (chains_ok n unary u ts)
-      (λ x p. choice_ok ts x.1 x.0 p (line_behind Question x.1) refl)
+      good_bind (chains unary ts) (λ test. choice_then expr test.0 test.1 (line_and_rest Question test.1)) (IsPart n ts) (IsPart n ts) (chains_ok n unary u ts)
+      (λ x p. choice_ok ts x.1 x.0 p (line_and_rest Question x.1) refl)
 
   abbrev IsMore : List Token → List S.Expr → List Token → Type 0
   IsMore = Spells (λ es. spelled_more (S.exprs es)) (λ es. within_args (S.exprs es)) n
@@ -104,18 +104,18 @@ module _ (n : ℕ) (expr : List Token → Reads S.Expr) (ok : (ts : List Token) 
       good_front x.0 (many (after_comma expr) (length x.1) x.1) (IsMore x.1) (IsItems ts) (more_ok (length x.1) x.1)
       (λ xs rest q. record { takes = and_then p.takes q.takes; levels = omega (arith, p.levels, q.levels) }))
 
-  args_on : (ts : List Token) (o : Option (List Token)) → behind (is_mark RightParen) ts ≡ o → Good (args_with expr ts o) (IsArgs ts)
-  args_on ts (Some rest) e = record { takes = record { text = mark_behind RightParen ts rest e }; levels = omega arith }
+  args_on : (ts : List Token) (o : Option (List Token)) → rest_after (is_mark RightParen) ts ≡ o → Good (args_with expr ts o) (IsArgs ts)
+  args_on ts (Some rest) e = record { takes = record { text = mark_after RightParen ts rest e }; levels = omega arith }
   args_on ts None e =
       good_bind (commas expr ts) _ (IsItems ts) (IsArgs ts) (items_ok ts) (λ x p.
       good_past RightParen x.1 (λ rest. Ok (x.0, rest)) (IsArgs ts) (λ rest close. record { takes = and_then p.takes close; levels = p.levels }))
 
-  pub name_on : (before ts : List Token) (name : List ℕ) (line : ℕ) → Takes before (kinds.Name name ∷ []) ts → (o : Option (List Token)) → behind (is_mark LeftParen) ts ≡ o
+  pub name_on : (before ts : List Token) (name : List ℕ) (line : ℕ) → Takes before (kinds.Name name ∷ []) ts → (o : Option (List Token)) → rest_after (is_mark LeftParen) ts ≡ o
       → Good (name_then expr name line ts o) (IsPart n before)
   name_on before ts name line t None e = record { takes = t; levels = omega arith }
   name_on before ts name line t (Some inside) e =
-      let mark : Takes ts (kinds.Mark LeftParen ∷ []) inside = record { text = mark_behind LeftParen ts inside e } in
-      good_bind (args_in expr inside) (λ args. Ok (S.call name (S.exprs args.0) line, args.1)) (IsArgs inside) (IsPart n before) (args_on inside (behind (is_mark RightParen) inside) refl)
+      let mark : Takes ts (kinds.Mark LeftParen ∷ []) inside = record { text = mark_after LeftParen ts inside e } in
+      good_bind (args_in expr inside) (λ args. Ok (S.call name (S.exprs args.0) line, args.1)) (IsArgs inside) (IsPart n before) (args_on inside (rest_after (is_mark RightParen) inside) refl)
       (λ x p. record { takes = and_then t (and_then mark p.takes); levels = p.levels })
 
   pub paren_ok : (before ts : List Token) (line : ℕ) → Takes before (kinds.Mark LeftParen ∷ []) ts → Good (paren_with expr line ts) (IsPart n before)
@@ -124,17 +124,17 @@ module _ (n : ℕ) (expr : List Token → Reads S.Expr) (ok : (ts : List Token) 
       good_past RightParen x.1 (λ rest. Ok (S.paren x.0 line, rest)) (IsPart n before) (λ rest close.
       record { takes = and_then t (and_then p.takes close); levels = omega (arith, p.levels) }))
 
--- behind a type that has opened its level
+-- after a type that has opened its level
 module _ (n : ℕ) (expr prim : List Token → Reads S.Expr) (ok : (ts : List Token) → Good (expr ts) (IsExpr n ts)) (prim_fine : (ts : List Token) → Good (prim ts) (IsPart n ts))
     (kind : SlType) (line : ℕ) (before : List Token) (space : Option Space) (inside : List Token)
     (t : Takes before (kinds.Type kind ∷ spelled_space space) inside) where
-  triple_ok : (inner : ℕ) (ts after : List Token) (x : S.Expr) → Takes inside (kinds.Mark LeftParen ∷ []) ts → IsExpr n ts x after → (o : Option (List Token)) → behind (is_mark Comma) after ≡ o
+  triple_ok : (inner : ℕ) (ts after : List Token) (x : S.Expr) → Takes inside (kinds.Mark LeftParen ∷ []) ts → IsExpr n ts x after → (o : Option (List Token)) → rest_after (is_mark Comma) after ≡ o
       → Good (triple_then expr kind space line inner x after o) (IsPart (1 + n) before)
   triple_ok inner ts after x paren p None e =
       good_past RightParen after (λ rest. Ok (S.typed kind space (S.paren x inner) line, rest)) (IsPart (1 + n) before) (λ rest close.
       record { takes = and_then t (and_then paren (and_then p.takes close)); levels = omega (arith, p.levels) })
   triple_ok inner ts after x paren p (Some second) e =
-      let comma : Takes after (kinds.Mark Comma ∷ []) second = record { text = mark_behind Comma after second e } in
+      let comma : Takes after (kinds.Mark Comma ∷ []) second = record { text = mark_after Comma after second e } in
       good_bind (expr second) _ (IsExpr n second) (IsPart (1 + n) before) (ok second) (λ y q.
       good_past Comma y.1 _ (IsPart (1 + n) before) (λ third comma_two.
       good_bind (expr third) _ (IsExpr n third) (IsPart (1 + n) before) (ok third) (λ z r.
@@ -144,11 +144,11 @@ module _ (n : ℕ) (expr prim : List Token → Reads S.Expr) (ok : (ts : List To
         levels = omega (arith, p.levels, q.levels, r.levels);
       }))))
 
-  pub value_ok : (o : Option (ℕ × List Token)) → line_behind LeftParen inside ≡ o → Good (value_then expr prim kind space line inside o) (IsPart (1 + n) before)
+  pub value_ok : (o : Option (ℕ × List Token)) → line_and_rest LeftParen inside ≡ o → Good (value_then expr prim kind space line inside o) (IsPart (1 + n) before)
   value_ok None e =
       good_bind (prim inside) (λ e. Ok (S.typed kind space e.0 line, e.1)) (IsPart n inside) (IsPart (1 + n) before) (prim_fine inside)
       (λ x p. record { takes = and_then t p.takes; levels = omega (arith, p.levels) })
   value_ok (Some q) e =
-      let paren : Takes inside (kinds.Mark LeftParen ∷ []) q.1 = record { text = line_behind_is LeftParen inside q e } in
-      good_bind (expr q.1) (λ x. triple_then expr kind space line q.0 x.0 x.1 (behind (is_mark Comma) x.1)) (IsExpr n q.1) (IsPart (1 + n) before) (ok q.1)
-      (λ x p. triple_ok q.0 q.1 x.1 x.0 paren p (behind (is_mark Comma) x.1) refl)
+      let paren : Takes inside (kinds.Mark LeftParen ∷ []) q.1 = record { text = line_after_is LeftParen inside q e } in
+      good_bind (expr q.1) (λ x. triple_then expr kind space line q.0 x.0 x.1 (rest_after (is_mark Comma) x.1)) (IsExpr n q.1) (IsPart (1 + n) before) (ok q.1)
+      (λ x p. triple_ok q.0 q.1 x.1 x.0 paren p (rest_after (is_mark Comma) x.1) refl)

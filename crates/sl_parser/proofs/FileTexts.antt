@@ -8,14 +8,14 @@ use Rattle.sl_lexer.specs.declared.token.Token.{Token}
 use Rattle.sl_lexer.specs.declared.token.TokenKind.TheVariants as kinds
 use Rattle.sl_lexer.specs.declared.token.Mark.TheVariants.{LeftParen, RightParen, LeftBrace, Semicolon}
 use Rattle.sl_lexer.specs.Tokens.{tokens_of, last_line}
-use Rattle.sl_expression_grammar.specs.Reading.{Reads, ◌>>=◌, with_front, many, behind, is_mark}
+use Rattle.sl_expression_grammar.specs.Reading.{Reads, ◌>>=◌, with_front, many, rest_after, is_mark}
 use Rattle.sl_expression_grammar.specs.Expressions.{expr_at}
 use Rattle.sl_parser.specs.declared.declarations.Valued.{Valued}
 use Rattle.sl_parser.specs.declared.declarations.Valued.TheVariants.{Always, Never}
 use Rattle.sl_parser.specs.Statements.{type_at, group_with, block_in, begins_stmt, stmt_opened, stmt_at}
 use Rattle.sl_parser.specs.Files.{unless_closed, goes_on, semicolon_at, next_group, Groups, groups_end, some_groups, groups_in, groups_with, body_at, function_with, next_function, functions_in, sort_at, shader_then, ended, file_of, placed, parsed}
 use Rattle.sl_parser.specs.Spelled.{kinds_of, spelled_stmt, spelled_end, further_groups, spelled_groups, spelled_list, spelled_block, spelled_function, spelled_functions, spelled_shader}
-use Rattle.sl_parser.proofs.Fronts.{mapped, mark_behind}
+use Rattle.sl_parser.proofs.Fronts.{mapped, mark_after}
 use Rattle.sl_parser.proofs.FrontNames.{type_at_is, sort_at_is}
 use Rattle.sl_parser.proofs.Good.{Good, good_bind, good_past, good_front, good_more, good_deep, good_many, Takes, and_then}
 use Rattle.sl_parser.proofs.ExprTexts.{Spells, nothing}
@@ -34,7 +34,7 @@ unless_is rest after (Some x) e = absurd (cc e)
 
 pub goes_on_is : (o : Option (List Token)) (after : List Token) → goes_on o ≡ Some after → o ≡ Some after
 goes_on_is None after e = absurd (cc e)
-goes_on_is (Some rest) after e = ap Some (unless_is rest after (behind (is_mark RightParen) rest) e)
+goes_on_is (Some rest) after e = ap Some (unless_is rest after (rest_after (is_mark RightParen) rest) e)
 
 module _ (n : ℕ) where
   module _ (valued : Valued) where
@@ -65,7 +65,7 @@ module _ (n : ℕ) where
     next_ok : (ts : List Token) (r : Reads S.Group) → next_group item ts ≡ Some r → Good r (IsNext ts)
     next_ok ts r e =
         let m = mapped item (semicolon_at ts) r e in
-        let t : Takes ts (kinds.Mark Semicolon ∷ []) m.0 = record { text = mark_behind Semicolon ts m.0 (goes_on_is (behind (is_mark Semicolon) ts) m.0 m.1.0) } in
+        let t : Takes ts (kinds.Mark Semicolon ∷ []) m.0 = record { text = mark_after Semicolon ts m.0 (goes_on_is (rest_after (is_mark Semicolon) ts) m.0 m.1.0) } in
         subst (λ r. Good r (IsNext ts)) m.1.1 (good_more (item m.0) (IsItem m.0) (IsNext ts) (item_ok m.0) (λ x rest p. (m.0, (t, p))))
 
     some_ok : (ts : List Token) → Good (some_groups item ts) (IsSome ts)
@@ -77,22 +77,22 @@ module _ (n : ℕ) where
         next_ok (length x.1) x.1)
         (λ xs rest q. record { takes = and_then p.takes q.takes; levels = omega (arith, p.levels, q.levels) }))
 
-    end_on : (before ts : List Token) (gs : List S.Group) → IsSome before gs ts → (o : Option (List Token)) → behind (is_mark Semicolon) ts ≡ o → Good (groups_end gs ts o) (IsGroups before)
+    end_on : (before ts : List Token) (gs : List S.Group) → IsSome before gs ts → (o : Option (List Token)) → rest_after (is_mark Semicolon) ts ≡ o → Good (groups_end gs ts o) (IsGroups before)
     end_on before ts gs p None e = good_past RightParen ts (λ rest. Ok ((gs, false), rest)) (IsGroups before) (λ rest u. record { takes = and_then p.takes u; levels = p.levels })
     end_on before ts gs p (Some after) e =
-        let t : Takes ts (kinds.Mark Semicolon ∷ []) after = record { text = mark_behind Semicolon ts after e } in
+        let t : Takes ts (kinds.Mark Semicolon ∷ []) after = record { text = mark_after Semicolon ts after e } in
         good_past RightParen after (λ rest. Ok ((gs, true), rest)) (IsGroups before) (λ rest u. record { takes = and_then p.takes (and_then t u); levels = p.levels })
 
-    groups_on : (ts : List Token) (o : Option (List Token)) → behind (is_mark RightParen) ts ≡ o → Good (groups_in item ts o) (IsGroups ts)
+    groups_on : (ts : List Token) (o : Option (List Token)) → rest_after (is_mark RightParen) ts ≡ o → Good (groups_in item ts o) (IsGroups ts)
     groups_on ts None e =
-        good_bind (some_groups item ts) (λ groups. groups_end groups.0 groups.1 (behind (is_mark Semicolon) groups.1)) (IsSome ts) (IsGroups ts) (some_ok ts)
-        (λ x p. end_on ts x.1 x.0 p (behind (is_mark Semicolon) x.1) refl)
-    groups_on ts (Some rest) e = record { takes = record { text = mark_behind RightParen ts rest e }; levels = omega arith }
+        good_bind (some_groups item ts) (λ groups. groups_end groups.0 groups.1 (rest_after (is_mark Semicolon) groups.1)) (IsSome ts) (IsGroups ts) (some_ok ts)
+        (λ x p. end_on ts x.1 x.0 p (rest_after (is_mark Semicolon) x.1) refl)
+    groups_on ts (Some rest) e = record { takes = record { text = mark_after RightParen ts rest e }; levels = omega arith }
 
     list_ok : (ts : List Token) → Good (groups_with n valued ts) (IsList ts)
     list_ok ts =
-        good_past LeftParen ts (λ inside. groups_in item inside (behind (is_mark RightParen) inside)) (IsList ts) (λ inside t.
-        good_more (groups_in item inside (behind (is_mark RightParen) inside)) (IsGroups inside) (IsList ts) (groups_on inside (behind (is_mark RightParen) inside) refl)
+        good_past LeftParen ts (λ inside. groups_in item inside (rest_after (is_mark RightParen) inside)) (IsList ts) (λ inside t.
+        good_more (groups_in item inside (rest_after (is_mark RightParen) inside)) (IsGroups inside) (IsList ts) (groups_on inside (rest_after (is_mark RightParen) inside) refl)
         (λ x rest p. record { takes = and_then t p.takes; levels = p.levels }))
 
   abbrev IsBody : List Token → List S.Stmt → List Token → Type 0

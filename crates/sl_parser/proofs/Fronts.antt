@@ -11,7 +11,7 @@ use Rattle.sl_lexer.specs.declared.token.Mark.TheVariants as marks
 use Rattle.sl_ast.specs.declared.kinds.Operator.TheVariants as operators
 use Rattle.sl_ast.specs.declared.kinds.Prefix.{Prefix}
 use Rattle.sl_ast.specs.declared.kinds.Prefix.TheVariants as prefixes
-use Rattle.sl_expression_grammar.specs.Reading.{same_mark, is_mark, behind, line_behind, head_is}
+use Rattle.sl_expression_grammar.specs.Reading.{same_mark, is_mark, rest_after, line_and_rest, head_is}
 use Rattle.sl_expression_grammar.specs.Expressions.{same_row, row_of, operator_in, operator_at, prefix_in, prefix_at, begins_prim, space_when, space_in, space_at}
 use Rattle.sl_parser.specs.Spelled.{kinds_of, spelled_prefix, spelled_space}
 use Rattle.sl_parser.proofs.Never.{not_true, not_some}
@@ -109,17 +109,17 @@ pub mapped : {A B : Type 0} (f : A → B) (o : Option A) (y : B) → option_map 
 mapped f None y e = not_some e
 mapped f (Some x) y e = (x, (refl, cc))
 
-pub behind_is : (p : TokenKind → Bool) (k : TokenKind) → ((j : TokenKind) → p j ≡ true → j ≡ k) → (ts rest : List Token) → behind p ts ≡ Some rest → kinds_of ts ≡ k ∷ kinds_of rest
-behind_is p k only [] rest h = not_some h
-behind_is p k only (t ∷ ts) rest h =
+pub after_is : (p : TokenKind → Bool) (k : TokenKind) → ((j : TokenKind) → p j ≡ true → j ≡ k) → (ts rest : List Token) → rest_after p ts ≡ Some rest → kinds_of ts ≡ k ∷ kinds_of rest
+after_is p k only [] rest h = not_some h
+after_is p k only (t ∷ ts) rest h =
     let e = passed (p t.kind) ts rest h in ap (λ j. j ∷ kinds_of ts) (only t.kind e.0) ∙ ap (λ us. k ∷ kinds_of us) e.1
 
-pub mark_behind : (mark : Mark) (ts rest : List Token) → behind (is_mark mark) ts ≡ Some rest → kinds_of ts ≡ kinds.Mark mark ∷ kinds_of rest
-mark_behind mark ts rest h = behind_is (is_mark mark) (kinds.Mark mark) (is_mark_is mark) ts rest h
+pub mark_after : (mark : Mark) (ts rest : List Token) → rest_after (is_mark mark) ts ≡ Some rest → kinds_of ts ≡ kinds.Mark mark ∷ kinds_of rest
+mark_after mark ts rest h = after_is (is_mark mark) (kinds.Mark mark) (is_mark_is mark) ts rest h
 
-pub line_behind_is : (mark : Mark) (ts : List Token) (o : ℕ × List Token) → line_behind mark ts ≡ Some o → kinds_of ts ≡ kinds.Mark mark ∷ kinds_of o.1
-line_behind_is mark [] o h = not_some h
-line_behind_is mark (t ∷ ts) o h =
+pub line_after_is : (mark : Mark) (ts : List Token) (o : ℕ × List Token) → line_and_rest mark ts ≡ Some o → kinds_of ts ≡ kinds.Mark mark ∷ kinds_of o.1
+line_after_is mark [] o h = not_some h
+line_after_is mark (t ∷ ts) o h =
     let here : ℕ × List Token = (t.line, ts) in
     let e = passed (is_mark mark t.kind) here o h in
     ap (λ j. j ∷ kinds_of ts) (is_mark_is mark t.kind e.0) ∙ ap (λ x. kinds.Mark mark ∷ kinds_of x.1) e.1

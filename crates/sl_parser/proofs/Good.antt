@@ -5,11 +5,11 @@ use Rattle.sl_lexer.specs.declared.token.TokenKind.{TokenKind}
 use Rattle.sl_lexer.specs.declared.token.TokenKind.TheVariants as kinds
 use Rattle.sl_lexer.specs.declared.token.Mark.{Mark}
 use Rattle.sl_lexer.specs.declared.token.Mark.TheVariants.{Comma}
-use Rattle.sl_expression_grammar.specs.Reading.{Reads, ◌>>=◌, with_front, many_then, many, after_comma, go_on, past, behind, is_mark, is_bad, code_for, head_is, too_deep}
+use Rattle.sl_expression_grammar.specs.Reading.{Reads, ◌>>=◌, with_front, many_then, many, after_comma, go_on, past, rest_after, is_mark, is_bad, code_for, head_is, too_deep}
 use Rattle.sl_expression_grammar.specs.declared.fault.SlCode.{SlCode}
 use Rattle.sl_expression_grammar.specs.declared.fault.SlCode.TheVariants.{P3}
 use Rattle.sl_parser.specs.Spelled.{kinds_of}
-use Rattle.sl_parser.proofs.Fronts.{mark_behind, mapped}
+use Rattle.sl_parser.proofs.Fronts.{mark_after, mapped}
 
 abbrev pub Good : {A : Type 0} → Reads A → (A → List Token → Type 0) → Type 0
 Good (Ok x) P = P x.0 x.1
@@ -27,14 +27,14 @@ pub record Takes (ts : List Token) (ks : List TokenKind) (rest : List Token) : T
 pub and_then : {a b c : List Token} {x y : List TokenKind} → Takes a x b → Takes b y c → Takes a (x ++ y) c
 and_then {c = c} {x = x} {y = y} p q = record { text = p.text ∙ ap (λ z. x ++ z) q.text ∙ sym (append_assoc x y (kinds_of c)) }
 
-past_on : {B : Type 0} (mark : Mark) (ts : List Token) (go : List Token → Reads B) (Q : B → List Token → Type 0) (o : Option (List Token)) → behind (is_mark mark) ts ≡ o
+past_on : {B : Type 0} (mark : Mark) (ts : List Token) (go : List Token → Reads B) (Q : B → List Token → Type 0) (o : Option (List Token)) → rest_after (is_mark mark) ts ≡ o
     → ((rest : List Token) → Takes ts (kinds.Mark mark ∷ []) rest → Good (go rest) Q) → Good (go_on ts go o) Q
 past_on mark ts go Q None e h = tt
-past_on mark ts go Q (Some rest) e h = h rest (record { text = mark_behind mark ts rest e })
+past_on mark ts go Q (Some rest) e h = h rest (record { text = mark_after mark ts rest e })
 
 pub good_past : {B : Type 0} (mark : Mark) (ts : List Token) (go : List Token → Reads B) (Q : B → List Token → Type 0)
     → ((rest : List Token) → Takes ts (kinds.Mark mark ∷ []) rest → Good (go rest) Q) → Good (past mark ts go) Q
-good_past mark ts go Q h = past_on mark ts go Q (behind (is_mark mark) ts) refl h
+good_past mark ts go Q h = past_on mark ts go Q (rest_after (is_mark mark) ts) refl h
 
 pub good_front : {A : Type 0} (x : A) (r : Reads (List A)) (P Q : List A → List Token → Type 0) → Good r P → ((xs : List A) (rest : List Token) → P xs rest → Q (x ∷ xs) rest) → Good (with_front (x ∷ []) r) Q
 good_front x (Ok y) P Q g h = h y.0 y.1 g
@@ -65,12 +65,12 @@ pub good_more : {A : Type 0} (r : Reads A) (P Q : A → List Token → Type 0) �
 good_more (Ok x) P Q g h = h x.0 x.1 g
 good_more (Err e) P Q g h = tt
 
--- an item behind a comma
+-- an item after a comma
 pub comma_each : {A : Type 0} (item : List Token → Reads A) (P : List Token → A → List Token → Type 0) → ((ts : List Token) → Good (item ts) (P ts))
     → (ts : List Token) (r : Reads A) → after_comma item ts ≡ Some r
     → Good r (λ x rest. (after : List Token) × (Takes ts (kinds.Mark Comma ∷ []) after × P after x rest))
 comma_each item P ok ts r e =
-    let m = mapped item (behind (is_mark Comma) ts) r e in
-    let t : Takes ts (kinds.Mark Comma ∷ []) m.0 = record { text = mark_behind Comma ts m.0 m.1.0 } in
+    let m = mapped item (rest_after (is_mark Comma) ts) r e in
+    let t : Takes ts (kinds.Mark Comma ∷ []) m.0 = record { text = mark_after Comma ts m.0 m.1.0 } in
     subst (λ r. Good r (λ x rest. (after : List Token) × (Takes ts (kinds.Mark Comma ∷ []) after × P after x rest))) m.1.1
     (good_more (item m.0) (P m.0) (λ x rest. (after : List Token) × (Takes ts (kinds.Mark Comma ∷ []) after × P after x rest)) (ok m.0) (λ x rest p. (m.0, (t, p))))

@@ -14,12 +14,12 @@ use Rattle.sl_lexer.specs.declared.token.TokenKind.TheVariants as kinds
 use Rattle.sl_lexer.specs.declared.token.Word.{Word}
 use Rattle.sl_lexer.specs.declared.token.Word.TheVariants as words
 use Rattle.sl_lexer.specs.declared.token.Mark.TheVariants.{LeftParen, RightParen, LeftBrace, RightBrace, Semicolon, Comma, Question, Colon}
-use Rattle.sl_expression_grammar.specs.Reading.{Reads, with_front, many, after_comma, commas, behind, is_mark, head_is}
+use Rattle.sl_expression_grammar.specs.Reading.{Reads, with_front, many, after_comma, commas, rest_after, is_mark, head_is}
 use Rattle.sl_parser.specs.declared.declarations.Valued.{Valued}
 use Rattle.sl_parser.specs.declared.declarations.Valued.TheVariants.{Always, Never, Freely}
-use Rattle.sl_parser.specs.Statements.{front_line, name_at, named_then, named, set_at, set_then, set_with, type_at, class_at, is_equals, value_behind, value_then, value_with, declared_with, group_then, group_with, is_else, stmt_unless, next_stmt, block_in, test_with, else_then, if_with, while_with, set_or, is_name, set_maybe, For, for_head, for_with, pair_with, cone_then, cone_in, lights_head, lights_with, solar_head, solar_with, return_with, assign_with, declare_with, word_with, stmt_in, stmt_opened}
+use Rattle.sl_parser.specs.Statements.{front_line, name_at, named_then, named, set_at, set_then, set_with, type_at, class_at, is_equals, value_after, value_then, value_with, declared_with, group_then, group_with, is_else, stmt_unless, next_stmt, block_in, test_with, else_then, if_with, while_with, set_or, is_name, set_maybe, For, for_head, for_with, pair_with, cone_then, cone_in, lights_head, lights_with, solar_head, solar_with, return_with, assign_with, declare_with, word_with, stmt_in, stmt_opened}
 use Rattle.sl_parser.specs.Spelled.{spelled, spelled_set, spelled_maybe, spelled_value, spelled_declared, spelled_further, spelled_names, spelled_class, spelled_group, spelled_pair, spelled_cone, spelled_light, spelled_test, spelled_for, spelled_stmt, spelled_stmts}
-use Rattle.sl_parser.proofs.Fronts.{behind_is, mark_behind}
+use Rattle.sl_parser.proofs.Fronts.{after_is, mark_after}
 use Rattle.sl_parser.proofs.FrontNames.{name_at_is, set_at_is, type_at_is, class_at_is, is_equals_is, is_else_is}
 use Rattle.sl_parser.proofs.Good.{Good, good_bind, good_past, good_front, good_more, good_many, comma_each, Takes, and_then}
 use Rattle.sl_parser.proofs.ExprTexts.{Spells, IsExpr, nothing}
@@ -57,7 +57,7 @@ module _ (n : ℕ) (expr : List Token → Reads S.Expr) (ok : (ts : List Token) 
   pub set_ok : (ts : List Token) → Good (set_with expr ts) (IsSet ts)
   set_ok ts = good_named ts _ (IsSet ts) (λ name line rest t. set_on ts rest name line (front_line rest) t (set_at rest) refl)
 
-  given : (before rest : List Token) → Takes before (kinds.Set sets.Set ∷ []) rest → Good (value_behind expr rest) (IsValue before)
+  given : (before rest : List Token) → Takes before (kinds.Set sets.Set ∷ []) rest → Good (value_after expr rest) (IsValue before)
   given before rest t =
       good_bind (expr rest) (λ e. Ok (Some e.0, e.1)) (IsExpr n rest) (IsValue before) (ok rest)
       (λ x p. record { takes = and_then t p.takes; levels = p.levels })
@@ -65,11 +65,11 @@ module _ (n : ℕ) (expr : List Token → Reads S.Expr) (ok : (ts : List Token) 
   missing : (ts : List Token) → IsValue ts None ts
   missing ts = record { takes = nothing ts; levels = omega arith }
 
-  value_on : (valued : Valued) (ts : List Token) (o : Option (List Token)) → behind is_equals ts ≡ o → Good (value_then expr valued ts o) (IsValue ts)
+  value_on : (valued : Valued) (ts : List Token) (o : Option (List Token)) → rest_after is_equals ts ≡ o → Good (value_then expr valued ts o) (IsValue ts)
   value_on Always ts None e = tt
-  value_on Always ts (Some rest) e = given ts rest (record { text = behind_is is_equals (kinds.Set sets.Set) is_equals_is ts rest e })
+  value_on Always ts (Some rest) e = given ts rest (record { text = after_is is_equals (kinds.Set sets.Set) is_equals_is ts rest e })
   value_on Freely ts None e = missing ts
-  value_on Freely ts (Some rest) e = given ts rest (record { text = behind_is is_equals (kinds.Set sets.Set) is_equals_is ts rest e })
+  value_on Freely ts (Some rest) e = given ts rest (record { text = after_is is_equals (kinds.Set sets.Set) is_equals_is ts rest e })
   value_on Never ts None e = missing ts
   value_on Never ts (Some rest) e = missing ts
 
@@ -77,7 +77,7 @@ module _ (n : ℕ) (expr : List Token → Reads S.Expr) (ok : (ts : List Token) 
   declared_ok valued ts =
       good_named ts _ (IsDeclared ts) (λ name line rest t.
       good_bind (value_with expr valued rest) (λ value. Ok (record { name = name; value = value.0; line = line; set_line = front_line rest }, value.1)) (IsValue rest) (IsDeclared ts)
-      (value_on valued rest (behind is_equals rest) refl) (λ x p. record { takes = and_then t p.takes; levels = p.levels }))
+      (value_on valued rest (rest_after is_equals rest) refl) (λ x p. record { takes = and_then t p.takes; levels = p.levels }))
 
   abbrev IsFurther : List Token → List S.Declared → List Token → Type 0
   IsFurther = Spells spelled_further levels_names n
@@ -160,10 +160,10 @@ module _ (n : ℕ) (expr : List Token → Reads S.Expr) (ok : (ts : List Token) 
   abbrev IsCone : List Token → Option (S.Expr × S.Expr) → List Token → Type 0
   IsCone = Spells spelled_cone levels_cone n
 
-  cone_on : (ts : List Token) (o : Option (List Token)) → behind (is_mark Comma) ts ≡ o → Good (cone_then expr ts o) (IsCone ts)
+  cone_on : (ts : List Token) (o : Option (List Token)) → rest_after (is_mark Comma) ts ≡ o → Good (cone_then expr ts o) (IsCone ts)
   cone_on ts None e = good_past RightParen ts (λ rest. Ok (None, rest)) (IsCone ts) (λ rest u. record { takes = u; levels = omega arith })
   cone_on ts (Some inside) e =
-      let t : Takes ts (kinds.Mark Comma ∷ []) inside = record { text = mark_behind Comma ts inside e } in
+      let t : Takes ts (kinds.Mark Comma ∷ []) inside = record { text = mark_after Comma ts inside e } in
       good_bind (pair_with expr inside) (λ cone. Ok (Some cone.0, cone.1)) (IsPair inside) (IsCone ts) (pair_ok inside)
       (λ x p. record { takes = and_then t p.takes; levels = p.levels })
 
@@ -174,7 +174,7 @@ module _ (n : ℕ) (expr : List Token → Reads S.Expr) (ok : (ts : List Token) 
   place_ok ts =
       good_past LeftParen ts _ (IsPlace ts) (λ inside t.
       good_bind (expr inside) _ (IsExpr n inside) (IsPlace ts) (ok inside) (λ a p.
-      good_bind (cone_in expr a.1) (λ cone. Ok ((a.0, cone.0), cone.1)) (IsCone a.1) (IsPlace ts) (cone_on a.1 (behind (is_mark Comma) a.1) refl) (λ c q.
+      good_bind (cone_in expr a.1) (λ cone. Ok ((a.0, cone.0), cone.1)) (IsCone a.1) (IsPlace ts) (cone_on a.1 (rest_after (is_mark Comma) a.1) refl) (λ c q.
       record { takes = and_then t (and_then p.takes q.takes); levels = omega (arith, p.levels, q.levels) })))
 
   abbrev IsSun : List Token → S.Expr × S.Expr → List Token → Type 0
@@ -211,23 +211,23 @@ module _ (n : ℕ) (expr : List Token → Reads S.Expr) (ok : (ts : List Token) 
         good_bind (many (next_stmt stmt) (length ts + 1) ts) _ (IsStmts ts) (IsBlock ts)
         (good_many (next_stmt stmt) IsInner IsStmts (λ ts. record { takes = nothing ts; levels = omega arith })
         (λ ts rest left x xs p q. record { takes = and_then p.takes q.takes; levels = omega (arith, p.levels, q.levels) })
-        (λ ts r e. unless_on ts (behind (is_mark RightBrace) ts) r e) (length ts + 1) ts) (λ x p.
+        (λ ts r e. unless_on ts (rest_after (is_mark RightBrace) ts) r e) (length ts + 1) ts) (λ x p.
         good_past RightBrace x.1 (λ rest. Ok (x.0, rest)) (IsBlock ts) (λ rest u. record { takes = and_then p.takes u; levels = p.levels }))
 
     module _ (before : List Token) (line : ℕ) where
       else_on : (after : List Token) (e : S.Expr) (s : S.Stmt) (mid : List Token) → Takes before (kinds.Word words.If ∷ spelled_test e) mid → levels_of e ≤ n → IsInner mid s after
-          → (o : Option (List Token)) → behind is_else after ≡ o → Good (else_then stmt e s line after o) (IsOuter before)
+          → (o : Option (List Token)) → rest_after is_else after ≡ o → Good (else_then stmt e s line after o) (IsOuter before)
       else_on after e s mid t low p None h = record { takes = and_then t p.takes; levels = omega (arith, low, p.levels) }
       else_on after e s mid t low p (Some rest) h =
-          let u : Takes after (kinds.Word words.Else ∷ []) rest = record { text = behind_is is_else (kinds.Word words.Else) is_else_is after rest h } in
+          let u : Takes after (kinds.Word words.Else ∷ []) rest = record { text = after_is is_else (kinds.Word words.Else) is_else_is after rest h } in
           good_bind (stmt rest) (λ second. Ok (S.test_else e s second.0 line, second.1)) (IsInner rest) (IsOuter before) (fine rest)
           (λ x q. record { takes = and_then t (and_then p.takes (and_then u q.takes)); levels = omega (arith, low, p.levels, q.levels) })
 
       if_ok : (ts : List Token) → Takes before (kinds.Word words.If ∷ []) ts → Good (if_with stmt expr line ts) (IsOuter before)
       if_ok ts t =
           good_bind (test_with expr ts) _ (IsTest ts) (IsOuter before) (test_ok ts) (λ e p.
-          good_bind (stmt e.1) (λ first. else_then stmt e.0 first.0 line first.1 (behind is_else first.1)) (IsInner e.1) (IsOuter before) (fine e.1) (λ s q.
-          else_on s.1 e.0 s.0 e.1 (and_then t p.takes) p.levels q (behind is_else s.1) refl))
+          good_bind (stmt e.1) (λ first. else_then stmt e.0 first.0 line first.1 (rest_after is_else first.1)) (IsInner e.1) (IsOuter before) (fine e.1) (λ s q.
+          else_on s.1 e.0 s.0 e.1 (and_then t p.takes) p.levels q (rest_after is_else s.1) refl))
 
       while_ok : (ts : List Token) → Takes before (kinds.Word words.While ∷ []) ts → Good (while_with stmt expr line ts) (IsOuter before)
       while_ok ts t =

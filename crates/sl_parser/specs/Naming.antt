@@ -7,7 +7,7 @@ use Rattle.sl_expression_grammar.specs.declared.reading.Stop.TheVariants.{At, No
 use Rattle.sl_expression_grammar.specs.Reading.{head_is, is_bad, code_for}
 use Rattle.sl_parser.specs.Statements.{name_at}
 
--- the name with its line and the tokens behind it, or that none stands there
+-- the name with its line and the tokens after it, or that none stands there
 abbrev pub MatchName : List Token → Result (Bor (List ℕ) × ℕ × Bor (List Token)) Stop → Type 0
 MatchName ts (Ok n) = name_at ts ≡ Some (n.0.now, n.1, n.2.now)
 MatchName ts (Err (At code rest)) = (name_at ts ≡ None) × ((code ≡ code_for (head_is is_bad ts)) × (rest.now ≡ ts))

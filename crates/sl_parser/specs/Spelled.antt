@@ -44,7 +44,7 @@ abbrev mutual
   spelled_args none = []
   spelled_args (more e rest) = spelled e ++ spelled_more rest
 
-  -- each behind a comma
+  -- each after a comma
   pub spelled_more : Exprs → List TokenKind
   spelled_more none = []
   spelled_more (more e rest) = kinds.Mark Comma ∷ (spelled e ++ spelled_more rest)
@@ -126,7 +126,7 @@ abbrev pub spelled_end : Bool → List TokenKind
 spelled_end true = kinds.Mark Semicolon ∷ kinds.Mark RightParen ∷ []
 spelled_end false = kinds.Mark RightParen ∷ []
 
--- each behind a semicolon
+-- each after a semicolon
 abbrev pub further_groups : List Group → List TokenKind
 further_groups [] = []
 further_groups (g ∷ gs) = kinds.Mark Semicolon ∷ (spelled_group g ++ further_groups gs)

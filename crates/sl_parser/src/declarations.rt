@@ -1,7 +1,7 @@
 // Names, types and what declares them.
 ghost use Rattle.std.specs.Prelude.{◌≡◌, ◌≤◌, ◌<◌, [], ◌∷◌, IfOk, IfSome, length, option_map};
 ghost use Rattle.sl_ast.specs.SyntaxView.{declared_of, group_of};
-ghost use Rattle.sl_expression_grammar.specs.Reading.{head_is, behind, with_front, many, after_comma};
+ghost use Rattle.sl_expression_grammar.specs.Reading.{head_is, rest_after, with_front, many, after_comma};
 ghost use Rattle.sl_expression_grammar.specs.Expressions.{expr_at};
 ghost use Rattle.sl_expression_grammar.specs.Parsing.{Gives, GivesItems};
 ghost use Rattle.sl_expression_grammar.specs.Boxes.{boxed_expr};
@@ -12,7 +12,7 @@ ghost use Rattle.sl_parser.specs.Boxes.{boxed_assignment};
 use crate::nodes::{make_assignment, make_declared};
 use fixed_math::{List, Text};
 use sl_ast::{Assignment, Class, Declared, Expr, Group, SetOperator, SlType};
-use sl_expression_grammar::{Stop, behind, code_at, expr, push};
+use sl_expression_grammar::{Stop, code_at, expr, push, rest_after};
 use sl_lexer::{Mark, Token, TokenKind};
 use std::alloc::Global;
 
@@ -24,7 +24,7 @@ pub enum Valued {
     Freely,
 }
 
-// The name that has to stand at the front with its line, and the tokens behind it.
+// The name that has to stand at the front with its line, and the tokens after it.
 pub fn name(ts: &[Token]) -> Result<(&Text, u32, &[Token]), Stop<'_>>
     ensures gives { MatchName ts.now result }
     ensures within { IfOk result (λ n. length n.2.now < length ts.now) }
@@ -48,7 +48,7 @@ fn front_line(ts: &[Token]) -> u32
     }
 }
 
-// An operator that sets a variable, and the tokens behind it.
+// An operator that sets a variable, and the tokens after it.
 fn set_at(ts: &[Token]) -> Option<(SetOperator, &[Token])>
     ensures at { option_map (λ o. (o.0, o.1.now)) result ≡ set_at ts.now }
     ensures within { IfSome result (λ o. length o.1.now < length ts.now) }
@@ -62,7 +62,7 @@ fn set_at(ts: &[Token]) -> Option<(SetOperator, &[Token])>
     }
 }
 
-// A type at the front, and the tokens behind it.
+// A type at the front, and the tokens after it.
 pub fn type_at(ts: &[Token]) -> Option<(SlType, &[Token])>
     ensures at { option_map (λ o. (o.0, o.1.now)) result ≡ type_at ts.now }
     ensures within { IfSome result (λ o. length o.1.now < length ts.now) }
@@ -76,7 +76,7 @@ pub fn type_at(ts: &[Token]) -> Option<(SlType, &[Token])>
     }
 }
 
-// A class at the front, if there is one, and the tokens behind it.
+// A class at the front, if there is one, and the tokens after it.
 fn class_at(ts: &[Token]) -> (Option<Class>, &[Token])
     ensures at { IsClassAt result.0 result.1.now ts.now }
     ensures within { length result.1.now ≤ length ts.now }
@@ -90,9 +90,9 @@ fn class_at(ts: &[Token]) -> (Option<Class>, &[Token])
     }
 }
 
-// The tokens behind the equals sign of a declaration.
-fn behind_equals(ts: &[Token]) -> Option<&[Token]>
-    ensures at { option_map (λ o. o.now) result ≡ behind is_equals ts.now }
+// The tokens after the equals sign of a declaration.
+fn after_equals(ts: &[Token]) -> Option<&[Token]>
+    ensures at { option_map (λ o. o.now) result ≡ rest_after is_equals ts.now }
     ensures within { IfSome result (λ o. length o.now < length ts.now) }
 {
     match ts {
@@ -157,7 +157,7 @@ fn value<'a>(
     ensures gives { Gives (option_map boxed_expr) result (value_with (expr_at levels) valued ts.now) }
     ensures within { IfOk result (λ v. length v.1.now ≤ length ts.now) }
 {
-    match (valued, behind_equals(ts)) {
+    match (valued, after_equals(ts)) {
         (Valued::Never, _) => Ok((None, ts)),
         (_, Some(rest)) => {
             let (value, rest) = expr(alloc, levels, rest)?;
@@ -184,7 +184,7 @@ fn declared<'a>(
     make_declared(alloc, name, value, line, set_line, rest)
 }
 
-// Further names behind the first.
+// Further names after the first.
 fn further<'a>(
     alloc: Global,
     levels: u32,
@@ -198,7 +198,7 @@ fn further<'a>(
     let mut names = Vec::new(alloc);
     push(&mut names, first)?;
     let mut rest = ts;
-    while let Some(after) = behind(Mark::Comma, rest) {
+    while let Some(after) = rest_after(Mark::Comma, rest) {
         let (name, left) = declared(alloc, levels, valued, after)?;
         push(&mut names, name)?;
         rest = left;

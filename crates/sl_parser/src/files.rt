@@ -4,7 +4,7 @@ ghost use Rattle.sl_ast.specs.SyntaxView.{stmt_of, group_of, function_of};
 ghost use Rattle.sl_ast.specs.ShaderView.{shader_of};
 ghost use Rattle.sl_ast.specs.Levels.{levels_functions};
 ghost use Rattle.sl_lexer.specs.declared.token.Mark.TheVariants.{Semicolon};
-ghost use Rattle.sl_expression_grammar.specs.Reading.{with_front, many, behind, is_mark};
+ghost use Rattle.sl_expression_grammar.specs.Reading.{with_front, many, rest_after, is_mark};
 ghost use Rattle.sl_expression_grammar.specs.Expressions.{expr_at};
 ghost use Rattle.sl_expression_grammar.specs.Parsing.{Gives, GivesItems};
 ghost use Rattle.sl_parser.specs.Statements.{group_with};
@@ -15,24 +15,24 @@ use crate::nodes::make_function;
 use crate::statements::block;
 use fixed_math::List;
 use sl_ast::{Function, Group, Shader, SlKind, SlType, Stmt};
-use sl_expression_grammar::{Stop, behind, closed, code_at, past, push};
+use sl_expression_grammar::{Stop, closed, code_at, past, push, rest_after};
 use sl_lexer::{Mark, Token, TokenKind};
 use std::alloc::Global;
 
-/// Groups of declared names, and whether a semicolon stands behind the last.
+/// Groups of declared names, and whether a semicolon stands after the last.
 #[derive(Drop)]
 pub struct GroupList {
     pub groups: Vec<Group>,
     pub ended: bool,
 }
 
-// The tokens behind a semicolon that goes on with a list of groups.
-fn behind_semicolon(ts: &[Token]) -> Option<&[Token]>
+// The tokens after a semicolon that goes on with a list of groups.
+fn after_semicolon(ts: &[Token]) -> Option<&[Token]>
     ensures at { option_map (λ o. o.now) result ≡ semicolon_at ts.now }
     ensures within { IfSome result (λ o. length o.now < length ts.now) }
 {
-    match behind(Mark::Semicolon, ts) {
-        Some(rest) => match behind(Mark::RightParen, rest) {
+    match rest_after(Mark::Semicolon, ts) {
+        Some(rest) => match rest_after(Mark::RightParen, rest) {
             Some(_) => None,
             None => Some(rest),
         },
@@ -54,7 +54,7 @@ fn some_groups<'a>(
     further(alloc, levels, valued, first, rest)
 }
 
-// Further groups behind the first.
+// Further groups after the first.
 fn further<'a>(
     alloc: Global,
     levels: u32,
@@ -68,7 +68,7 @@ fn further<'a>(
     let mut groups = Vec::new(alloc);
     push(&mut groups, first)?;
     let mut rest = ts;
-    while let Some(after) = behind_semicolon(rest) {
+    while let Some(after) = after_semicolon(rest) {
         let (item, left) = group(alloc, levels, valued, after)?;
         push(&mut groups, item)?;
         rest = left;
@@ -76,12 +76,12 @@ fn further<'a>(
     Ok((groups, rest))
 }
 
-// The closing parenthesis behind groups, with a semicolon or none before it.
+// The closing parenthesis after groups, with a semicolon or none before it.
 fn groups_end<'a>(groups: Vec<Group>, ts: &'a [Token]) -> Result<(GroupList, &'a [Token]), Stop<'a>>
-    ensures gives { Gives (λ g. (map group_of g.groups.items, g.ended)) result (groups_end (map group_of groups.items) ts.now (behind (is_mark Semicolon) ts.now)) }
+    ensures gives { Gives (λ g. (map group_of g.groups.items, g.ended)) result (groups_end (map group_of groups.items) ts.now (rest_after (is_mark Semicolon) ts.now)) }
     ensures within { IfOk result (λ g. length g.1.now < length ts.now) }
 {
-    match behind(Mark::Semicolon, ts) {
+    match rest_after(Mark::Semicolon, ts) {
         None => {
             let ended = false;
             closed(GroupList { groups, ended }, Mark::RightParen, ts)
@@ -104,7 +104,7 @@ fn groups<'a>(
     ensures within { IfOk result (λ g. length g.1.now < length ts.now) }
 {
     let inside = past(Mark::LeftParen, ts)?;
-    if let Some(rest) = behind(Mark::RightParen, inside) {
+    if let Some(rest) = rest_after(Mark::RightParen, inside) {
         let groups = Vec::new(alloc);
         let ended = false;
         return Ok((GroupList { groups, ended }, rest));
@@ -126,7 +126,7 @@ fn body<'a>(
     block(alloc, levels, inside)
 }
 
-// A function behind its type.
+// A function after its type.
 fn function<'a>(
     alloc: Global,
     levels: u32,
@@ -162,7 +162,7 @@ fn functions<'a>(
     Ok((functions, rest))
 }
 
-// The word for a shader's kind with its line, and the tokens behind it.
+// The word for a shader's kind with its line, and the tokens after it.
 fn sort_at(ts: &[Token]) -> Option<(SlKind, u32, &[Token])>
     ensures at { option_map (λ o. (o.0, o.1, o.2.now)) result ≡ sort_at ts.now }
 {
@@ -175,7 +175,7 @@ fn sort_at(ts: &[Token]) -> Option<(SlKind, u32, &[Token])>
     }
 }
 
-// The shader behind its functions.
+// The shader after its functions.
 fn shader<'a>(
     alloc: Global,
     levels: u32,

@@ -1,4 +1,4 @@
-// What stands behind the first assignment in the parentheses of a `for`.
+// What stands after the first assignment in the parentheses of a `for`.
 ghost use Rattle.std.specs.Prelude.{◌<◌, IfOk, length, option_map};
 ghost use Rattle.sl_expression_grammar.specs.Expressions.{expr_at};
 ghost use Rattle.sl_expression_grammar.specs.Parsing.{Gives};

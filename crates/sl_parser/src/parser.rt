@@ -19,7 +19,7 @@ const LEVELS: u32 = 64;
 /// The tree of a shader's text by the grammar of the Shading Language (RenderMan Interface 3.2), or its first fault.
 ///
 /// P1 stands where no token begins, P2 where no text of the grammar goes on with the next token or ends, and P3 at the
-/// first token of the 65th open level. The line is that on which the faulty token begins, or that behind the last
+/// first token of the 65th open level. The line is that on which the faulty token begins, or that after the last
 /// line feed where the text ends.
 pub fn parse(alloc: Global, bytes: &[u8]) -> Result<Shader, SlFault>
     requires { length bytes.now ≤ 1048576 }

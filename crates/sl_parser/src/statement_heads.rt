@@ -1,4 +1,4 @@
-// What stands in the parentheses of statements, in boxes, since it is held while a statement is read behind it.
+// What stands in the parentheses of statements, in boxes, since it is held while a statement is read after it.
 ghost use Rattle.std.specs.Prelude.{◌<◌, IfOk, length, option_map};
 ghost use Rattle.sl_expression_grammar.specs.Expressions.{expr_at};
 ghost use Rattle.sl_expression_grammar.specs.Parsing.{Gives};
@@ -10,7 +10,7 @@ use crate::declarations::maybe_assignment;
 use crate::for_steps::for_test;
 use crate::nodes::make_cone;
 use sl_ast::{Assignment, Cone, Expr};
-use sl_expression_grammar::{Stop, behind, boxed, closed, expr, past};
+use sl_expression_grammar::{Stop, boxed, closed, expr, past, rest_after};
 use sl_lexer::{Mark, Token};
 use std::alloc::Global;
 
@@ -66,7 +66,7 @@ fn pair<'a>(
     make_cone(alloc, axis, angle, rest)
 }
 
-// An axis and an angle behind a comma, or none, and the parenthesis behind them.
+// An axis and an angle after a comma, or none, and the parenthesis after them.
 fn cone<'a>(
     alloc: Global,
     levels: u32,
@@ -75,7 +75,7 @@ fn cone<'a>(
     ensures gives { Gives (option_map boxed_cone) result (cone_in (expr_at levels) ts.now) }
     ensures within { IfOk result (λ c. length c.1.now < length ts.now) }
 {
-    let Some(inside) = behind(Mark::Comma, ts) else {
+    let Some(inside) = rest_after(Mark::Comma, ts) else {
         let rest = past(Mark::RightParen, ts)?;
         return Ok((None, rest));
     };

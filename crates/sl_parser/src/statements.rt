@@ -1,7 +1,7 @@
 // Statements from tokens.
 ghost use Rattle.std.specs.Prelude.{◌≡◌, ◌<◌, IfOk, IfSome, length, option_map};
 ghost use Rattle.sl_ast.specs.SyntaxView.{stmt_of};
-ghost use Rattle.sl_expression_grammar.specs.Reading.{head_is, behind};
+ghost use Rattle.sl_expression_grammar.specs.Reading.{head_is, rest_after};
 ghost use Rattle.sl_expression_grammar.specs.Expressions.{expr_at};
 ghost use Rattle.sl_expression_grammar.specs.Parsing.{Gives, GivesItems};
 ghost use Rattle.sl_parser.specs.Statements.{begins_stmt, is_else, block_in, if_with, while_with, for_with, lights_with, solar_with, return_with, assign_with, declare_with, leave_with, again_with, word_with, stmt_opened, stmt_at};
@@ -13,7 +13,9 @@ use crate::nodes::{
 };
 use crate::statement_heads::{for_head, lights_head, solar_head, test};
 use sl_ast::{LightWord, Stmt};
-use sl_expression_grammar::{SlCode, Stop, behind, boxed, closed, code_at, expr, past, push_boxed};
+use sl_expression_grammar::{
+    SlCode, Stop, boxed, closed, code_at, expr, past, push_boxed, rest_after,
+};
 use sl_lexer::{Mark, Token, TokenKind, Word};
 use std::alloc::Global;
 
@@ -33,9 +35,9 @@ fn begins_stmt(ts: &[Token]) -> bool
     }
 }
 
-// The tokens behind an `else` at the front.
-fn behind_else(ts: &[Token]) -> Option<&[Token]>
-    ensures at { option_map (λ o. o.now) result ≡ behind is_else ts.now }
+// The tokens after an `else` at the front.
+fn after_else(ts: &[Token]) -> Option<&[Token]>
+    ensures at { option_map (λ o. o.now) result ≡ rest_after is_else ts.now }
     ensures within { IfSome result (λ o. length o.now < length ts.now) }
 {
     match ts {
@@ -96,7 +98,7 @@ fn declaration<'a>(
     boxed(alloc, declare, rest)
 }
 
-// A `break` behind its word.
+// A `break` after its word.
 fn leave<'a>(
     alloc: Global,
     line: u32,
@@ -109,7 +111,7 @@ fn leave<'a>(
     boxed(alloc, Stmt::Break { line }, rest)
 }
 
-// A `continue` behind its word.
+// A `continue` after its word.
 fn again<'a>(
     alloc: Global,
     line: u32,
@@ -209,8 +211,8 @@ pub fn block<'a>(
     let mut body = Vec::new(alloc);
     let mut rest = ts;
     loop {
-        if let Some(behind) = behind(Mark::RightBrace, rest) {
-            return Ok((body, behind));
+        if let Some(tail) = rest_after(Mark::RightBrace, rest) {
+            return Ok((body, tail));
         }
         let (item, left) = stmt(alloc, levels, rest)?;
         push_boxed(&mut body, item)?;
@@ -231,7 +233,7 @@ fn choice<'a>(
 {
     let (test, rest) = test(alloc, levels, ts)?;
     let (then, rest) = stmt(alloc, levels, rest)?;
-    let Some(rest) = behind_else(rest) else {
+    let Some(rest) = after_else(rest) else {
         return make_if(alloc, test, then, line, rest);
     };
     let (otherwise, rest) = stmt(alloc, levels, rest)?;

@@ -57,7 +57,7 @@ links_inlined fs n e (l ∷ ls) =
     links_inlined fs n (T.linked e l) ls
     ∙ ap₂ (λ i j. tree_links fs n (A.apply l.operation (A.more (inline fs i e) (A.more (inline fs (i + count fs e) l.operand) A.none)) l.kind (at l.line k)) j ls) p q
 
--- one operator and those behind it
+-- one operator and those after it
 pub links_split : (xs : List TypedLink) (i : ℕ) (x : TypedLink) → i < length xs → x ≡ get_or xs i x → map tlink_of (drop i xs) ≡ tlink_of x ∷ map tlink_of (drop (i + 1) xs)
 links_split [] i x low is = absurd (omega (arith, low))
 links_split (y ∷ ys) zero x low is = ap (λ z. tlink_of z ∷ map tlink_of ys) (sym is)
@@ -80,17 +80,17 @@ light_link (y ∷ ys) (suc i) x low is = omega (arith, light_link ys i x (omega 
 pub pair_tree : (fs : List Built) (n : ℕ) (operation : Operation) (x y : T.Expr) (kind : NodeType) (line : ℕ) (p : Place) (a b : A.Expr) (m k : ℕ)
     → p ≡ at line n → m ≡ n + 1 → a ≡ inline fs m x → k ≡ m + count fs x → b ≡ inline fs k y
     → A.apply operation (A.more a (A.more b A.none)) kind p ≡ inline fs n (T.apply operation (T.more x (T.more y T.none)) kind line)
-pair_tree fs n operation x y kind line p a b m k place next tree behind other =
+pair_tree fs n operation x y kind line p a b m k place next tree after_it other =
     ap (λ q. A.apply operation (A.more a (A.more b A.none)) kind q) place
     ∙ ap₂ (λ u v. A.apply operation (A.more u (A.more v A.none)) kind (at line n)) (tree ∙ ap (λ i. inline fs i x) next)
-    (other ∙ ap (λ i. inline fs i y) (behind ∙ ap (λ i. i + count fs x) next))
+    (other ∙ ap (λ i. inline fs i y) (after_it ∙ ap (λ i. i + count fs x) next))
 
 pub call_tree : (fs : List Built) (n k : ℕ) (args : T.Exprs) (kind : NodeType) (line : ℕ) (p : Place) (a : A.Exprs) (m j : ℕ)
     → p ≡ at line n → j ≡ n + 1 → a ≡ inline_args fs j args → m ≡ j + count_args fs args
     → called_at (get_or fs k nothing) m a kind p ≡ inline fs n (T.call k args kind line)
-call_tree fs n k args kind line p a m j place next tree behind =
+call_tree fs n k args kind line p a m j place next tree after_it =
     ap (λ q. called_at (get_or fs k nothing) m a kind q) place
-    ∙ ap₂ (λ i b. called_at (get_or fs k nothing) i b kind (at line n)) (behind ∙ ap (λ i. i + count_args fs args) next) (tree ∙ ap (λ i. inline_args fs i args) next)
+    ∙ ap₂ (λ i b. called_at (get_or fs k nothing) i b kind (at line n)) (after_it ∙ ap (λ i. i + count_args fs args) next) (tree ∙ ap (λ i. inline_args fs i args) next)
 
 pub on_ok : {A E : Type 0} {P : Type 0} (r : Result A E) → P → OnOk r P
 on_ok (Ok x) p = p

@@ -89,12 +89,12 @@ extent_of_one : (fs : List Built) (formals : List Local) (body : Found Body) →
 extent_of_one fs formals (Ok b) = refl
 extent_of_one fs formals (Err e) = refl
 
-behind : (fs : List Built) (b : Built) (x : Extent) → b.extent ≡ x → extents_of (fs ++ b ∷ []) ≡ extents_of fs ++ x ∷ []
-behind [] b x p = ap (λ y. y ∷ []) p
-behind (f ∷ fs) b x p = ap (λ r. f.extent ∷ r) (behind fs b x p)
+extents_after : (fs : List Built) (b : Built) (x : Extent) → b.extent ≡ x → extents_of (fs ++ b ∷ []) ≡ extents_of fs ++ x ∷ []
+extents_after [] b x p = ap (λ y. y ∷ []) p
+extents_after (f ∷ fs) b x p = ap (λ r. f.extent ∷ r) (extents_after fs b x p)
 
 pub extents_are : (default : Bool) (fs : List Built) (cs : List Callee) → extents_of (built_from default fs cs) ≡ extents_from default (extents_of fs) cs
 extents_are default fs [] = refl
 extents_are default fs (c ∷ cs) =
     extents_are default (fs ++ built_in fs c.formals (body_in default c) ∷ []) cs
-    ∙ ap (λ xs. extents_from default xs cs) (behind fs (built_in fs c.formals (body_in default c)) (fold_body counting (extents_of fs) (body_in default c)) (extent_of_one fs c.formals (body_in default c)))
+    ∙ ap (λ xs. extents_from default xs cs) (extents_after fs (built_in fs c.formals (body_in default c)) (fold_body counting (extents_of fs) (body_in default c)) (extent_of_one fs c.formals (body_in default c)))

@@ -1,4 +1,4 @@
--- Names of which each stands once: the first stands once and the others do, and one that isn't among them comes behind them.
+-- Names of which each stands once: the first stands once and the others do, and one that isn't among them comes after them.
 use Rattle.std.proofs.Common.{◌≡◌, ℕ, suc, Bool, true, false, ◌&&◌, cond, List, [], ◌∷◌, ◌++◌, length, Option, Some, None, true≢false, refl, sym, ap, ap₂, ◌∙◌}
 use Rattle.std.specs.Cmp.Lexicographic.{bytes_decides}
 use Rattle.std.specs.Option.{option_map, option_or}

@@ -1,4 +1,4 @@
--- The function of a number is built over those before it, and lists one behind another.
+-- The function of a number is built over those before it, and lists one after another.
 use Rattle.std.proofs.Common.{◌≡◌, ◌≤◌, ◌<◌, ℕ, zero, suc, ◌+◌, Bool, List, [], ◌∷◌, ◌++◌, Ok, map, take, drop, get_or, length, refl, sym, ap, ap₂, ◌∙◌, arith, length-append}
 use Rattle.std.proofs.lemmas.List.{map-append, take-map, length-map, get_or-map, get_or_append_left, get_or-append-add}
 use Rattle.sl_ast.specs.Typed as A
@@ -47,8 +47,8 @@ function_at d known k x low =
     placed d [] (map callee_of known) k k (callee_of x) (omega (arith, low, length-map known callee_of)) (omega arith)
     ∙ ap₂ (λ cs c. one d (built_from d [] cs) c) (take-map callee_of k known) (get_or-map callee_of known k x (callee_of x) low)
 
-pub function_behind : (d : Bool) (known : List Known) (k : ℕ) → length known ≤ k → get_or (functions d known) k nothing ≡ nothing
-function_behind d known k high = absent_from d [] (map callee_of known) k (omega (arith, high, length-map known callee_of))
+pub function_after : (d : Bool) (known : List Known) (k : ℕ) → length known ≤ k → get_or (functions d known) k nothing ≡ nothing
+function_after d known k high = absent_from d [] (map callee_of known) k (omega (arith, high, length-map known callee_of))
 
 -- what it does weighs no more than all functions without those before it
 pub lighter_at : (d : Bool) (known : List Known) (k : ℕ) (x : Known) (b : T.Body) → k < length known → body_in d (callee_of (get_or known k x)) ≡ Ok b
@@ -97,7 +97,7 @@ pub stmts_alone : (xs : List A.Stmt) → stmts_before xs A.done ≡ A.stmts xs
 stmts_alone [] = refl
 stmts_alone (x ∷ xs) = ap (A.first x) (stmts_alone xs)
 
--- an argument and those behind it
+-- an argument and those after it
 pub args_split : (xs : List TypedExpr) (i : ℕ) (x : TypedExpr) → i < length xs → x ≡ get_or xs i x
     → T.exprs (map typed_of (drop i xs)) ≡ T.more (typed_of x) (T.exprs (map typed_of (drop (i + 1) xs)))
 args_split [] i x low is = absurd (omega (arith, low))

@@ -1,4 +1,4 @@
--- The tree of a statement that holds others, from the trees of its parts, with the number behind it.
+-- The tree of a statement that holds others, from the trees of its parts, with the number after it.
 use Rattle.std.proofs.Common.{◌≡◌, ℕ, Bool, ◌+◌, List, arith}
 use Rattle.sl_ast.specs.Typed as A
 use Rattle.sl_ast.specs.declared.kinds.LightStmt.{LightStmt}
@@ -45,15 +45,15 @@ pub lights_tree : (fs : List Built) (n m j line : ℕ) (word : LightStmt) (es : 
     → A.lights word v w place ≡ inline_stmt fs n (T.lights word es s line)
 lights_tree fs n m j line word es s v w place p q r i h = cc (p, q, r, i, h)
 
--- the number behind one part, two and three
-pub behind_one : (n m k a : ℕ) → m ≡ n + 1 → k ≡ m + a → k ≡ n + (1 + a)
-behind_one n m k a p q = omega arith
+-- the number after one part, two and three
+pub after_one : (n m k a : ℕ) → m ≡ n + 1 → k ≡ m + a → k ≡ n + (1 + a)
+after_one n m k a p q = omega arith
 
-pub behind_two : (n m j k a b : ℕ) → m ≡ n + 1 → j ≡ m + a → k ≡ j + b → k ≡ n + (1 + (a + b))
-behind_two n m j k a b p q r = omega arith
+pub after_two : (n m j k a b : ℕ) → m ≡ n + 1 → j ≡ m + a → k ≡ j + b → k ≡ n + (1 + (a + b))
+after_two n m j k a b p q r = omega arith
 
-pub behind_three : (n m i j k a b c : ℕ) → m ≡ n + 1 → i ≡ m + a → j ≡ i + b → k ≡ j + c → k ≡ n + (1 + (a + (b + c)))
-behind_three n m i j k a b c p q r s = omega arith
+pub after_three : (n m i j k a b c : ℕ) → m ≡ n + 1 → i ≡ m + a → j ≡ i + b → k ≡ j + c → k ≡ n + (1 + (a + (b + c)))
+after_three n m i j k a b c p q r s = omega arith
 
-pub behind_four : (n m h i j k a b c d : ℕ) → m ≡ n + 1 → h ≡ m + a → i ≡ h + b → j ≡ i + c → k ≡ j + d → k ≡ n + (1 + (a + (b + (c + d))))
-behind_four n m h i j k a b c d p q r s t = omega arith
+pub after_four : (n m h i j k a b c d : ℕ) → m ≡ n + 1 → h ≡ m + a → i ≡ h + b → j ≡ i + c → k ≡ j + d → k ≡ n + (1 + (a + (b + (c + d))))
+after_four n m h i j k a b c d p q r s t = omega arith

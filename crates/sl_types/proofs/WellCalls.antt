@@ -160,13 +160,13 @@ unbarred true true false true h = absurd (cc h)
 unbarred true false false true h = absurd (cc h)
 unbarred false b false true h = absurd (cc h)
 
-allowed_stands : (g : W.Around) (behind : Bool) (op : Operation) (line : ℕ) → Good (allowed g behind op line) (λ b. Allowed g op)
-allowed_stands g behind op line =
+allowed_stands : (g : W.Around) (after_type : Bool) (op : Operation) (line : ℕ) → Good (allowed g after_type op line) (λ b. Allowed g op)
+allowed_stands g after_type op line =
     cond_both (not (has_operation g.kind op)) _ _ (λ r. Good r (λ b. Allowed g op)) (λ e. tt)
-    (λ has. cond_both (is_barred g behind op) (Err (T11, line)) (Ok true) (λ r. Good r (λ b. Allowed g op)) (λ e. tt)
-    (λ e. both (has_operation g.kind op) (is_constant op || not g.default) (not_false (has_operation g.kind op) has) (unbarred behind (is_noise op) (is_constant op) g.default e)))
+    (λ has. cond_both (is_barred g after_type op) (Err (T11, line)) (Ok true) (λ r. Good r (λ b. Allowed g op)) (λ e. tt)
+    (λ e. both (has_operation g.kind op) (is_constant op || not g.default) (not_false (has_operation g.kind op) has) (unbarred after_type (is_noise op) (is_constant op) g.default e)))
 
--- what behind its own faults a call of a built-in comes to
+-- what after its own faults a call of a built-in comes to
 abbrev Operates : W.Around → List SlType → List Built → List Local → ℕ → List U.Expr → Bool → List T.Expr → Operation → Type 0
 Operates g ks fs ls line es other ts op = Good (operation_in g ls op line es other >>= λ o. applied (by_count o ts) line ts) (Fine g ks fs)
 
@@ -220,37 +220,37 @@ operates g ks fs ls line es other ts op c a m l h = applied_fine g ks fs op line
 abbrev pub GoodArgs : W.Around → List SlType → List Built → List U.Expr → List T.Expr → Type 0
 GoodArgs g ks fs es ts = AllFine g ks fs ts × AllLiteral es ts
 
-operated_fine : (g : W.Around) (ks : List SlType) (fs : List Built) (behind : Bool) (ls : List Local) (line : ℕ) (es : List U.Expr) (other : Bool) (args : Found (List T.Expr)) (op : Operation) → is_call op ≡ true
-    → Good args (GoodArgs g ks fs es) → Good (operated g behind ls line es other args op) (Fine g ks fs)
-operated_fine g ks fs behind ls line es other (Err e) op c h =
-    good_bind (allowed g behind op line) _ (λ b. Unit {0}) (Fine g ks fs) (good_any (allowed g behind op line))
+operated_fine : (g : W.Around) (ks : List SlType) (fs : List Built) (after_type : Bool) (ls : List Local) (line : ℕ) (es : List U.Expr) (other : Bool) (args : Found (List T.Expr)) (op : Operation) → is_call op ≡ true
+    → Good args (GoodArgs g ks fs es) → Good (operated g after_type ls line es other args op) (Fine g ks fs)
+operated_fine g ks fs after_type ls line es other (Err e) op c h =
+    good_bind (allowed g after_type op line) _ (λ b. Unit {0}) (Fine g ks fs) (good_any (allowed g after_type op line))
     (λ b u. good_bind (operation_in g ls op line es other) _ (λ o. Unit {0}) (Fine g ks fs) (good_any (operation_in g ls op line es other)) (λ o u. tt))
-operated_fine g ks fs behind ls line es other (Ok ts) op c h =
+operated_fine g ks fs after_type ls line es other (Ok ts) op c h =
     cond_both (is_amiss g op ts) _ _ (λ r. Good r (Fine g ks fs)) (λ e. tt)
-    (λ m. good_bind (allowed g behind op line) _ (λ b. Allowed g op) (Fine g ks fs) (allowed_stands g behind op line)
+    (λ m. good_bind (allowed g after_type op line) _ (λ b. Allowed g op) (Fine g ks fs) (allowed_stands g after_type op line)
     (λ b a. operates g ks fs ls line es other ts op c a m h.1 h.0))
 
-built_fine : (g : W.Around) (ks : List SlType) (fs : List Built) (behind : Bool) (ls : List Local) (line : ℕ) (es : List U.Expr) (other : Bool) (args : Found (List T.Expr)) (o : Option Builtin)
-    → GoodSome o (λ b. is_listed b ≡ true) → Good args (GoodArgs g ks fs es) → Good (built g behind ls line es other args o) (Fine g ks fs)
-built_fine g ks fs behind ls line es other args None c h = tt
-built_fine g ks fs behind ls line es other args (Some LeftOut) c h = tt
-built_fine g ks fs behind ls line es other args (Some (Plain op)) c h = operated_fine g ks fs behind ls line es other args op c h
+built_fine : (g : W.Around) (ks : List SlType) (fs : List Built) (after_type : Bool) (ls : List Local) (line : ℕ) (es : List U.Expr) (other : Bool) (args : Found (List T.Expr)) (o : Option Builtin)
+    → GoodSome o (λ b. is_listed b ≡ true) → Good args (GoodArgs g ks fs es) → Good (built g after_type ls line es other args o) (Fine g ks fs)
+built_fine g ks fs after_type ls line es other args None c h = tt
+built_fine g ks fs after_type ls line es other args (Some LeftOut) c h = tt
+built_fine g ks fs after_type ls line es other args (Some (Plain op)) c h = operated_fine g ks fs after_type ls line es other args op c h
 
-resolved_fine : (g : W.Around) (ks : List SlType) (fs : List Built) (behind : Bool) (ls : List Local) (name : List ℕ) (line : ℕ) (es : List U.Expr) (other : Bool) (args : Found (List T.Expr)) (o : Option (ℕ × Callee))
-    → GoodSome o (WorksAt g.kind g.default fs) → Good args (GoodArgs g ks fs es) → Good (resolved g behind ls name line es other args o) (Fine g ks fs)
-resolved_fine g ks fs behind ls name line es other args None w h = built_fine g ks fs behind ls line es other args (entry_of builtin_names name) (entries_listed builtin_names name refl) h
-resolved_fine g ks fs behind ls name line es other args (Some x) w h =
+resolved_fine : (g : W.Around) (ks : List SlType) (fs : List Built) (after_type : Bool) (ls : List Local) (name : List ℕ) (line : ℕ) (es : List U.Expr) (other : Bool) (args : Found (List T.Expr)) (o : Option (ℕ × Callee))
+    → GoodSome o (WorksAt g.kind g.default fs) → Good args (GoodArgs g ks fs es) → Good (resolved g after_type ls name line es other args o) (Fine g ks fs)
+resolved_fine g ks fs after_type ls name line es other args None w h = built_fine g ks fs after_type ls line es other args (entry_of builtin_names name) (entries_listed builtin_names name refl) h
+resolved_fine g ks fs after_type ls name line es other args (Some x) w h =
     called_fine g ks fs x.0 x.1 line args w (good_as args (GoodArgs g ks fs es) (AllFine g ks fs) h (λ ts p. p.0))
 
 itself_fine : (formals : List Local) (line : ℕ) (args : Found (List T.Expr)) (P : T.Expr → Type 0) → Good (calls_itself formals line args) P
 itself_fine formals line (Err e) P = tt
 itself_fine formals line (Ok ts) P = cond_both (not (fits formals ts)) _ _ (λ r. Good r P) (λ e. tt) (λ e. tt)
 
-call_with_fine : (g : Around) (ks : List SlType) (fs : List Built) (behind : Bool) (ls : List Local) (name : List ℕ) (line : ℕ) (es : List U.Expr) (other : Bool) (args : Found (List T.Expr)) (o : Option (List Local))
-    → Ready g.at.kind g.at.default g.known fs → Good args (GoodArgs g.at ks fs es) → Good (call_with g behind ls name line es other args o) (Fine g.at ks fs)
-call_with_fine g ks fs behind ls name line es other args (Some formals) r h = itself_fine formals line args (Fine g.at ks fs)
-call_with_fine g ks fs behind ls name line es other args None r h =
-    resolved_fine g.at ks fs behind ls name line es other args (callee_named name g.known) (works_at g.at.kind g.at.default name g.known fs r) h
+call_with_fine : (g : Around) (ks : List SlType) (fs : List Built) (after_type : Bool) (ls : List Local) (name : List ℕ) (line : ℕ) (es : List U.Expr) (other : Bool) (args : Found (List T.Expr)) (o : Option (List Local))
+    → Ready g.at.kind g.at.default g.known fs → Good args (GoodArgs g.at ks fs es) → Good (call_with g after_type ls name line es other args o) (Fine g.at ks fs)
+call_with_fine g ks fs after_type ls name line es other args (Some formals) r h = itself_fine formals line args (Fine g.at ks fs)
+call_with_fine g ks fs after_type ls name line es other args None r h =
+    resolved_fine g.at ks fs after_type ls name line es other args (callee_named name g.known) (works_at g.at.kind g.at.default name g.known fs r) h
 
 -- the typed tree of an expression
 abbrev pub GoodExpr : W.Around → List SlType → List Built → U.Expr → T.Expr → Type 0
@@ -264,29 +264,29 @@ fine : (g : W.Around) (ks : List SlType) (fs : List Built) (e : U.Expr) (r : Fou
 fine g ks fs e r h = good_as r (GoodExpr g ks fs e) (Fine g ks fs) h (λ t p. p.0)
 
 mutual
-  pub expr_good : (g : Around) (fs : List Built) → Ready g.at.kind g.at.default g.known fs → (behind : Bool) (ls : List Local) (e : U.Expr)
-      → Good (typed_expr g behind ls e) (GoodExpr g.at (types_of ls) fs e)
-  expr_good g fs r behind ls (U.number text line) = (λ n. refl, tt)
-  expr_good g fs r behind ls (U.string text line) = (λ n. refl, (line, refl))
-  expr_good g fs r behind ls (U.name name line) =
+  pub expr_good : (g : Around) (fs : List Built) → Ready g.at.kind g.at.default g.known fs → (after_type : Bool) (ls : List Local) (e : U.Expr)
+      → Good (typed_expr g after_type ls e) (GoodExpr g.at (types_of ls) fs e)
+  expr_good g fs r after_type ls (U.number text line) = (λ n. refl, tt)
+  expr_good g fs r after_type ls (U.string text line) = (λ n. refl, (line, refl))
+  expr_good g fs r after_type ls (U.name name line) =
       good_as (named g.at name line (level_of name ls)) (Fine g.at (types_of ls) fs) _ (named_fine g.at ls fs name line (level_of name ls) (level_typed name ls)) (λ t p. (p, tt))
-  expr_good g fs r behind ls (U.call name args line) =
-      good_as (call_of g behind ls name line (listed args) (first_is_other g ls args) (typed_args g ls args)) (Fine g.at (types_of ls) fs) _
-      (call_with_fine g (types_of ls) fs behind ls name line (listed args) (first_is_other g ls args) (typed_args g ls args) (formals_in name g.own) r (args_good g fs r ls args)) (λ t p. (p, tt))
-  expr_good g fs r behind ls (U.paren e line) = expr_good g fs r false ls e
-  expr_good g fs r behind ls (U.triple kind space x y z line) =
+  expr_good g fs r after_type ls (U.call name args line) =
+      good_as (call_of g after_type ls name line (listed args) (first_is_other g ls args) (typed_args g ls args)) (Fine g.at (types_of ls) fs) _
+      (call_with_fine g (types_of ls) fs after_type ls name line (listed args) (first_is_other g ls args) (typed_args g ls args) (formals_in name g.own) r (args_good g fs r ls args)) (λ t p. (p, tt))
+  expr_good g fs r after_type ls (U.paren e line) = expr_good g fs r false ls e
+  expr_good g fs r after_type ls (U.triple kind space x y z line) =
       good_as _ (Fine g.at (types_of ls) fs) _ (tripled_fine g.at (types_of ls) fs kind space line _
       (three_fine g.at (types_of ls) fs (typed_expr g false ls x) (typed_expr g false ls y) (typed_expr g false ls z) (fine g.at (types_of ls) fs x (typed_expr g false ls x) (expr_good g fs r false ls x)) (fine g.at (types_of ls) fs y (typed_expr g false ls y) (expr_good g fs r false ls y)) (fine g.at (types_of ls) fs z (typed_expr g false ls z) (expr_good g fs r false ls z)))) (λ t p. (p, tt))
-  expr_good g fs r behind ls (U.typed kind space e line) =
+  expr_good g fs r after_type ls (U.typed kind space e line) =
       good_as _ (Fine g.at (types_of ls) fs) _ (converted_fine g.at (types_of ls) fs kind space (is_call_node e) line (typed_expr g true ls e) (fine g.at (types_of ls) fs e (typed_expr g true ls e) (expr_good g fs r true ls e))) (λ t p. (p, tt))
-  expr_good g fs r behind ls (U.prefixed operator e line) =
+  expr_good g fs r after_type ls (U.prefixed operator e line) =
       good_bind (typed_expr g false ls e) _ (Fine g.at (types_of ls) fs) _ (fine g.at (types_of ls) fs e (typed_expr g false ls e) (expr_good g fs r false ls e))
       (λ t p. good_as (applied (prefix_operation operator) line (t ∷ [])) (Fine g.at (types_of ls) fs) _
       (applied_fine g.at (types_of ls) fs (prefix_operation operator) line (t ∷ []) (stands_prefix g.at fs operator (t ∷ [])) (p, tt)) (λ x q. (q, tt)))
-  expr_good g fs r behind ls (U.chain row e rest) =
+  expr_good g fs r after_type ls (U.chain row e rest) =
       good_bind (typed_expr g false ls e) _ (Fine g.at (types_of ls) fs) _ (fine g.at (types_of ls) fs e (typed_expr g false ls e) (expr_good g fs r false ls e))
       (λ t p. good_as (typed_links g ls t rest) (Fine g.at (types_of ls) fs) _ (links_fine g fs r ls t rest p) (λ x q. (q, tt)))
-  expr_good g fs r behind ls (U.choice t a b line) =
+  expr_good g fs r after_type ls (U.choice t a b line) =
       good_bind (typed_expr g false ls t) _ (Fine g.at (types_of ls) fs) _ (fine g.at (types_of ls) fs t (typed_expr g false ls t) (expr_good g fs r false ls t))
       (λ x p. good_bind (typed_expr g false ls a) _ (Fine g.at (types_of ls) fs) _ (fine g.at (types_of ls) fs a (typed_expr g false ls a) (expr_good g fs r false ls a))
       (λ y q. good_bind (typed_expr g false ls b) _ (Fine g.at (types_of ls) fs) _ (fine g.at (types_of ls) fs b (typed_expr g false ls b) (expr_good g fs r false ls b))
@@ -309,6 +309,6 @@ mutual
       (applied_fine g.at (types_of ls) fs (operation_of operator) line (t ∷ s ∷ []) (stands_operator g.at fs operator (t ∷ s ∷ [])) (h, (p, tt)))
       (λ x q. links_fine g fs r ls x rest q))
 
-pub expr_fine : (g : Around) (fs : List Built) → Ready g.at.kind g.at.default g.known fs → (behind : Bool) (ls : List Local) (e : U.Expr)
-    → Good (typed_expr g behind ls e) (Fine g.at (types_of ls) fs)
-expr_fine g fs r behind ls e = fine g.at (types_of ls) fs e (typed_expr g behind ls e) (expr_good g fs r behind ls e)
+pub expr_fine : (g : Around) (fs : List Built) → Ready g.at.kind g.at.default g.known fs → (after_type : Bool) (ls : List Local) (e : U.Expr)
+    → Good (typed_expr g after_type ls e) (Fine g.at (types_of ls) fs)
+expr_fine g fs r after_type ls e = fine g.at (types_of ls) fs e (typed_expr g after_type ls e) (expr_good g fs r after_type ls e)

@@ -19,13 +19,13 @@ use Rattle.sl_expressions.specs.Typed as T
 use Rattle.sl_expressions.specs.Typed.{kind_of}
 use Rattle.sl_expressions.specs.Scope.{Local, level_of, Around}
 use Rattle.sl_expressions.specs.Exprs.{operands_of, typed_expr, typed_args, listed}
-use Rattle.sl_typing.specs.Stmts.{Rows, behind, followed, is_since, is_uniform, value_in, declared, typed_name, typed_names, predefined_set, variable_set, sets, typed_set, optional_set, no_test, condition, one_of, inner, branch, in_loop, in_lights, light_word, light_args, light_misfit, lights_of, typed_stmt, typed_rows}
+use Rattle.sl_typing.specs.Stmts.{Rows, put_after, followed, is_since, is_uniform, value_in, declared, typed_name, typed_names, predefined_set, variable_set, sets, typed_set, optional_set, no_test, condition, one_of, inner, branch, in_loop, in_lights, light_word, light_args, light_misfit, lights_of, typed_stmt, typed_rows}
 use Rattle.sl_types.specs.Inline.{Built, count, count_args, count_stmt, count_stmts, inline_stmt, inline_stmts}
 use Rattle.sl_types.proofs.WellScope.{Good, GoodSome, good_bind, good_as, types_of, TypedAt, level_typed}
 use Rattle.sl_types.proofs.WellExprs.{Ready, Fine, AllFine, kind_kept, operands_kept, args_fine, same}
 use Rattle.sl_types.proofs.WellCalls.{GoodArgs, expr_fine, args_good, not_false}
 
--- a statement in a scope of these types, and the types behind it
+-- a statement in a scope of these types, and the types after it
 abbrev pub StmtFine : W.Around → List Built → List SlType → T.Stmt → List SlType → Type 0
 StmtFine g fs ks s after = (n : ℕ) → (W.typed_stmt g ks (inline_stmt fs n s) ≡ true) × (W.types_after (inline_stmt fs n s) ks ≡ after)
 
@@ -70,14 +70,14 @@ declared_fine g fs r uniform kind ls line set_line (Some e) =
 abbrev pub GoodRows : W.Around → List Built → List SlType → List T.Stmt × List Local → Type 0
 GoodRows g fs ks r = RowsFine g fs ks r.0 (types_of r.1)
 
-pub behind_fine : (g : W.Around) (fs : List Built) (ks mid : List SlType) (ts : List T.Stmt) (rows : Rows) → RowsFine g fs ks ts mid → Good rows (GoodRows g fs mid)
-    → Good (behind ts rows) (GoodRows g fs ks)
-behind_fine g fs ks mid ts rows h p = good_bind rows _ (GoodRows g fs mid) (GoodRows g fs ks) p (λ r q. rows_join g fs ks ts r.0 mid (types_of r.1) h q)
+pub put_after_fine : (g : W.Around) (fs : List Built) (ks mid : List SlType) (ts : List T.Stmt) (rows : Rows) → RowsFine g fs ks ts mid → Good rows (GoodRows g fs mid)
+    → Good (put_after ts rows) (GoodRows g fs ks)
+put_after_fine g fs ks mid ts rows h p = good_bind rows _ (GoodRows g fs mid) (GoodRows g fs ks) p (λ r q. rows_join g fs ks ts r.0 mid (types_of r.1) h q)
 
 followed_fine : (g : W.Around) (fs : List Built) (ks : List SlType) (rows : Rows) (next : List Local → Rows) → Good rows (GoodRows g fs ks)
     → ((left : List Local) → Good (next left) (GoodRows g fs (types_of left))) → Good (followed rows next) (GoodRows g fs ks)
 followed_fine g fs ks rows next h k =
-    good_bind rows _ (GoodRows g fs ks) (GoodRows g fs ks) h (λ r p. behind_fine g fs ks (types_of r.1) r.0 (next r.1) p (k r.1))
+    good_bind rows _ (GoodRows g fs ks) (GoodRows g fs ks) h (λ r p. put_after_fine g fs ks (types_of r.1) r.0 (next r.1) p (k r.1))
 
 name_fine : (g : Around) (fs : List Built) → Ready g.at.kind g.at.default g.known fs → (from : ℕ) (uniform : Bool) (kind : SlType) (ls : List Local) (d : U.Declared)
     → Good (typed_name g from uniform kind ls d) (GoodRows g.at fs (types_of ls))

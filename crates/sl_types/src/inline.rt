@@ -37,7 +37,7 @@ fn body_at<'a>(by_default: bool, function: &'a Known<'_>) -> &'a Result<Body, Fa
 }
 
 // The function of that number; none where it has a fault, since then nothing calls it.
-#[tactic(auto, using(crate::proofs::Placed::function_at, crate::proofs::Placed::function_behind))]
+#[tactic(auto, using(crate::proofs::Placed::function_at, crate::proofs::Placed::function_after))]
 fn function_in<'a, 'b>(by_default: bool, known: &'a [Known<'b>], k: usize) -> Option<Inside<'a, 'b>>
     ensures puts { Puts by_default known.now k result }
     ensures lighter { Lighter by_default known.now result }
@@ -111,7 +111,7 @@ fn pair_node(
 }
 
 // The number that so many nodes further has.
-fn behind(next: u32, nodes: usize) -> u32
+fn number_after(next: u32, nodes: usize) -> u32
     requires { next + nodes ≤ 65536 }
     ensures { result ≡ next + nodes }
 {
@@ -323,7 +323,7 @@ fn call(
     Ok(call_node(args, formals, does, returned, value, kind, at))
 }
 
-// The tree of an expression with functions in place, and the number of the node behind it.
+// The tree of an expression with functions in place, and the number of the node after it.
 #[cycle(inline)]
 #[tactic(auto, using(crate::proofs::TypedNodes::apply_shown, crate::proofs::TypedNodes::call_shown))]
 fn expr(
@@ -391,7 +391,7 @@ fn expr(
     }
 }
 
-// Operators behind a first operand, each over those before it: the node of the last stands first in the text's order.
+// Operators after a first operand, each over those before it: the node of the last stands first in the text's order.
 #[cycle(inline)]
 fn chain(
     links: &[TypedLink],
@@ -406,7 +406,7 @@ fn chain(
     ensures next { OnOk result (next.new ≡ next.old + spec.count (functions by_default known.now) (T.chained (typed_of first.now) (map tlink_of links.now))) }
 {
     let start = *next;
-    let mut number = behind(start, links.len());
+    let mut number = number_after(start, links.len());
     *next = number;
     let mut value = expr(first, alloc, by_default, known, next)?;
     for link in links {
@@ -441,7 +441,7 @@ fn exprs(
     Ok(made)
 }
 
-// The tree of a statement with functions in place, and the number of the node behind it.
+// The tree of a statement with functions in place, and the number of the node after it.
 #[cycle(inline)]
 #[tactic(auto, using(crate::proofs::TypedNodes::block_shown, crate::proofs::TypedNodes::group_shown, crate::proofs::TypedNodes::for_shown))]
 fn stmt(
@@ -589,7 +589,7 @@ fn branch(
     Ok(Box::new(alloc, made)?)
 }
 
-/// The trees of statements one after another, and the number of the node behind them.
+/// The trees of statements one after another, and the number of the node after them.
 #[cycle(inline)]
 pub fn stmts(
     body: &[TypedStmt],
@@ -634,7 +634,7 @@ pub fn declared(alloc: Global, params: &[Param<'_>]) -> Result<Vec<ParamDecl>, N
     Ok(made)
 }
 
-/// The trees of the parameters' defaults, and the number of the node behind them.
+/// The trees of the parameters' defaults, and the number of the node after them.
 pub fn defaults(
     alloc: Global,
     params: &[Param<'_>],

@@ -106,7 +106,7 @@ fn size_args(args: &[TypedExpr], sizes: &[Extent]) -> Extent
     before
 }
 
-// Operators behind what is so great.
+// Operators after what is so great.
 #[cycle(size)]
 fn size_links(links: &[TypedLink], sizes: &[Extent], first: Extent) -> Extent
     ensures { (fs : List E.Extent) (e : T.Expr) → map extent_of sizes.now ≡ map S.cut fs → S.IsCutOf first (fold E.counting fs e) → S.IsCutOf result (fold E.counting fs (T.chained e (map tlink_of links.now))) }

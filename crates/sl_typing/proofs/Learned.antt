@@ -30,7 +30,7 @@ one_more : (b : Bool) (line : ℕ) (ks : List Callee) (next : List Callee → Fo
 one_more true line ks next = refl
 one_more false line ks next = refl
 
--- one function of those that are left, and those behind it
+-- one function of those that are left, and those after it
 pub known_step : (kind : SlKind) (ks : List Callee) (xs : List Function) (i : ℕ) (x : Function) → i < length xs → x ≡ get_or xs i x
     → known_from kind ks (map function_of (drop i xs)) ≡ learned kind ks (function_of x) >>= λ k. known_from kind k (map function_of (drop (i + 1) xs))
 known_step kind ks xs i x low is =
@@ -39,7 +39,7 @@ known_step kind ks xs i x low is =
     ∙ ap (λ y. known_from kind ks (function_of y ∷ map function_of (drop (i + 1) xs))) (sym is)
     ∙ one_more (is_some (callee_named (function_of x).name ks)) (function_of x).line (ks ++ callee_in kind ks (function_of x) ∷ []) next
 
--- the formals of a group behind others, and those of the groups that are left
+-- the formals of a group after others, and those of the groups that are left
 pub formals_step : (before : List Local) (xs : List Group) (i : ℕ) (x : Group) → i < length xs → x ≡ get_or xs i x
     → before ++ formals_of (map group_of (drop i xs))
     ≡ (before ++ formals_named (is_uniform x.class) x.kind (map declared_of x.names)) ++ formals_of (map group_of (drop (i + 1) xs))
@@ -49,7 +49,7 @@ formals_step before xs i x low is =
     ∙ ap (λ y. before ++ (formals_named (is_uniform y.class) y.kind (map declared_of y.names) ++ rest)) (sym is)
     ∙ sym (append_assoc before (formals_named (is_uniform x.class) x.kind (map declared_of x.names)) rest)
 
--- one parameter of those that are left, and those behind it
+-- one parameter of those that are left, and those after it
 pub params_step : (g : Around) (assigned : List (List ℕ)) (uniform : Bool) (kind : SlType) (ps : List Param) (xs : List Declared) (i : ℕ) (x : Declared) → i < length xs → x ≡ get_or xs i x
     → typed_params g assigned uniform kind ps (map declared_of (drop i xs))
     ≡ typed_param g assigned uniform kind ps (declared_of x) >>= λ r. typed_params g assigned uniform kind r (map declared_of (drop (i + 1) xs))

@@ -1,5 +1,5 @@
 pub mod Nodes
-pub mod Behind
+pub mod After
 pub mod Scopes
 pub mod Branches
 pub mod Ends

@@ -7,7 +7,7 @@ use Rattle.sl_ast.specs.declared.syntax.Declared.{Declared}
 use Rattle.sl_ast.specs.declared.syntax.Stmt.{Stmt}
 use Rattle.sl_typing.specs.Assigned.{declared_name, declared_names, sets, sets_all}
 
--- one statement of those that are left, and those behind it
+-- one statement of those that are left, and those after it
 pub sets_step : (own set : List (List ℕ)) (xs : List Stmt) (i : ℕ) (x : Stmt) → i < length xs → x ≡ get_or xs i x
     → set ++ sets_all own (U.stmts (map stmt_of (drop i xs)))
     ≡ (set ++ sets own (stmt_of x)) ++ sets_all (own ++ declared_names (stmt_of x)) (U.stmts (map stmt_of (drop (i + 1) xs)))
@@ -29,7 +29,7 @@ names_step own ds i d low is =
     ∙ ap (λ y. own ++ (declared_of y).name ∷ rest) (sym is)
     ∙ sym (append_assoc own (d.name ∷ []) rest)
 
--- variables that begin with those around them still do with more behind them
+-- variables that begin with those around them still do with more after them
 pub begins_still : (around own more : List (List ℕ)) → length around ≤ length own → take (length around) own ≡ around → take (length around) (own ++ more) ≡ around
 begins_still around own more long begins = take-append-le (length around) own more long ∙ begins
 
@@ -42,6 +42,6 @@ joined xs ys zs = append_assoc xs ys zs
 pub with_none : (xs : List (List ℕ)) → xs ++ [] ≡ xs
 with_none xs = append-nil xs
 
--- what was declared in a branch is taken back behind it
+-- what was declared in a branch is taken back after it
 pub taken_back : (around more : List (List ℕ)) → take (length around) (around ++ more) ≡ around
 taken_back around more = take_at around more (length around) refl

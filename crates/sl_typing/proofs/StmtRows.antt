@@ -12,14 +12,14 @@ use Rattle.sl_expressions.specs.declared.faults.TypeFault.TheVariants.{At, NoMem
 use Rattle.sl_expressions.specs.declared.places.Local.{Local}
 use Rattle.sl_expressions.specs.declared.typed.TypedStmt.{TypedStmt}
 use Rattle.sl_expressions.specs.TypedView.{tstmt_of}
-use Rattle.sl_typing.specs.Stmts.{Rows, behind, branch, no_test, stepped, for_head, for_of, typed_stmt}
+use Rattle.sl_typing.specs.Stmts.{Rows, put_after, branch, no_test, stepped, for_head, for_of, typed_stmt}
 use Rattle.sl_typing.specs.Views.{GivesOne, GivesRows}
 
 -- what is added leaves the scope as it was
 pub added : {A : Type 0} (r : Result A TypeFault) (ts : List TypedStmt) (old new : List Local) (before : List T.Stmt) (x y : Rows) → new ≡ old → y ≡ x
-    → GivesRows r ts old (behind before x) → GivesRows r ts new (behind before y)
+    → GivesRows r ts old (put_after before x) → GivesRows r ts new (put_after before y)
 added r ts old new before x y same is h =
-    subst (λ ls. GivesRows r ts ls (behind before y)) (sym same) (subst (λ z. GivesRows r ts old (behind before z)) (sym is) h)
+    subst (λ ls. GivesRows r ts ls (put_after before y)) (sym same) (subst (λ z. GivesRows r ts old (put_after before z)) (sym is) h)
 
 -- an assignment
 pub given_one : (r : Result TypedStmt TypeFault) (ls : List S.Local) (found : Found T.Stmt) → Gives tstmt_of r found → GivesOne r ls (found >>= λ s. Ok (s ∷ [], ls))

@@ -99,7 +99,7 @@ callee_in kind known f = record {
   by_default = body_of (within kind true known f) f;
 }
 
--- a function behind those before it
+-- a function after those before it
 abbrev pub learned : SlKind → List Callee → U.Function → Found (List Callee)
 learned kind known f = if is_some (callee_named f.name known) then Err (T10, f.line) else Ok (known ++ callee_in kind known f ∷ [])
 
@@ -126,7 +126,7 @@ abbrev pub default_in : Around → SlType → ℕ → Option U.Expr → Found T.
 default_in g kind set_line None = Err (T2, set_line)
 default_in g kind set_line (Some e) = value_in kind set_line (typed_expr g false [] e)
 
--- a parameter behind others, in a shader whose body assigns the parameters of these names
+-- a parameter after others, in a shader whose body assigns the parameters of these names
 abbrev pub typed_param : Around → List (List ℕ) → Bool → SlType → List Param → U.Declared → Found (List Param)
 typed_param g assigned uniform kind ps d =
     if is_some (level_of d.name (locals_of ps)) then Err (T10, d.line) else

@@ -1,4 +1,4 @@
--- The typed statements that the rules relate to a statement with the scope behind it, or the first fault in the order of the text
+-- The typed statements that the rules relate to a statement with the scope after it, or the first fault in the order of the text
 -- (Shading Language, RenderMan Interface 3.2, sections 12 and 14). `ls` is the scope, and `from` the level at which the block began.
 use Rattle.std.specs.Prelude.{ℕ, Bool, true, false, not, nat_lt, List, [], ◌∷◌, ◌++◌, length, Option, Some, None, Ok, Err, if◌then◌else◌}
 use Rattle.sl_ast.specs.Syntax as U
@@ -31,15 +31,15 @@ use Rattle.sl_expressions.specs.Exprs.{operands_of, typed_expr, typed_args}
 abbrev pub Rows : Type 0
 Rows = Found (List T.Stmt × List Local)
 
--- statements behind others
-abbrev pub behind : List T.Stmt → Rows → Rows
-behind ts rows = rows >>= λ r. Ok (ts ++ r.0, r.1)
+-- statements after others
+abbrev pub put_after : List T.Stmt → Rows → Rows
+put_after ts rows = rows >>= λ r. Ok (ts ++ r.0, r.1)
 
 -- statements, and those that follow in the scope that they leave
 abbrev pub followed : Rows → (List Local → Rows) → Rows
-followed rows next = rows >>= λ r. behind r.0 (next r.1)
+followed rows next = rows >>= λ r. put_after r.0 (next r.1)
 
--- whether the last variable of a name was declared at that level or behind it
+-- whether the last variable of a name was declared at that level or after it
 abbrev pub is_since : ℕ → Option (ℕ × Local) → Bool
 is_since from None = false
 is_since from (Some at) = not (nat_lt at.0 from)
@@ -159,7 +159,7 @@ tested_else ls line test body otherwise = test >>= λ t. body >>= λ r. otherwis
 abbrev pub repeated : List Local → ℕ → Found T.Expr → Found T.Stmt → Rows
 repeated ls line test body = test >>= λ t. body >>= λ r. Ok (T.repeat t r line ∷ [], ls)
 
--- the type of the condition is asked before the first assignment, and its own faults are told behind it
+-- the type of the condition is asked before the first assignment, and its own faults are told after it
 abbrev pub stepped : List Local → ℕ → Found (List T.Stmt) → Found T.Expr → Found (List T.Stmt) → Found T.Stmt → Rows
 stepped ls line first test step body =
     if refuses test no_test then Err (T2, line) else

@@ -51,7 +51,7 @@ abbrev pub GivesFor : Result (Vec TypedStmt Global × TypedExpr) TypeFault → R
 GivesFor head step body line result =
     (ls : List S.Local) (h : Found Head) (b : Found (List T.Stmt)) (r : Found T.Stmt) → Gives head_of head h → GivesAll tstmt_of step b → Gives boxed_of body r → GivesOne result ls (for_of ls line h b r)
 
--- a scope with others behind it
+-- a scope with others after it
 abbrev pub Extends : List Local → List Local → Type 0
 Extends old new = take (length old) new ≡ old
 

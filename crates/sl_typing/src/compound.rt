@@ -117,7 +117,7 @@ pub fn while_node(
     }
 }
 
-// The condition of a `for`, whose type is asked before the first assignment; its own faults are told behind that.
+// The condition of a `for`, whose type is asked before the first assignment; its own faults are told after that.
 fn tested(
     line: u32,
     found: Result<TypedExpr, TypeFault>,

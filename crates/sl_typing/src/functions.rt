@@ -65,7 +65,7 @@ fn returned(
 }
 
 // What a function does; `line` is that of its name.
-#[tactic(auto, using(crate::proofs::Behind::behind_none))]
+#[tactic(auto, using(crate::proofs::After::after_none))]
 fn body_from<'a>(
     alloc: Global,
     g: &Around<'_, 'a>,

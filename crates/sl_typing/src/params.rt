@@ -145,7 +145,7 @@ fn in_body<'a, 'b>(kind: SlKind, known: &'a Functions<'b>) -> Around<'a, 'b>
 }
 
 // The parameters and the body of a shader.
-#[tactic(auto, using(crate::proofs::Behind::behind_none))]
+#[tactic(auto, using(crate::proofs::After::after_none))]
 fn params_and_body<'a>(
     alloc: Global,
     shader: &'a Shader,

@@ -105,7 +105,7 @@ fn name<'a>(
     scope: &mut Scope<'a>,
     d: &'a Declared,
 ) -> Result<(), TypeFault>
-    ensures gives { GivesRows result done.new.items scope.new (spec.behind (map tstmt_of done.old.items) (spec.typed_name (around_of g.now) from uniform kind (map local_of scope.old) (declared_of d.now))) }
+    ensures gives { GivesRows result done.new.items scope.new (spec.put_after (map tstmt_of done.old.items) (spec.typed_name (around_of g.now) from uniform kind (map local_of scope.old) (declared_of d.now))) }
     ensures extends { Extends scope.old scope.new }
 {
     if is_since(from, scope.level(&d.name)) {
@@ -134,7 +134,7 @@ pub fn names<'a>(
     scope: &mut Scope<'a>,
     ds: &'a [Declared],
 ) -> Result<(), TypeFault>
-    ensures gives { GivesRows result done.new.items scope.new (spec.behind (map tstmt_of done.old.items) (spec.typed_names (around_of g.now) from uniform kind (map local_of scope.old) (map declared_of ds.now))) }
+    ensures gives { GivesRows result done.new.items scope.new (spec.put_after (map tstmt_of done.old.items) (spec.typed_names (around_of g.now) from uniform kind (map local_of scope.old) (map declared_of ds.now))) }
     ensures extends { Extends scope.old scope.new }
 {
     for d in ds {

@@ -40,9 +40,9 @@ fn solar_args(
     added(first, angle)
 }
 
-// A statement that leaves the scope as it is, behind those before it.
+// A statement that leaves the scope as it is, after those before it.
 fn add(one: Result<TypedStmt, TypeFault>, done: &mut Vec<TypedStmt>) -> Result<(), TypeFault>
-    ensures { (ls : List Local) (found : spec.Rows) → GivesOne one (map local_of ls) found → GivesRows result done.new.items ls (spec.behind (map tstmt_of done.old.items) found) }
+    ensures { (ls : List Local) (found : spec.Rows) → GivesOne one (map local_of ls) found → GivesRows result done.new.items ls (spec.put_after (map tstmt_of done.old.items) found) }
 {
     push(done, one?)
 }
@@ -90,7 +90,7 @@ fn in_lights<'a, 'b>(g: &Around<'a, 'b>) -> Around<'a, 'b>
     }
 }
 
-// The typed statements of a statement that holds no other, behind those before it.
+// The typed statements of a statement that holds no other, after those before it.
 fn plain<'a>(
     s: &'a Stmt,
     alloc: Global,
@@ -100,7 +100,7 @@ fn plain<'a>(
     scope: &mut Scope<'a>,
 ) -> Result<(), TypeFault>
     requires { is_plain (stmt_of s.now) ≡ true }
-    ensures gives { GivesRows result done.new.items scope.new (spec.behind (map tstmt_of done.old.items) (spec.typed_stmt (around_of g.now) from (map local_of scope.old) (stmt_of s.now))) }
+    ensures gives { GivesRows result done.new.items scope.new (spec.put_after (map tstmt_of done.old.items) (spec.typed_stmt (around_of g.now) from (map local_of scope.old) (stmt_of s.now))) }
     ensures extends { Extends scope.old scope.new }
 {
     match s {
@@ -136,7 +136,7 @@ pub fn stmt<'a>(
     done: &mut Vec<TypedStmt>,
     scope: &mut Scope<'a>,
 ) -> Result<(), TypeFault>
-    ensures gives { GivesRows result done.new.items scope.new (spec.behind (map tstmt_of done.old.items) (spec.typed_stmt (around_of g.now) from (map local_of scope.old) (stmt_of s.now))) }
+    ensures gives { GivesRows result done.new.items scope.new (spec.put_after (map tstmt_of done.old.items) (spec.typed_stmt (around_of g.now) from (map local_of scope.old) (stmt_of s.now))) }
     ensures extends { Extends scope.old scope.new }
 {
     match s {
@@ -253,7 +253,7 @@ fn block<'a>(
 
 /// Adds the typed statements of statements one after another to those before them, and what they declare to the scope.
 #[cycle(stmts)]
-#[tactic(auto, using(crate::proofs::Scopes::extends_same, crate::proofs::Scopes::extends_trans, crate::proofs::Behind::rows_step, crate::proofs::Behind::rows_end))]
+#[tactic(auto, using(crate::proofs::Scopes::extends_same, crate::proofs::Scopes::extends_trans, crate::proofs::After::rows_step, crate::proofs::After::rows_end))]
 pub fn rows<'a>(
     body: &'a [Stmt],
     alloc: Global,
@@ -262,7 +262,7 @@ pub fn rows<'a>(
     done: &mut Vec<TypedStmt>,
     scope: &mut Scope<'a>,
 ) -> Result<(), TypeFault>
-    ensures gives { GivesRows result done.new.items scope.new (spec.behind (map tstmt_of done.old.items) (spec.typed_rows (around_of g.now) from (map local_of scope.old) (U.stmts (map stmt_of body.now)))) }
+    ensures gives { GivesRows result done.new.items scope.new (spec.put_after (map tstmt_of done.old.items) (spec.typed_rows (around_of g.now) from (map local_of scope.old) (U.stmts (map stmt_of body.now)))) }
     ensures extends { Extends scope.old scope.new }
 {
     for s in body {

@@ -3,7 +3,7 @@ use Rattle.std.proofs.lemmas.List.{map-append}
 use Rattle.std.proofs.lemmas.Result.{err_from_is_err_and}
 use Rattle.sl_ast.specs.SyntaxView.{expr_of, link_of}
 use Rattle.sl_lexer.specs.declared.token.Mark.TheVariants.{Comma}
-use Rattle.sl_expression_grammar.specs.Reading.{with_front, many, after_comma, behind, is_mark}
+use Rattle.sl_expression_grammar.specs.Reading.{with_front, many, after_comma, rest_after, is_mark}
 use Rattle.sl_expression_grammar.specs.Expressions.{most_links, link_at, next_link, expr_at, unary_at, prim_at}
 use Rattle.sl_expression_grammar.specs.Rows.{operand_with}
 use Rattle.sl_expression_grammar.specs.Parsing.{Gives}
@@ -68,7 +68,7 @@ further-returns-clause-gives t c =
     let expr = expr_at c.args.levels in
     let args = c.loop-after.args.items in
     let rest = c.loop-after.rest.now in
-    let none : None ≡ behind (is_mark Comma) rest = search rules in
+    let none : None ≡ rest_after (is_mark Comma) rest = search rules in
     sym c.loop-after.invariant.same
     ∙ ap (λ r. with_front (map expr_of args) r) (comma-end expr (length c.args.ts.now + 1 - length args) rest none)
     ∙ ap (λ xs. Ok (xs, rest)) (append-nil (map expr_of args))

@@ -8,15 +8,15 @@ use Rattle.sl_expressions.specs.Found.{Found, ◌>>=◌}
 use Rattle.sl_expressions.specs.Measures.{size, size_args, size_links}
 use Rattle.sl_expressions.specs.Typed as T
 use Rattle.sl_expressions.specs.TypedView.{typed_of, tlink_of}
-use Rattle.sl_expressions.specs.Views.{Gives, around_of, args_behind, chain_of, local_of}
-use Rattle.sl_expressions.proofs.Behind.{arg_fault, args_end, args_step}
+use Rattle.sl_expressions.specs.Views.{Gives, around_of, args_after, chain_of, local_of}
+use Rattle.sl_expressions.proofs.After.{arg_fault, args_end, args_step}
 use Rattle.sl_expressions.proofs.Chains.{in_steps, link_fault}
 use Rattle.sl_expressions.proofs.Choices.{choice_is, three_is}
 use Rattle.sl_expressions.proofs.Nodes.{call_is, chain_is, chain_split, chain_end, listed_all, small_arg, small_link}
 use Rattle.sl_expressions.proofs.exprs.+exprs.Goals as goal
 
-pub typed_behind-expr-requires : goal.typed_behind-expr-requires
-typed_behind-expr-requires t c =
+pub typed_after-expr-requires : goal.typed_after-expr-requires
+typed_after-expr-requires t c =
     let small = small_arg c.args.es.now c.loop-e.e-index c.e-item.result (omega arith) c.e-item.is in
     (omega (arith, c.decreases, small), tt)
 
@@ -41,20 +41,20 @@ pub expr-returns-in-Number : goal.expr-returns-in-Number
 expr-returns-in-Number t c =
     let g = around_of c.args.g.now in
     let ls = map local_of c.args.scope.now in
-    ap (λ e. typed_expr g c.args.behind ls (expr_of e)) c.in-Number.is ∙ ap (λ x. Ok x) (sym c.number.ensures)
+    ap (λ e. typed_expr g c.args.after_type ls (expr_of e)) c.in-Number.is ∙ ap (λ x. Ok x) (sym c.number.ensures)
 
 pub expr-returns-in-Str : goal.expr-returns-in-Str
 expr-returns-in-Str t c =
     let g = around_of c.args.g.now in
     let ls = map local_of c.args.scope.now in
-    subst (λ r. Gives typed_of c.word.result r) (sym (ap (λ e. typed_expr g c.args.behind ls (expr_of e)) c.in-Str.is)) c.word.ensures
+    subst (λ r. Gives typed_of c.word.result r) (sym (ap (λ e. typed_expr g c.args.after_type ls (expr_of e)) c.in-Str.is)) c.word.ensures
 
 pub expr-returns-in-Name : goal.expr-returns-in-Name
 expr-returns-in-Name t c =
     let g = around_of c.args.g.now in
     let ls = map local_of c.args.scope.now in
     subst (λ r. Gives typed_of c.named.result r)
-    (sym (ap (λ e. typed_expr g c.args.behind ls (expr_of e)) c.in-Name.is ∙ ap (named g.at c.in-Name.name c.in-Name.line) (sym c.level.ensures)))
+    (sym (ap (λ e. typed_expr g c.args.after_type ls (expr_of e)) c.in-Name.is ∙ ap (named g.at c.in-Name.name c.in-Name.line) (sym c.level.ensures)))
     c.named.ensures
 
 pub expr-returns-in-Paren : goal.expr-returns-in-Paren
@@ -62,7 +62,7 @@ expr-returns-in-Paren t c =
     let g = around_of c.args.g.now in
     let ls = map local_of c.args.scope.now in
     subst (λ r. Gives typed_of c.expr.result r)
-    (sym (ap (λ e. typed_expr g c.args.behind ls (expr_of e)) c.in-Paren.is ∙ ap (λ e. typed_expr g false ls (expr_of e)) (sym c.deref.ensures)))
+    (sym (ap (λ e. typed_expr g c.args.after_type ls (expr_of e)) c.in-Paren.is ∙ ap (λ e. typed_expr g false ls (expr_of e)) (sym c.deref.ensures)))
     c.expr.ensures
 
 pub expr-returns-in-Prefixed : goal.expr-returns-in-Prefixed
@@ -70,7 +70,7 @@ expr-returns-in-Prefixed t c =
     let g = around_of c.args.g.now in
     let ls = map local_of c.args.scope.now in
     subst (λ r. Gives typed_of c.prefixed.result r)
-    (sym (ap (λ e. typed_expr g c.args.behind ls (expr_of e)) c.in-Prefixed.is
+    (sym (ap (λ e. typed_expr g c.args.after_type ls (expr_of e)) c.in-Prefixed.is
     ∙ ap (λ e. prefixed c.in-Prefixed.operator c.in-Prefixed.line (typed_expr g false ls (expr_of e))) (sym c.deref-in-Prefixed.ensures)))
     (c.prefixed.ensures _ c.expr-operand.ensures)
 
@@ -80,7 +80,7 @@ expr-returns-in-Triple t c =
     let ls = map local_of c.args.scope.now in
     let parts = three_is (typed_expr g false ls) _ _ _ _ _ _ c.deref-in-Triple.ensures c.deref-in-Triple-2.ensures c.deref-in-Triple-3.ensures in
     subst (λ r. Gives typed_of c.tripled.result r)
-    (sym (ap (λ e. typed_expr g c.args.behind ls (expr_of e)) c.in-Triple.is ∙ ap (tripled g.at c.in-Triple.kind c.in-Triple.space c.in-Triple.line) parts))
+    (sym (ap (λ e. typed_expr g c.args.after_type ls (expr_of e)) c.in-Triple.is ∙ ap (tripled g.at c.in-Triple.kind c.in-Triple.space c.in-Triple.line) parts))
     (c.tripled.ensures _ (c.three-in-Triple.ensures _ _ _ c.expr-x.ensures c.expr-y.ensures c.expr-z.ensures))
 
 pub expr-returns-in-Typed : goal.expr-returns-in-Typed
@@ -90,7 +90,7 @@ expr-returns-in-Typed t c =
     let of : Bool → Found T.Expr → Found T.Expr = λ call part. converted g.at c.in-Typed.kind c.in-Typed.space call c.in-Typed.line part in
     let part = typed_expr g true ls (expr_of c.deref-in-Typed.result.now) in
     subst (λ r. Gives typed_of c.converted.result r)
-    (sym (ap (λ e. typed_expr g c.args.behind ls (expr_of e)) c.in-Typed.is
+    (sym (ap (λ e. typed_expr g c.args.after_type ls (expr_of e)) c.in-Typed.is
     ∙ ap (λ e. of (is_call_node (expr_of c.in-Typed.value.value)) (typed_expr g true ls (expr_of e))) (sym c.deref-in-Typed.ensures)
     ∙ ap (λ e. of (is_call_node (expr_of e)) part) (sym c.deref-in-Typed-2.ensures)
     ∙ ap (λ call. of call part) (sym c.is_call_node.ensures)))
@@ -105,7 +105,7 @@ expr-returns-in_ok-first-in-Chain t c =
     let first : typed_expr g false ls (expr_of c.in-Chain.first.value) ≡ Ok e = ap (λ x. typed_expr g false ls (expr_of x)) (sym c.deref-in-Chain.ensures) ∙ c.in_ok-first-in-Chain.ensures in
     let links = ap (λ xs. typed_links g ls e (U.links (map link_of xs))) (sym c.as_slice.ensures) in
     subst (λ r. Gives typed_of c.chained.result r)
-    (sym (ap (typed_expr g c.args.behind ls) q ∙ ap (λ r. r >>= λ v. typed_links g ls v (U.links (map link_of c.in-Chain.links))) first ∙ links))
+    (sym (ap (typed_expr g c.args.after_type ls) q ∙ ap (λ r. r >>= λ v. typed_links g ls v (U.links (map link_of c.in-Chain.links))) first ∙ links))
     (c.chained.ensures _ c.typed_links-links.ensures)
 
 pub expr-returns-in-Choice : goal.expr-returns-in-Choice
@@ -114,7 +114,7 @@ expr-returns-in-Choice t c =
     let ls = map local_of c.args.scope.now in
     let parts = choice_is c.in-Choice.line (typed_expr g false ls) _ _ _ _ _ _ c.deref-in-Choice.ensures c.deref-in-Choice-2.ensures c.deref-in-Choice-3.ensures in
     subst (λ r. Gives typed_of c.chosen.result r)
-    (sym (ap (λ e. typed_expr g c.args.behind ls (expr_of e)) c.in-Choice.is ∙ parts))
+    (sym (ap (λ e. typed_expr g c.args.after_type ls (expr_of e)) c.in-Choice.is ∙ parts))
     (c.chosen.ensures _ (c.three.ensures _ _ _ c.expr-test.ensures c.expr-first.ensures c.expr-second.ensures))
 
 pub expr-returns-in-Call : goal.expr-returns-in-Call
@@ -123,10 +123,10 @@ expr-returns-in-Call t c =
     let ls = map local_of c.args.scope.now in
     let q = call_is c.args.e.now c.in-Call.name c.in-Call.args c.in-Call.line c.in-Call.is in
     let node : List U.Expr → List Expr → Found T.Expr =
-    λ es xs. call_of g c.args.behind ls c.in-Call.name c.in-Call.line es (first_is_other g ls (U.exprs (map expr_of xs))) (typed_args g ls (U.exprs (map expr_of xs))) in
+    λ es xs. call_of g c.args.after_type ls c.in-Call.name c.in-Call.line es (first_is_other g ls (U.exprs (map expr_of xs))) (typed_args g ls (U.exprs (map expr_of xs))) in
     let args = ap (λ xs. map expr_of xs) c.as_slice-in-Call-2.ensures in
     subst (λ r. Gives typed_of c.call_of.result r)
-    (sym (ap (typed_expr g c.args.behind ls) q
+    (sym (ap (typed_expr g c.args.after_type ls) q
     ∙ ap (λ es. node es c.in-Call.args) (listed_all (map expr_of c.in-Call.args) ∙ sym args)
     ∙ ap (node (map expr_of c.as_slice-in-Call-2.result.now)) (sym c.as_slice-in-Call.ensures)))
     (c.call_of.ensures _ _ c.typed_args-parts.ensures)
@@ -173,31 +173,31 @@ typed_links-returns t c =
     let before = typed_links g ls v (U.links (map link_of (drop c.loop-link.link-index c.args.links.now))) in
     sym {a = before} c.loop-link.invariant.same ∙ ap (typed_links g ls v) (chain_end c.args.links.now c.loop-link.link-index (omega arith))
 
-pub typed_behind-returns-in_err-value : goal.typed_behind-returns-in_err-value
-typed_behind-returns-in_err-value t c =
+pub typed_after-returns-in_err-value : goal.typed_after-returns-in_err-value
+typed_after-returns-in_err-value t c =
     let g = around_of c.args.g.now in
     let ls = map local_of c.args.scope.now in
     let before = map typed_of c.loop-e.before.items in
     let rest = typed_args g ls (U.exprs (map expr_of (drop (c.loop-e.e-index + 1) c.args.es.now))) in
     let step = args_step g ls before c.args.es.now c.loop-e.e-index c.e-item.result c.loop-e-test.true c.e-item.is in
-    let whole = arg_fault _ (typed_expr g false ls (expr_of c.e-item.result)) _ (λ e. args_behind (before ++ e ∷ []) rest) (sym c.loop-e.invariant ∙ step) c.in_err-value.ensures in
+    let whole = arg_fault _ (typed_expr g false ls (expr_of c.e-item.result)) _ (λ e. args_after (before ++ e ∷ []) rest) (sym c.loop-e.invariant ∙ step) c.in_err-value.ensures in
     search rules
 
-pub typed_behind-loop-e-preserved : goal.typed_behind-loop-e-preserved
-typed_behind-loop-e-preserved t c =
+pub typed_after-loop-e-preserved : goal.typed_after-loop-e-preserved
+typed_after-loop-e-preserved t c =
     let g = around_of c.args.g.now in
     let ls = map local_of c.args.scope.now in
     let before = map typed_of c.loop-e.before.items in
     let rest = typed_args g ls (U.exprs (map expr_of (drop (c.loop-e.e-index + 1) c.args.es.now))) in
     let step = args_step g ls before c.args.es.now c.loop-e.e-index c.e-item.result c.loop-e-test.true c.e-item.is in
     let grown = ap (map typed_of) c.in_ok-push.ensures.items ∙ map-append typed_of c.loop-e.before.items (c.in_ok-value.value ∷ []) in
-    let joined = ap (λ r. r >>= λ e. args_behind (before ++ e ∷ []) rest) c.in_ok-value.ensures in
-    ap (λ es. args_behind es rest) grown ∙ sym joined ∙ sym step ∙ c.loop-e.invariant
+    let joined = ap (λ r. r >>= λ e. args_after (before ++ e ∷ []) rest) c.in_ok-value.ensures in
+    ap (λ es. args_after es rest) grown ∙ sym joined ∙ sym step ∙ c.loop-e.invariant
 
-pub typed_behind-returns : goal.typed_behind-returns
-typed_behind-returns t c =
+pub typed_after-returns : goal.typed_after-returns
+typed_after-returns t c =
     let g = around_of c.args.g.now in
     let ls = map local_of c.args.scope.now in
     let before = map typed_of c.loop-e.before.items in
-    let left = args_behind before (typed_args g ls (U.exprs (map expr_of (drop c.loop-e.e-index c.args.es.now)))) in
+    let left = args_after before (typed_args g ls (U.exprs (map expr_of (drop c.loop-e.e-index c.args.es.now)))) in
     sym {a = left} c.loop-e.invariant ∙ args_end g ls before c.args.es.now c.loop-e.e-index c.loop-e-test.false

@@ -3,7 +3,7 @@ use Rattle.std.proofs.lemmas.List.{map-append}
 use Rattle.std.proofs.lemmas.Result.{err_from_is_err_and}
 use Rattle.sl_ast.specs.SyntaxView.{declared_of}
 use Rattle.sl_lexer.specs.declared.token.Mark.TheVariants.{Comma}
-use Rattle.sl_expression_grammar.specs.Reading.{with_front, many, after_comma, behind, is_mark}
+use Rattle.sl_expression_grammar.specs.Reading.{with_front, many, after_comma, rest_after, is_mark}
 use Rattle.sl_expression_grammar.specs.Expressions.{expr_at}
 use Rattle.sl_expression_grammar.proofs.Readers.{with_front-append, handed_on, comma-turn, comma-err, comma-end}
 use Rattle.sl_parser.specs.Statements.{declared_with}
@@ -62,7 +62,7 @@ returns-clause-gives c =
     let item = declared_with (expr_at c.args.levels) c.args.valued in
     let names = c.loop-after.names.items in
     let rest = c.loop-after.rest.now in
-    let none : None ≡ behind (is_mark Comma) rest = search rules in
+    let none : None ≡ rest_after (is_mark Comma) rest = search rules in
     sym c.loop-after.invariant.same
     ∙ ap (λ r. with_front (map declared_of names) r) (comma-end item (length c.args.ts.now + 1 - length names) rest none)
     ∙ ap (λ xs. Ok (xs, rest)) (append-nil (map declared_of names))

@@ -31,12 +31,12 @@ decreases-lit l = 6 * l.levels + 2
 abbrev pub decreases-solar : goal.decreases-solar
 decreases-solar l = 6 * l.levels + 2
 
-abbrev pub invariant-block-loop-behind : goal.invariant-block-loop-behind
-invariant-block-loop-behind l = record {
+abbrev pub invariant-block-loop-tail : goal.invariant-block-loop-tail
+invariant-block-loop-tail l = record {
   same : with_front (map stmt_of l.body.items) (many (next_stmt (stmt_at l.levels)) (length l.ts + 1 - length l.body.items) l.rest)
       ≡ many (next_stmt (stmt_at l.levels)) (length l.ts + 1) l.ts;
   room : length l.body.items + length l.rest ≤ length l.ts;
 }
 
-abbrev pub decreases-block-loop-behind : goal.decreases-block-loop-behind
-decreases-block-loop-behind l = length l.rest
+abbrev pub decreases-block-loop-tail : goal.decreases-block-loop-tail
+decreases-block-loop-tail l = length l.rest

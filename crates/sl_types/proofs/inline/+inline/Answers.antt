@@ -11,7 +11,7 @@ use Rattle.sl_expressions.specs.TypedView.{typed_of, tlink_of, tstmt_of}
 use Rattle.sl_types.proofs.Chains.{chain_shown, count_links, tree_links, links_counted, links_weighed, links_inlined, links_split, links_end, light_link, pair_tree, call_tree, on_ok}
 use Rattle.sl_types.proofs.Numbered.{extent_at}
 use Rattle.sl_types.proofs.Placed.{light_arg, light_stmt, args_before, stmts_before, args_alone, stmts_alone, args_split, stmts_split, args_end, stmts_end, args_step, stmts_step, for_tree}
-use Rattle.sl_types.proofs.StmtTrees.{apply_tree, block_tree, declare_tree, set_tree, test_tree, else_tree, repeat_tree, lights_tree, behind_one, behind_two, behind_three, behind_four}
+use Rattle.sl_types.proofs.StmtTrees.{apply_tree, block_tree, declare_tree, set_tree, test_tree, else_tree, repeat_tree, lights_tree, after_one, after_two, after_three, after_four}
 use Rattle.sl_types.proofs.TypedNodes.{apply_shown, call_shown, block_shown, group_shown, for_shown}
 use Rattle.sl_expressions.specs.declared.typed.TypedExpr.{TypedExpr}
 use Rattle.sl_expressions.specs.declared.typed.TypedStmt.{TypedStmt}
@@ -95,8 +95,8 @@ expr-returns-in_ok-args-in-Call-clause-tree t c =
     c.in_ok-args-in-Call.ensures.tree c.in_ok-args-in-Call.ensures.next ∙ ap (inline fs c.args.next.now) (d ∙ sym q))
     c.call.ensures.tree
 
-pub chain-behind-number-requires : goal.chain-behind-number-requires
-chain-behind-number-requires t c =
+pub chain-number_after-number-requires : goal.chain-number_after-number-requires
+chain-number_after-number-requires t c =
     let fs = functions c.args.by_default c.args.known.now in
     let ls = map tlink_of c.args.links.now in
     omega (arith, c.requires, links_counted fs (typed_of c.args.first.now) ls, length-map c.args.links.now tlink_of)
@@ -105,7 +105,7 @@ pub chain-expr-requires : goal.chain-expr-requires
 chain-expr-requires t c =
     let fs = functions c.args.by_default c.args.known.now in
     let ls = map tlink_of c.args.links.now in
-    (omega (arith, c.decreases, links_weighed (typed_of c.args.first.now) ls), omega (arith, c.requires, links_counted fs (typed_of c.args.first.now) ls, length-map c.args.links.now tlink_of, c.behind-number.ensures))
+    (omega (arith, c.decreases, links_weighed (typed_of c.args.first.now) ls), omega (arith, c.requires, links_counted fs (typed_of c.args.first.now) ls, length-map c.args.links.now tlink_of, c.number_after-number.ensures))
 
 pub chain-loop-link-init : goal.chain-loop-link-init
 chain-loop-link-init t c =
@@ -114,10 +114,10 @@ chain-loop-link-init t c =
     let e = typed_of c.args.first.now in
     let ls = map tlink_of c.args.links.now in
     let m = length-map c.args.links.now tlink_of in
-    let p : c.behind-number.result ≡ n + length ls = omega (arith, c.behind-number.ensures, m) in
+    let p : c.number_after-number.result ≡ n + length ls = omega (arith, c.number_after-number.ensures, m) in
     let q : c.expr.new.next ≡ n + length ls + count fs e = omega (arith, p, c.in_ok-value.ensures.next) in
     record {
-      number = c.behind-number.ensures;
+      number = c.number_after-number.ensures;
       tree = ap₂ (λ v k. tree_links fs n v k ls) (c.in_ok-value.ensures.tree ∙ ap (λ k. inline fs k e) p) q ∙ sym (links_inlined fs n e ls);
       next = omega (arith, q, links_counted fs e ls);
     }
@@ -285,7 +285,7 @@ pub stmt-returns-in_ok-body-in-Block-clause-next : goal.stmt-returns-in_ok-body-
 stmt-returns-in_ok-body-in-Block-clause-next t c =
     let fs = functions c.args.by_default c.args.known.now in
     let n = c.args.next.now in
-    behind_one n _ _ _ c.place-at.ensures.next c.in_ok-body-in-Block.ensures.next
+    after_one n _ _ _ c.place-at.ensures.next c.in_ok-body-in-Block.ensures.next
     ∙ ap (λ xs. n + count_stmt fs (T.block (T.stmts (map tstmt_of xs)) c.in-Block.line)) c.as_slice.ensures ∙ ap (λ s. n + count_stmt fs s) (sym (block_shown c.args.s.now c.in-Block.body c.in-Block.line c.in-Block.is))
 
 pub stmt-returns-in_ok-body-in-Group-clause-tree : goal.stmt-returns-in_ok-body-in-Group-clause-tree
@@ -314,7 +314,7 @@ pub stmt-returns-in_ok-value-in-Declare-clause-next : goal.stmt-returns-in_ok-va
 stmt-returns-in_ok-value-in-Declare-clause-next t c =
     let fs = functions c.args.by_default c.args.known.now in
     let n = c.args.next.now in
-    behind_one n _ _ _ c.place-at-in-Declare.ensures.next c.in_ok-value-in-Declare.ensures.next ∙ sym (ap (λ s. n + count_stmt fs (tstmt_of s)) c.in-Declare.is)
+    after_one n _ _ _ c.place-at-in-Declare.ensures.next c.in_ok-value-in-Declare.ensures.next ∙ sym (ap (λ s. n + count_stmt fs (tstmt_of s)) c.in-Declare.is)
 
 pub stmt-returns-in_ok-value-in-Set-clause-tree : goal.stmt-returns-in_ok-value-in-Set-clause-tree
 stmt-returns-in_ok-value-in-Set-clause-tree t c =
@@ -328,7 +328,7 @@ pub stmt-returns-in_ok-value-in-Set-clause-next : goal.stmt-returns-in_ok-value-
 stmt-returns-in_ok-value-in-Set-clause-next t c =
     let fs = functions c.args.by_default c.args.known.now in
     let n = c.args.next.now in
-    behind_one n _ _ _ c.place-at-in-Set.ensures.next c.in_ok-value-in-Set.ensures.next ∙ sym (ap (λ s. n + count_stmt fs (tstmt_of s)) c.in-Set.is)
+    after_one n _ _ _ c.place-at-in-Set.ensures.next c.in_ok-value-in-Set.ensures.next ∙ sym (ap (λ s. n + count_stmt fs (tstmt_of s)) c.in-Set.is)
 
 pub stmt-returns-in_ok-then-in-If-clause-tree : goal.stmt-returns-in_ok-then-in-If-clause-tree
 stmt-returns-in_ok-then-in-If-clause-tree t c =
@@ -343,7 +343,7 @@ pub stmt-returns-in_ok-then-in-If-clause-next : goal.stmt-returns-in_ok-then-in-
 stmt-returns-in_ok-then-in-If-clause-next t c =
     let fs = functions c.args.by_default c.args.known.now in
     let n = c.args.next.now in
-    behind_two n _ _ _ _ _ c.place-at-in-If.ensures.next c.in_ok-test-in-If.ensures.next c.in_ok-then-in-If.ensures.next
+    after_two n _ _ _ _ _ c.place-at-in-If.ensures.next c.in_ok-test-in-If.ensures.next c.in_ok-then-in-If.ensures.next
     ∙ ap (λ s. n + count_stmt fs (T.test (typed_of c.in-If.test) (tstmt_of s) c.in-If.line)) c.deref.ensures ∙ sym (ap (λ s. n + count_stmt fs (tstmt_of s)) c.in-If.is)
 
 pub stmt-returns-in_ok-body-in-While-clause-tree : goal.stmt-returns-in_ok-body-in-While-clause-tree
@@ -359,7 +359,7 @@ pub stmt-returns-in_ok-body-in-While-clause-next : goal.stmt-returns-in_ok-body-
 stmt-returns-in_ok-body-in-While-clause-next t c =
     let fs = functions c.args.by_default c.args.known.now in
     let n = c.args.next.now in
-    behind_two n _ _ _ _ _ c.place-at-in-While.ensures.next c.in_ok-test-in-While.ensures.next c.in_ok-body-in-While.ensures.next
+    after_two n _ _ _ _ _ c.place-at-in-While.ensures.next c.in_ok-test-in-While.ensures.next c.in_ok-body-in-While.ensures.next
     ∙ ap (λ s. n + count_stmt fs (T.repeat (typed_of c.in-While.test) (tstmt_of s) c.in-While.line)) c.deref-in-While.ensures ∙ sym (ap (λ s. n + count_stmt fs (tstmt_of s)) c.in-While.is)
 
 pub stmt-returns-in_ok-otherwise-in-IfElse-clause-tree : goal.stmt-returns-in_ok-otherwise-in-IfElse-clause-tree
@@ -375,7 +375,7 @@ pub stmt-returns-in_ok-otherwise-in-IfElse-clause-next : goal.stmt-returns-in_ok
 stmt-returns-in_ok-otherwise-in-IfElse-clause-next t c =
     let fs = functions c.args.by_default c.args.known.now in
     let n = c.args.next.now in
-    behind_three n _ _ _ _ _ _ _ c.place-at-in-IfElse.ensures.next c.in_ok-test-in-IfElse.ensures.next c.in_ok-then-in-IfElse.ensures.next c.in_ok-otherwise-in-IfElse.ensures.next
+    after_three n _ _ _ _ _ _ _ c.place-at-in-IfElse.ensures.next c.in_ok-test-in-IfElse.ensures.next c.in_ok-then-in-IfElse.ensures.next c.in_ok-otherwise-in-IfElse.ensures.next
     ∙ ap₂ (λ s r. n + count_stmt fs (T.test_else (typed_of c.in-IfElse.test) (tstmt_of s) (tstmt_of r) c.in-IfElse.line)) c.deref-in-IfElse.ensures c.deref-in-IfElse-2.ensures ∙ sym (ap (λ s. n + count_stmt fs (tstmt_of s)) c.in-IfElse.is)
 
 pub stmt-returns-in_ok-body-in-Lights-clause-tree : goal.stmt-returns-in_ok-body-in-Lights-clause-tree
@@ -391,7 +391,7 @@ pub stmt-returns-in_ok-body-in-Lights-clause-next : goal.stmt-returns-in_ok-body
 stmt-returns-in_ok-body-in-Lights-clause-next t c =
     let fs = functions c.args.by_default c.args.known.now in
     let n = c.args.next.now in
-    behind_two n _ _ _ _ _ c.place-at-in-Lights.ensures.next c.in_ok-args-in-Lights.ensures.next c.in_ok-body-in-Lights.ensures.next
+    after_two n _ _ _ _ _ c.place-at-in-Lights.ensures.next c.in_ok-args-in-Lights.ensures.next c.in_ok-body-in-Lights.ensures.next
     ∙ ap₂ (λ xs s. n + count_stmt fs (T.lights c.in-Lights.word (T.exprs (map typed_of xs)) (tstmt_of s) c.in-Lights.line)) c.as_slice-in-Lights.ensures c.deref-in-Lights.ensures ∙ sym (ap (λ s. n + count_stmt fs (tstmt_of s)) c.in-Lights.is)
 
 pub stmt-returns-in_ok-body-in-For-clause-next : goal.stmt-returns-in_ok-body-in-For-clause-next
@@ -399,7 +399,7 @@ stmt-returns-in_ok-body-in-For-clause-next t c =
     let fs = functions c.args.by_default c.args.known.now in
     let n = c.args.next.now in
     let steps : List TypedStmt → List TypedStmt → TypedStmt → T.Stmt = λ xs ys s. T.steps (T.stmts (map tstmt_of xs)) (typed_of c.in-For.test) (T.stmts (map tstmt_of ys)) (tstmt_of s) c.in-For.line in
-    behind_four n _ _ _ _ _ _ _ _ _ c.place-at-in-For.ensures.next c.in_ok-first-in-For.ensures.next c.in_ok-test-in-For.ensures.next c.in_ok-step-in-For.ensures.next c.in_ok-body-in-For.ensures.next
+    after_four n _ _ _ _ _ _ _ _ _ c.place-at-in-For.ensures.next c.in_ok-first-in-For.ensures.next c.in_ok-test-in-For.ensures.next c.in_ok-step-in-For.ensures.next c.in_ok-body-in-For.ensures.next
     ∙ ap (λ xs. n + count_stmt fs (steps xs c.as_slice-in-For-2.result.now c.deref-in-For.result.now)) c.as_slice-in-For.ensures
     ∙ ap₂ (λ ys s. n + count_stmt fs (steps c.in-For.first ys s)) c.as_slice-in-For-2.ensures c.deref-in-For.ensures
     ∙ ap (λ s. n + count_stmt fs s) (sym (for_shown c.args.s.now c.in-For.first c.in-For.test c.in-For.step c.in-For.body c.in-For.line c.in-For.is))
@@ -526,7 +526,7 @@ pub expr-returns-in_ok-args-in-Apply-clause-next : goal.expr-returns-in_ok-args-
 expr-returns-in_ok-args-in-Apply-clause-next t c =
     let fs = functions c.args.by_default c.args.known.now in
     let n = c.args.next.now in
-    behind_one n _ _ _ c.place-at.ensures.next c.in_ok-args-in-Apply.ensures.next
+    after_one n _ _ _ c.place-at.ensures.next c.in_ok-args-in-Apply.ensures.next
     ∙ ap (λ xs. n + count fs (T.apply c.in-Apply.operation (T.exprs (map typed_of xs)) c.in-Apply.kind c.in-Apply.line)) c.as_slice.ensures ∙ ap (λ x. n + count fs x) (sym (apply_shown c.args.e.now c.in-Apply.operation c.in-Apply.args c.in-Apply.kind c.in-Apply.line c.in-Apply.is))
 
 pub expr-returns-in-Number-clause-tree : goal.expr-returns-in-Number-clause-tree

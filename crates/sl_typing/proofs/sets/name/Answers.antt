@@ -4,7 +4,7 @@ use Rattle.sl_expressions.specs.Scope.{level_of}
 use Rattle.sl_expressions.specs.TypedView.{tstmt_of}
 use Rattle.sl_expressions.specs.Views.{local_of}
 use Rattle.sl_typing.specs.Stmts.{is_since}
-use Rattle.sl_typing.proofs.Behind.{name_added}
+use Rattle.sl_typing.proofs.After.{name_added}
 use Rattle.sl_typing.proofs.Scopes.{extends_same, left_same, left_longer}
 use Rattle.sl_typing.proofs.sets.name.Goals as goal
 

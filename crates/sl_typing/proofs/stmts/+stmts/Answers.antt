@@ -7,10 +7,10 @@ use Rattle.sl_expressions.specs.Found.{◌>>=◌}
 use Rattle.sl_expressions.specs.TypedView.{tstmt_of}
 use Rattle.sl_expressions.specs.Views.{Gives, around_of, local_of}
 use Rattle.sl_typing.specs.Stmts as spec
-use Rattle.sl_typing.specs.Stmts.{behind, typed_stmt, typed_rows}
+use Rattle.sl_typing.specs.Stmts.{put_after, typed_stmt, typed_rows}
 use Rattle.sl_typing.specs.Measures.{size_stmt, size_rows}
 use Rattle.sl_typing.specs.Views.{boxed_of}
-use Rattle.sl_typing.proofs.Behind.{row_fault, rows_step, rows_end}
+use Rattle.sl_typing.proofs.After.{row_fault, rows_step, rows_end}
 use Rattle.sl_typing.proofs.Nodes.{block_is, small_stmt}
 use Rattle.sl_typing.proofs.Scopes.{extends_trans, left_same}
 use Rattle.sl_typing.proofs.StmtRows.{added, in_branch, steps_in_two}
@@ -26,7 +26,7 @@ rows-loop-s-preserved t c =
     let g = around_of c.args.g.now in
     let rest = U.stmts (map stmt_of (drop (c.loop-s.s-index + 1) c.args.body.now)) in
     let step = rows_step g c.args.from (map tstmt_of c.loop-s.done.items) (map local_of c.loop-s.scope) c.args.body.now c.loop-s.s-index c.s-item.result (omega arith) c.s-item.is in
-    let joined = ap (λ r. r >>= λ q. behind q.0 (typed_rows g c.args.from q.1 rest)) c.in_ok-stmt.ensures.gives in
+    let joined = ap (λ r. r >>= λ q. put_after q.0 (typed_rows g c.args.from q.1 rest)) c.in_ok-stmt.ensures.gives in
     record {
       same = sym joined ∙ sym step ∙ c.loop-s.invariant.same;
       extends = extends_trans c.args.scope.now c.loop-s.scope c.stmt.new.scope c.loop-s.invariant.extends c.in_ok-stmt.ensures.extends;
@@ -37,7 +37,7 @@ rows-returns-in_err-stmt-clause-gives t c =
     let g = around_of c.args.g.now in
     let rest = U.stmts (map stmt_of (drop (c.loop-s.s-index + 1) c.args.body.now)) in
     let step = rows_step g c.args.from (map tstmt_of c.loop-s.done.items) (map local_of c.loop-s.scope) c.args.body.now c.loop-s.s-index c.s-item.result c.loop-s-test.true c.s-item.is in
-    let whole = row_fault _ _ c.stmt.new.done.items _ c.stmt.new.scope _ _ (λ q. behind q.0 (typed_rows g c.args.from q.1 rest)) (sym c.loop-s.invariant.same ∙ step) c.in_err-stmt.ensures.gives in
+    let whole = row_fault _ _ c.stmt.new.done.items _ c.stmt.new.scope _ _ (λ q. put_after q.0 (typed_rows g c.args.from q.1 rest)) (sym c.loop-s.invariant.same ∙ step) c.in_err-stmt.ensures.gives in
     search rules
 
 pub rows-returns-in_err-stmt-clause-extends : goal.rows-returns-in_err-stmt-clause-extends
@@ -48,7 +48,7 @@ rows-returns-clause-gives t c =
     let g = around_of c.args.g.now in
     let done = map tstmt_of c.loop-s.done.items in
     let ls = map local_of c.loop-s.scope in
-    let left = behind done (typed_rows g c.args.from ls (U.stmts (map stmt_of (drop c.loop-s.s-index c.args.body.now)))) in
+    let left = put_after done (typed_rows g c.args.from ls (U.stmts (map stmt_of (drop c.loop-s.s-index c.args.body.now)))) in
     sym {a = left} c.loop-s.invariant.same ∙ rows_end g c.args.from done ls c.args.body.now c.loop-s.s-index c.loop-s-test.false
 
 pub stmt-block-body-requires : goal.stmt-block-body-requires
