@@ -1,5 +1,5 @@
 -- A look-up by its steps.
-use Rattle.std.proofs.Common.{◌≡◌, ◌∙◌, ap, sym, subst, ℕ, ◌^◌, ◌/◌, ◌<◌, ℤ, pos, ◌+ℤ◌, List, arith}
+use Rattle.std.proofs.Common.{◌≡◌, ◌∙◌, ap, refl, sym, subst, ℕ, ◌^◌, ◌/◌, ◌<◌, ℤ, pos, ◌+ℤ◌, List, arith}
 use Rattle.std.specs.Prelude.{Option, Some}
 use Rattle.std.proofs.lemmas.List.{set-set}
 use Rattle.fixed_math.specs.declared.vec3.Vec3.{Vec3}
@@ -7,9 +7,12 @@ use Rattle.texture.specs.declared.look.Tile.{Tile}
 use Rattle.texture.specs.Images.{Image}
 use Rattle.texture.specs.Pyramid.{side_at, texel}
 use Rattle.texture.specs.declared.look.Around.{Around}
-use Rattle.texture.specs.Around.{IsTexel, first_tile, mixed_of, mixed_at}
-use Rattle.texture.specs.Looks.{place_of, rest_of, put_into, mixed, look_of}
-use Rattle.texture.specs.Slots.{put, put_four, slot_of, tile_at, slots_after}
+use Rattle.texture.specs.declared.look.Corners.{Corners}
+use Rattle.texture.specs.declared.texel.Texel.{Texel}
+use Rattle.texture.specs.Around.{IsTexel, IsInOneTile, AreKnown, first_tile, mixed_of, mixed_at}
+use Rattle.texture.specs.Looks.{colour_of, place_of, rest_of, put_into, mixed, look_of}
+use Rattle.texture.specs.Slots.{AreOf, put, put_four, slot_of, tile_at, slots_after}
+use Rattle.texture.proofs.Filled.{known_texel}
 
 module _ (p : Image) (a : Around) (k : Tile) (is : k ≡ first_tile a) where
   -- each of the four texels, in the tile of the first
@@ -70,3 +73,16 @@ put_one ss which l x xx y yy ex ey =
     ∙ ap (λ q. put (put (put (put ss k) k) q) (tile_at which l xx yy)) c
     ∙ ap (λ q. put (put (put (put ss k) k) k) q) d
     ∙ put_again (put (put ss k) k) k ∙ put_again (put ss k) k ∙ put_again ss k
+
+-- the mix of four texels of one tile that are known
+pub known_mixed : (p : Image) (a : Around) (xs : List (Option Texel)) (c : Corners) (r : Vec3) → IsInOneTile a → AreOf p (first_tile a) xs → AreKnown xs a c →
+    r ≡ mixed_of a (colour_of c.left) (colour_of c.right) (colour_of c.below_left) (colour_of c.below_right) → r ≡ mixed_at p a
+known_mixed p a xs c r one of known e =
+    let k = first_tile a in
+    let x = a.across.first in
+    let xx = a.across.second in
+    let y = a.up.first in
+    let yy = a.up.second in
+    mixed_through p a k refl (colour_of c.left) (colour_of c.right) (colour_of c.below_left) (colour_of c.below_right) r
+    (known_texel p k x y xs c.left of refl refl known.left) (known_texel p k xx y xs c.right of one.columns refl known.right)
+    (known_texel p k x yy xs c.below_left of refl one.rows known.below_left) (known_texel p k xx yy xs c.below_right of one.columns one.rows known.below_right) e

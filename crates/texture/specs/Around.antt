@@ -1,8 +1,10 @@
 -- Four texels around a place of a level.
-use Rattle.std.specs.Prelude.{ℕ, ◌≤◌, ◌<◌, ◌/◌, ◌^◌, pos, ◌≡◌}
+use Rattle.std.specs.Prelude.{ℕ, ◌+◌, ◌*◌, ◌≤◌, ◌<◌, ◌/◌, ◌%◌, ◌^◌, pos, List, get_or, Option, Some, None, ◌≡◌}
 use Rattle.fixed_math.specs.declared.vec3.Vec3.{Vec3}
 use Rattle.texture.specs.declared.look.Spot.{Spot}
 use Rattle.texture.specs.declared.look.Around.{Around}
+use Rattle.texture.specs.declared.look.Corners.{Corners}
+use Rattle.texture.specs.declared.texel.Texel.{Texel}
 use Rattle.texture.specs.Images.{Image}
 use Rattle.texture.specs.Pyramid.{side_at}
 use Rattle.texture.specs.declared.look.Tile.{Tile}
@@ -37,6 +39,10 @@ pub record IsInOneTile (a : Around) : Type 0 where
   pub columns : a.across.second / 32 ≡ a.across.first / 32
   pub rows : a.up.second / 32 ≡ a.up.first / 32
 
+-- the place of a texel among those of its tile, by rows
+abbrev pub place_in : ℕ → ℕ → ℕ
+place_in x y = y % 32 * 32 + x % 32
+
 -- the tile of the first
 abbrev pub first_tile : Around → Tile
 first_tile a = tile_at a.which a.level a.across.first a.up.first
@@ -49,3 +55,10 @@ mixed_of a left right below_left below_right =
 -- the mix of the four
 abbrev pub mixed_at : Image → Around → Vec3
 mixed_at p a = mixed p a.level a.across.first a.across.second a.up.first a.up.second (pos a.across.rest) (pos a.up.rest)
+
+-- these texels stand at the four places among those of a tile, by rows
+pub record AreKnown (xs : List (Option Texel)) (a : Around) (c : Corners) : Type 0 where
+  pub left : get_or xs (place_in a.across.first a.up.first) None ≡ Some c.left
+  pub right : get_or xs (place_in a.across.second a.up.first) None ≡ Some c.right
+  pub below_left : get_or xs (place_in a.across.first a.up.second) None ≡ Some c.below_left
+  pub below_right : get_or xs (place_in a.across.second a.up.second) None ≡ Some c.below_right

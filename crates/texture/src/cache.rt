@@ -1,13 +1,13 @@
 // A cache of tiles.
-ghost use Rattle.std.specs.Prelude.{◌≡◌, ◌≢◌, ◌≤◌, ◌<◌, ◌%◌, ◌*◌, ◌+◌, ◌^◌, ℕ, Some, None, cond, length, get_or, is_some, IsTrue, IfOk};
+ghost use Rattle.std.specs.Prelude.{◌≡◌, ◌≢◌, ◌≤◌, ◌<◌, ◌%◌, ◌*◌, ◌+◌, ◌^◌, ℕ, Some, None, cond, length, get_or, is_some, IsTrue, IfOk, IfSome};
 ghost use Rattle.std.specs.List.{count_by};
 ghost use Rattle.texture.specs.Images.{Image};
 ghost use Rattle.texture.specs.Pyramid.{side_at, texel};
-ghost use Rattle.texture.specs.Around.{IsAround, IsInOneTile, IsTexel, first_tile, mixed_at};
+ghost use Rattle.texture.specs.Around.{IsAround, IsInOneTile, IsTexel, AreKnown, first_tile, mixed_at};
 ghost use Rattle.texture.specs.Looks.{colour_of, look_of};
 ghost use Rattle.texture.specs.Slots.{Held, Kept, AreEmpty, AreKept, AreOf, IsBrought, slot_of, keys_of, put as put_key, put_four, slots_after, tile_at, no_image, empty};
 
-use crate::look::{Around, Tile, spot_of};
+use crate::look::{Around, Corners, Tile, spot_of};
 use crate::texel::Texel;
 use crate::texture::Texture;
 use fixed_math::{NoMemory, Num, Vec3, hash32};
@@ -102,7 +102,6 @@ impl Slot {
     }
 
     /// The same, which is worked out where it isn't known.
-    #[inline(always)]
     fn texel(&mut self, texture: &Texture, tile: Tile, x: u32, y: u32) -> Texel
         requires texels { AreOf texture.now tile self.old.texels }
         requires level { tile.level ≤ 11 }
@@ -117,8 +116,30 @@ impl Slot {
         }
     }
 
-    /// The mix of four texels of the slot's tile.
-    fn mixed(&mut self, texture: &Texture, a: Around) -> Texel
+    /// The four texels around a place in the slot's tile, where all are known.
+    #[inline(always)]
+    fn corners(&self, a: &Around) -> Option<Corners>
+        ensures { IfSome result (λ c. AreKnown self.now.texels a.now c) }
+    {
+        let (across, up) = (a.across, a.up);
+        match (
+            self.known(across.first, up.first),
+            self.known(across.second, up.first),
+            self.known(across.first, up.second),
+            self.known(across.second, up.second),
+        ) {
+            (Some(left), Some(right), Some(below_left), Some(below_right)) => Some(Corners {
+                left,
+                right,
+                below_left,
+                below_right,
+            }),
+            _ => None,
+        }
+    }
+
+    // The mix of four texels of the slot's tile, of which each is worked out where it isn't known.
+    fn learn_mixed(&mut self, texture: &Texture, a: Around) -> Texel
         requires texels { AreOf texture.now (first_tile a) self.old.texels }
         requires around { IsAround texture.now a }
         requires one { IsInOneTile a }
@@ -131,7 +152,28 @@ impl Slot {
         let right = self.texel(texture, tile, a.across.second, a.up.first);
         let below_left = self.texel(texture, tile, a.across.first, a.up.second);
         let below_right = self.texel(texture, tile, a.across.second, a.up.second);
-        a.mixed(left, right, below_left, below_right)
+        a.mixed(Corners {
+            left,
+            right,
+            below_left,
+            below_right,
+        })
+    }
+
+    /// The mix of four texels of the slot's tile.
+    #[inline(always)]
+    fn mixed(&mut self, texture: &Texture, a: Around) -> Texel
+        requires texels { AreOf texture.now (first_tile a) self.old.texels }
+        requires around { IsAround texture.now a }
+        requires one { IsInOneTile a }
+        ensures value { colour_of result ≡ mixed_at texture.now a }
+        ensures tile { self.new.tile ≡ self.old.tile }
+        ensures texels { AreOf texture.now (first_tile a) self.new.texels }
+    {
+        match self.corners(&a) {
+            Some(corners) => a.mixed(corners),
+            None => self.learn_mixed(texture, a),
+        }
     }
 }
 
@@ -177,6 +219,21 @@ fn texel_in(
     slots[place].texel(texture, tile, x, y)
 }
 
+/// The mix of four texels of a tile that its slot keeps.
+#[inline(always)]
+fn mix_kept(slots: &mut Vec<Slot>, place: usize, texture: &Texture, a: Around) -> Texel
+    requires there { place < length slots.old.items }
+    requires own { place ≡ slot_of (first_tile a) }
+    requires tile { (get_or slots.old.items place empty).tile ≡ Some (first_tile a) }
+    requires kept { AreOf texture.now (first_tile a) (get_or slots.old.items place empty).texels }
+    requires around { IsAround texture.now a }
+    requires one { IsInOneTile a }
+    ensures value { colour_of result ≡ mixed_at texture.now a }
+    ensures slots { IsBrought texture.now (first_tile a) place slots.old.items slots.new.items }
+{
+    slots[place].mixed(texture, a)
+}
+
 /// The mix of four texels of a tile, which is brought into its slot.
 fn mix_in(slots: &mut Vec<Slot>, place: usize, texture: &Texture, a: Around) -> Texel
     requires there { place < length slots.old.items }
@@ -188,7 +245,7 @@ fn mix_in(slots: &mut Vec<Slot>, place: usize, texture: &Texture, a: Around) -> 
     ensures slots { IsBrought texture.now (first_tile a) place slots.old.items slots.new.items }
 {
     bring(slots, place, a.tile());
-    slots[place].mixed(texture, a)
+    slots[place].learn_mixed(texture, a)
 }
 
 /// Look-ups of textures through a cache of at most 256 tiles. Contracts see it as its textures and the tiles of its slots.
@@ -223,18 +280,6 @@ impl<'t> Cache<'t> {
             slots,
             last: 0,
         })
-    }
-
-    /// The place of a tile's slot: that of the last look-up where it keeps the tile, for which no hash is to be made.
-    fn place_of(&self, tile: Tile) -> usize
-        ensures value { result ≡ slot_of tile }
-        ensures bound { result < 256 }
-    {
-        let slot = &self.slots[self.last];
-        if slot.keeps(tile) {
-            return self.last;
-        }
-        slot_at(tile)
     }
 
     /// The texel of level `l` of texture `which` in column `x` and row `y`, through the cache.
@@ -293,8 +338,13 @@ impl<'t> Cache<'t> {
         ensures slots { self.new.slots ≡ put_key self.old.slots (first_tile a) }
         ensures textures { self.new.textures ≡ self.old.textures }
     {
-        let place = self.place_of(a.tile());
+        let tile = a.tile();
         let texture = self.texture(a.which);
+        let last = &self.slots[self.last];
+        if last.keeps(tile) {
+            return mix_kept(&mut self.slots, self.last, texture, a).colour();
+        }
+        let place = slot_at(tile);
         self.last = place;
         mix_in(&mut self.slots, place, texture, a).colour()
     }
@@ -311,7 +361,13 @@ impl<'t> Cache<'t> {
         let right = self.texel(a.which, a.level, a.across.second, a.up.first);
         let below_left = self.texel(a.which, a.level, a.across.first, a.up.second);
         let below_right = self.texel(a.which, a.level, a.across.second, a.up.second);
-        a.mixed(left, right, below_left, below_right).colour()
+        a.mixed(Corners {
+            left,
+            right,
+            below_left,
+            below_right,
+        })
+        .colour()
     }
 
     /// The texture of a number.

@@ -6,6 +6,7 @@ ghost use Rattle.texture.specs.Looks.{blend, blend_all, colour_of, exact_of, pla
 
 use crate::texel::Texel;
 use fixed_math::Num;
+use std::simd::prelude::*;
 
 /// Where a look-up falls between the columns or rows of a level: the two whose texels it mixes, and how far it lies beyond the middle of
 /// the first, in 65536ths of a texel.
@@ -32,6 +33,15 @@ pub(crate) struct Around {
     pub(crate) level: u32,
     pub(crate) across: Spot,
     pub(crate) up: Spot,
+}
+
+/// The four texels.
+#[derive(Clone, Copy)]
+pub(crate) struct Corners {
+    pub(crate) left: Texel,
+    pub(crate) right: Texel,
+    pub(crate) below_left: Texel,
+    pub(crate) below_right: Texel,
 }
 
 impl Around {
@@ -116,44 +126,32 @@ fn put(place: i64, side: u32) -> u32
     place as u32
 }
 
-/// From `a` to `b`, `t` of the way: what `a` loses is rounded up, so that what it keeps is rounded down, and nothing passes 32 bits.
-fn mix(a: u32, b: u32, t: u32) -> u32
-    requires from { a ≤ 65536 }
-    requires to { b ≤ 65536 }
-    requires way { t < 65536 }
-    ensures value { pos result ≡ blend (pos a) (pos b) (pos t) }
-    ensures most { result ≤ 65536 }
-{
-    a - (a * t + 65535) / 65536 + b * t / 65536
-}
-
-/// The same for each channel.
-fn mix_all(a: Texel, b: Texel, t: u32) -> Texel
+/// From `a` to `b`, `t` of the way, each channel in its lane: what `a` loses is rounded up, so that what it keeps is rounded down, and
+/// nothing passes 32 bits.
+#[inline(always)]
+fn mix(a: Texel, b: Texel, t: u32) -> Texel
     requires { t < 65536 }
     ensures { colour_of result ≡ blend_all (colour_of a) (colour_of b) (pos t) }
 {
-    Texel {
-        red: mix(a.red, b.red, t),
-        green: mix(a.green, b.green, t),
-        blue: mix(a.blue, b.blue, t),
-    }
+    let from = u32x4::from_array([a.red, a.green, a.blue, 0]);
+    let to = u32x4::from_array([b.red, b.green, b.blue, 0]);
+    let way = u32x4::splat(t);
+    let lost = (from * way + u32x4::splat(65535)) >> u32x4::splat(16);
+    let gained = (to * way) >> u32x4::splat(16);
+    let [red, green, blue, _] = (from - lost + gained).to_array();
+    Texel { red, green, blue }
 }
 
 impl Around {
     /// The mix of the four, by rows.
-    pub(crate) fn mixed(
-        &self,
-        left: Texel,
-        right: Texel,
-        below_left: Texel,
-        below_right: Texel,
-    ) -> Texel
+    #[inline(always)]
+    pub(crate) fn mixed(&self, of: Corners) -> Texel
         requires across { self.now.across.rest < 65536 }
         requires up { self.now.up.rest < 65536 }
-        ensures { colour_of result ≡ mixed_of self.now (colour_of left) (colour_of right) (colour_of below_left) (colour_of below_right) }
+        ensures { colour_of result ≡ mixed_of self.now (colour_of of.left) (colour_of of.right) (colour_of of.below_left) (colour_of of.below_right) }
     {
-        let first = mix_all(left, right, self.across.rest);
-        let second = mix_all(below_left, below_right, self.across.rest);
-        mix_all(first, second, self.up.rest)
+        let first = mix(of.left, of.right, self.across.rest);
+        let second = mix(of.below_left, of.below_right, self.across.rest);
+        mix(first, second, self.up.rest)
     }
 }

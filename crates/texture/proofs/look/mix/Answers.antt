@@ -1,24 +1,15 @@
-use Rattle.std.proofs.Common.{arith}
-use Rattle.texture.proofs.Shares.{product_most, lost_most, mix_is, mix_most}
+use Rattle.texture.proofs.Shares.{lane_most, lanes_are}
 use Rattle.texture.proofs.look.mix.Goals as goal
 
-pub overflow_mul-result : goal.overflow_mul-result
-overflow_mul-result c = let e = product_most c.args.a c.args.t c.requires.from c.requires.way in omega (arith, e)
+pub invariant_of-result : goal.invariant_of-result
+invariant_of-result c =
+    let a = c.args.a in
+    let b = c.args.b in
+    record {
+      red_most = lane_most a.red b.red c.args.t a.red_most b.red_most c.requires;
+      green_most = lane_most a.green b.green c.args.t a.green_most b.green_most c.requires;
+      blue_most = lane_most a.blue b.blue c.args.t a.blue_most b.blue_most c.requires;
+    }
 
-pub overflow_add-result : goal.overflow_add-result
-overflow_add-result c = let e = product_most c.args.a c.args.t c.requires.from c.requires.way in omega (arith, e)
-
-pub overflow_sub-result : goal.overflow_sub-result
-overflow_sub-result c = lost_most c.args.a c.args.t c.requires.way
-
-pub overflow_mul-result-2 : goal.overflow_mul-result-2
-overflow_mul-result-2 c = let e = product_most c.args.b c.args.t c.requires.to c.requires.way in omega (arith, e)
-
-pub overflow_add-result-2 : goal.overflow_add-result-2
-overflow_add-result-2 c = let e = mix_most c.args.a c.args.b c.args.t c.requires.from c.requires.to c.requires.way in omega (arith, e)
-
-pub returns-clause-value : goal.returns-clause-value
-returns-clause-value c = mix_is c.args.a c.args.b c.args.t c.requires.from c.requires.to c.requires.way
-
-pub returns-clause-most : goal.returns-clause-most
-returns-clause-most c = mix_most c.args.a c.args.b c.args.t c.requires.from c.requires.to c.requires.way
+pub returns : goal.returns
+returns c = lanes_are c.args.a c.args.b c.args.t c.requires
