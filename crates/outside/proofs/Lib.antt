@@ -8,3 +8,4 @@ pub mod Puts
 pub mod Entries
 pub mod Saying
 pub mod Asking
+pub mod Stepping

@@ -4,6 +4,7 @@ pub mod Sink
 pub mod Frames
 pub mod NoteLines
 pub mod Asked
+pub mod Steps
 pub mod CallLog
 pub mod HeldFiles
 pub mod HeldFrames

@@ -1,9 +1,8 @@
 // Parts from a library, joined.
-ghost use Rattle.std.specs.Prelude.{◌≡◌, ◌≤◌, ◌∷◌, [], false, IsErrOf, OnOk, OnErr, IfOk, IfErr, length, string_bytes};
-ghost use Rattle.outside.specs.Causes.{Rose, Told, HasCause};
+ghost use Rattle.std.specs.Prelude.{◌≡◌, ◌≤◌, ◌∷◌, [], false, IsErr, IsErrOf, IfOk, length, string_bytes};
+ghost use Rattle.outside.specs.Causes.{Told};
 ghost use Rattle.outside.specs.Library.{held_as};
-ghost use Rattle.outside.specs.Asked.{AsksAll, AsksFront};
-ghost use Rattle.outside.specs.Frames.{Adds, AddsPart, whole};
+ghost use Rattle.outside.specs.Steps.{AsksFor, Consults, WritesPicture};
 ghost use Rattle.parts.specs.Joining.{IsFault};
 ghost use Rattle.part_files.specs.Parts.{part_name, most_part_bytes, asked_parts};
 ghost use Rattle.part_files.specs.Joins.{GivesPart, GivesParts, GivesPicture, IsStopOf};
@@ -35,12 +34,8 @@ fn fetch_part<L: Library>(
     room: u64,
 ) -> Result<Vec<u8>, JoinStop>
     ensures size { IfOk result (λ text. length text.items ≤ room) }
-    ensures held { L.held library.new ≡ L.held library.old }
-    ensures asked { AsksFront (part_name name.now part ∷ []) (L.asked library.old) (L.asked library.new) }
-    ensures asked_all { OnOk result (AsksAll (part_name name.now part ∷ []) (L.asked library.old) (L.asked library.new)) }
+    ensures library { AsksFor L.held L.asked L.faults library.old library.new (part_name name.now part ∷ []) result (IsErrOf result ReadFault) }
     ensures gives { Told (L.held library.old) (λ files. GivesPart part room result (held_as files (part_name name.now part))) }
-    ensures later { L.faults library.old ≤ L.faults library.new }
-    ensures read { IsErrOf result ReadFault → Rose (L.faults library.old) (L.faults library.new) }
 {
     let file = part_name(alloc, name, part)?;
     let mut bytes = Vec::new(alloc);
@@ -64,11 +59,8 @@ fn fetch_parts<L: Library>(
     count: u32,
 ) -> Result<Vec<List<u8>>, JoinStop>
     ensures count { IfOk result (λ texts. length texts.items ≡ count) }
-    ensures held { L.held library.new ≡ L.held library.old }
-    ensures asked { Told (L.held library.old) (λ files. AsksFront (asked_parts files name.now count) (L.asked library.old) (L.asked library.new)) }
+    ensures library { Consults L.held L.asked L.faults library.old library.new (λ files. asked_parts files name.now count) (IsErrOf result ReadFault) }
     ensures gives { Told (L.held library.old) (λ files. GivesParts files name.now count result) }
-    ensures later { L.faults library.old ≤ L.faults library.new }
-    ensures read { IsErrOf result ReadFault → Rose (L.faults library.old) (L.faults library.new) }
 {
     let mut texts = Vec::new(alloc);
     let mut room = MOST_BYTES;
@@ -104,11 +96,8 @@ pub fn joined_parts<L: Library>(
 ) -> Result<Vec<u8>, JoinStop>
     requires some { 1 ≤ count }
     requires most { count ≤ 256 }
-    ensures held { L.held library.new ≡ L.held library.old }
-    ensures asked { Told (L.held library.old) (λ files. AsksFront (asked_parts files name.now count) (L.asked library.old) (L.asked library.new)) }
+    ensures library { Consults L.held L.asked L.faults library.old library.new (λ files. asked_parts files name.now count) (IsErrOf result ReadFault) }
     ensures gives { Told (L.held library.old) (λ files. GivesPicture files name.now count result) }
-    ensures later { L.faults library.old ≤ L.faults library.new }
-    ensures read { IsErrOf result ReadFault → Rose (L.faults library.old) (L.faults library.new) }
 {
     let texts = fetch_parts(alloc, library, name, count)?;
     match join(alloc, &texts) {
@@ -120,10 +109,7 @@ pub fn joined_parts<L: Library>(
 /// Puts a picture to the sink under its name, as one frame.
 pub fn put_picture<O: FrameSink>(frames: &mut O, name: &str, bytes: &[u8]) -> Result<(), Failed>
     requires { O.is_open frames.old ≡ false }
-    ensures closed { OnOk result (O.is_open frames.new ≡ false) }
-    ensures ok { OnOk result (Adds (whole (record { name = name.now; bytes = bytes.now }) ∷ []) (O.written frames.old) (O.written frames.new)) }
-    ensures err { OnErr result (AddsPart (record { name = name.now; bytes = bytes.now }) (O.written frames.old) (O.written frames.new)) }
-    ensures cause { HasCause (O.faults frames.old) (O.faults frames.new) result }
+    ensures { WritesPicture O.written O.is_open O.faults frames.old frames.new (record { name = name.now; bytes = bytes.now }) result (IsErr result) }
 {
     frames.begin(name)?;
     put_all(frames, bytes)?;

@@ -1,7 +1,8 @@
-use Rattle.std.proofs.Common.{◌≡◌, ◌+◌, ◌-◌, refl, arith, ap, ◌∙◌, subst, ℕ, List, [], ◌∷◌, length, length-append, Option, Ok}
+use Rattle.std.proofs.Common.{◌≡◌, ◌+◌, ◌-◌, refl, arith, rules, ap, ◌∙◌, subst, ℕ, List, [], ◌∷◌, length, length-append, Option, Ok}
 use Rattle.outside.specs.Causes.{Told}
 use Rattle.outside.specs.Library.{Files, held_as}
 use Rattle.outside.proofs.Asking.{asks_all-none}
+use Rattle.outside.proofs.Stepping.{rose_after}
 use Rattle.part_files.specs.Parts.{part_name, part_within, total_length}
 use Rattle.part_files.proofs.Joining.{none_read, none_asked, more_texts, more_room, asked_more, asked_last, asked_some, unread_parts}
 use Rattle.part_files.proofs.join.fetch_parts.Goals as goal
@@ -19,10 +20,16 @@ loop-part-init g c =
       later = omega arith;
     }
 
-pub returns-in_err-text-clause-asked : goal.returns-in_err-text-clause-asked
-returns-in_err-text-clause-asked g c =
+pub returns-in_err-text-clause-library : goal.returns-in_err-text-clause-library
+returns-in_err-text-clause-library g c =
     let i = c.loop-part.invariant in
-    asked_last (g.L.Library.held c.args.library.now) c.args.name.now c.loop-part.part c.args.count c.loop-part.texts.items _ _ _ c.loop-part-test.true i.read i.asked c.fetch_part.ensures.asked
+    let l = c.in_err-text.ensures.library in
+    record {
+      held = l.held ∙ i.held;
+      asked = asked_last (g.L.Library.held c.args.library.now) c.args.name.now c.loop-part.part c.args.count c.loop-part.texts.items _ _ _ c.loop-part-test.true i.read i.asked l.asked;
+      later = omega (arith, i.later, l.later);
+      read = λ h. rose_after _ _ _ i.later (l.read (search rules));
+    }
 
 pub returns-in_err-text-clause-gives : goal.returns-in_err-text-clause-gives
 returns-in_err-text-clause-gives g c =
@@ -30,10 +37,16 @@ returns-in_err-text-clause-gives g c =
     unread_parts (g.L.Library.held c.args.library.now) _ c.args.name.now c.loop-part.part c.args.count c.loop-part.room c.loop-part.texts.items _ c.in_err-text.field-0.0
     c.from_residual.ensures.1 i.held c.loop-part-test.true i.read i.room c.in_err-text.ensures.gives
 
-pub returns-in_err-push-clause-asked : goal.returns-in_err-push-clause-asked
-returns-in_err-push-clause-asked g c =
+pub returns-in_err-push-clause-library : goal.returns-in_err-push-clause-library
+returns-in_err-push-clause-library g c =
     let i = c.loop-part.invariant in
-    asked_last (g.L.Library.held c.args.library.now) c.args.name.now c.loop-part.part c.args.count c.loop-part.texts.items _ _ _ c.loop-part-test.true i.read i.asked c.fetch_part.ensures.asked
+    let l = c.fetch_part.ensures.library in
+    record {
+      held = l.held ∙ i.held;
+      asked = asked_last (g.L.Library.held c.args.library.now) c.args.name.now c.loop-part.part c.args.count c.loop-part.texts.items _ _ _ c.loop-part-test.true i.read i.asked l.asked;
+      later = omega (arith, i.later, l.later);
+      read = search rules;
+    }
 
 pub loop-part-preserved : goal.loop-part-preserved
 loop-part-preserved g c =
@@ -48,15 +61,20 @@ loop-part-preserved g c =
     let read : Told held (λ files. part_within c.loop-part.room n (held_as files (part_name name n)) ≡ Ok text) =
     subst (λ (h : Option Files). Told h (λ files. part_within c.loop-part.room n (held_as files (part_name name n)) ≡ Ok text)) i.held c.in_ok-text.ensures.gives in
     record {
-      held = c.fetch_part.ensures.held ∙ i.held;
+      held = c.fetch_part.ensures.library.held ∙ i.held;
       read = more_texts held name n c.loop-part.room texts _ text i.read i.room read c.in_ok-push.ensures.items;
       count = omega (arith, ap (λ (ts : List (List ℕ)). length ts) c.in_ok-push.ensures.items, length-append texts (text ∷ []), i.count);
       room = more_room c.loop-part.room _ texts _ text i.room c.in_ok-text.ensures.size (ap (λ k. c.loop-part.room - k) (long ∙ same)) c.in_ok-push.ensures.items;
-      asked = asked_more held name n texts _ _ _ i.read i.asked c.in_ok-text.ensures.asked_all;
-      later = omega (arith, i.later, c.fetch_part.ensures.later);
+      asked = asked_more held name n texts _ _ _ i.read i.asked c.in_ok-text.ensures.library.asked_all;
+      later = omega (arith, i.later, c.fetch_part.ensures.library.later);
     }
 
-pub returns-clause-asked : goal.returns-clause-asked
-returns-clause-asked g c =
+pub returns-clause-library : goal.returns-clause-library
+returns-clause-library g c =
     let i = c.loop-part.invariant in
-    asked_some (g.L.Library.held c.args.library.now) c.args.name.now c.loop-part.part c.args.count _ _ (omega (arith, c.loop-part.auto.part-end)) i.asked
+    record {
+      held = i.held;
+      asked = asked_some (g.L.Library.held c.args.library.now) c.args.name.now c.loop-part.part c.args.count _ _ (omega (arith, c.loop-part.auto.part-end)) i.asked;
+      later = i.later;
+      read = search rules;
+    }
