@@ -1,20 +1,17 @@
 -- That the code draws a frame of a scene within its limits.
-use Rattle.std.proofs.Common.{◌≡◌, ℕ, ◌^◌, ◌≤◌, sym, refl, subst, List, Option, length}
+use Rattle.std.proofs.Common.{◌≡◌, ℕ, ◌^◌, ◌≤◌, sym, refl, subst, List, Option}
 use Rattle.std.specs.Prelude.{All}
 use Rattle.fixed_math.specs.Buckets.{bucket_count}
-use Rattle.transforms.specs.Field.{IsView}
 use Rattle.outside.specs.Sink.{Written}
-use Rattle.scene.specs.Scene.{SceneValue, IsPrim, HasUses}
-use Rattle.scene.specs.Settings.{AreOptions}
+use Rattle.scene.specs.Scene.{SceneValue, HasUses}
 use Rattle.shader_binding.specs.Sets.{SetValue, Fits}
 use Rattle.shader_binding.specs.Bindings.{FitsPrim}
-use Rattle.filter_ppm.specs.Sampled.{IsFormat}
 use Rattle.buckets.specs.declared.limits.Report.{Report}
 use Rattle.buckets.specs.declared.share.Share.{Share}
 use Rattle.buckets.specs.declared.shown.Shown.{Shown}
 use Rattle.buckets.specs.Shares.{IsShare}
-use Rattle.buckets.specs.TileWalk.{format_in, picture_rect}
-use Rattle.buckets.specs.Standing.{IsDrawn}
+use Rattle.buckets.specs.TileWalk.{picture_rect}
+use Rattle.buckets.specs.Standing.{IsDrawn, IsFrame}
 use Rattle.buckets.specs.Progress.{share_of, begun_with}
 
 -- what is known of a frame that is shown, with a set of shaders
@@ -22,11 +19,7 @@ pub record IsKnownFrame (s : Shown) (known : SceneValue) (set : SetValue) : Type
   pub scene : s.scene.now ≡ known
   pub fits : Fits set known.uses
   pub variables : All (FitsPrim set known.uses) s.frame.now.prims
-  pub view : IsView s.frame.now.camera
-  pub format : IsFormat (format_in s.frame.now)
-  pub options : AreOptions s.frame.now.options
-  pub few : length s.frame.now.prims ≤ 65536
-  pub prims : All IsPrim s.frame.now.prims
+  pub frame : IsFrame s.frame.now
   pub uses : All (HasUses known.uses) s.frame.now.prims
   pub side_low : 4 ≤ s.limits.bucket
   pub side_high : s.limits.bucket ≤ 64
@@ -43,10 +36,10 @@ drawn_with s known_scene set share count r w k same is few_counts few_epochs =
       drawable = record {
         fits = fits;
         variables = subst (λ (z : SceneValue). All (FitsPrim set z.uses) s.frame.now.prims) back k.variables;
-        prims = λ i e lt. record { view = k.view; bound = (k.prims i e lt).bound_low; small = (k.prims i e lt).small; fits = fits; uses = uses i e lt };
-        format = k.format;
-        options = k.options;
-        few_prims = k.few;
+        prims = λ i e lt. record { view = k.frame.view; bound = (k.frame.prims i e lt).bound_low; small = (k.frame.prims i e lt).small; fits = fits; uses = uses i e lt };
+        format = k.frame.format;
+        options = k.frame.options;
+        few_prims = k.frame.few;
         side_low = k.side_low;
         side_high = k.side_high;
         limit_low = k.limit_low;

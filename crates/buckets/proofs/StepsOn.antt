@@ -9,6 +9,7 @@ use Rattle.hider.specs.declared.sample_grid.SampleGrid.{SampleGrid}
 use Rattle.hider.specs.Tiles.{Shows, sample_count}
 use Rattle.filter_ppm.specs.Bands.{rect_with}
 use Rattle.buckets.specs.declared.frame.Progress.{Progress}
+use Rattle.buckets.specs.declared.limits.Report.{Report}
 use Rattle.std.specs.Prelude.{ℤ}
 use Rattle.buckets.specs.Sampled.{TellsBehind}
 use Rattle.buckets.specs.Pictures.{frame_leaves}
@@ -26,13 +27,14 @@ use Rattle.buckets.proofs.Passing.{gives_as}
 pub stands_in : (e : InEpoch) (p : Progress) (kept : List (Part × SeenGrid)) (count : ℕ) → IsDrawable e.begun.drawing → Before e p.drawing.at kept count → p.drawing.at < tile_count e.begun.drawing → draws e.begun.drawing p.drawing.at ≡ true
     → p.filter ≡ format_in e.begun.drawing.frame → p.drawing.leaves.sights ≡ e.begun.drawing.frame → rect_with p.drawing.rect ≡ tile_rect e.begun.drawing p.drawing.at → p.drawing.tile.grid ≡ tile_grid e.begun.drawing p.drawing.at → Shows p.drawing.tile (λ s. [])
     → ((back : ℤ → Bool) → TellsBehind p.drawing.tile back → GivesNext e.begun.drawing.frame (shows_in e.begun.drawing.frame (tile_rect e.begun.drawing p.drawing.at) back) p.drawing.next (frame_leaves e.begun.drawing.frame) (to_come e.begun.drawing.frame p.drawing.leaves.number p.drawing.leaves.pieces))
-    → HasRow e.begun.drawing p.drawing.at (bucket_of e.begun.drawing p.drawing.at).left p.row.items → Stands e p kept count
-stands_in e p kept count h before low drawn format sights rect grid empty gives row =
+    → HasRow e.begun.drawing p.drawing.at (bucket_of e.begun.drawing p.drawing.at).left p.row.items → TellsSamples e.begun p.drawing.at p.report.most_samples → Stands e p kept count
+stands_in e p kept count h before low drawn format sights rect grid empty gives row samples =
     let d = e.begun.drawing in
     record {
       within = omega (arith, low);
       format = format;
       sights = sights;
+      samples = samples;
       going = λ l. record {
         rect = rect;
         drawn = drawn;
@@ -46,8 +48,28 @@ stands_in e p kept count h before low drawn format sights rect grid empty gives 
     }
 
 -- behind the last tile
-pub stands_behind : (e : InEpoch) (p : Progress) (kept : List (Part × SeenGrid)) (count : ℕ) → Before e p.drawing.at kept count → p.drawing.at ≡ tile_count e.begun.drawing → p.filter ≡ format_in e.begun.drawing.frame → p.drawing.leaves.sights ≡ e.begun.drawing.frame → Stands e p kept count
-stands_behind e p kept count before is format sights = record { within = omega (arith, is); format = format; sights = sights; going = λ l. absurd (omega (arith, is, l)); ended = λ _. before }
+pub stands_behind : (e : InEpoch) (p : Progress) (kept : List (Part × SeenGrid)) (count : ℕ) → Before e p.drawing.at kept count → p.drawing.at ≡ tile_count e.begun.drawing → p.filter ≡ format_in e.begun.drawing.frame → p.drawing.leaves.sights ≡ e.begun.drawing.frame
+    → TellsSamples e.begun p.drawing.at p.report.most_samples → Stands e p kept count
+stands_behind e p kept count before is format sights samples = record {
+  within = omega (arith, is);
+  format = format;
+  sights = sights;
+  samples = samples;
+  going = λ l. absurd (omega (arith, is, l));
+  ended = λ _. before;
+}
+
+-- another report tells of the same samples
+pub stands_told : (e : InEpoch) (p : Progress) (r : Report) (kept : List (Part × SeenGrid)) (count : ℕ) → r.most_samples ≡ p.report.most_samples → Stands e p kept count
+    → Stands e (record { drawing = p.drawing; filter = p.filter; row = p.row; report = r }) kept count
+stands_told e p r kept count same s = record {
+  within = s.within;
+  format = s.format;
+  sights = s.sights;
+  samples = same ∙ s.samples;
+  going = λ l. (let i = s.going l in record { rect = i.rect; drawn = i.drawn; row = i.row; going = i.going });
+  ended = s.ended;
+}
 
 -- before the first one
 pub before_first : (b : Begun) → Before (next_of b (report_before b)) 0 [] b.count

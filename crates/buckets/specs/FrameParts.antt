@@ -1,5 +1,5 @@
 -- Parts of a frame's picture: its table of numbers, and some of its buckets with their pixels.
-use Rattle.std.specs.Prelude.{ℕ, ◌+◌, ◌-◌, ◌^◌, ◌<◌, ◌≤◌, ◌≡◌, refl, List, [], ◌∷◌, length, get_or, slice_index_or}
+use Rattle.std.specs.Prelude.{ℕ, ◌+◌, ◌-◌, ◌^◌, ◌<◌, ◌≤◌, ◌≡◌, refl, List, [], ◌∷◌, ◌++◌, length, get_or, slice_index_or}
 use Rattle.outside.specs.Frames.{Picture}
 use Rattle.parts.specs.declared.header.Header.{Header}
 use Rattle.parts.specs.Formats.{Part, bucket_total, area, with_header, part_text}
@@ -14,6 +14,7 @@ use Rattle.buckets.specs.declared.share.Share.TheVariants.{Nth}
 use Rattle.buckets.specs.Shares.{numbers_in}
 use Rattle.buckets.specs.Pictures.{film_of, picture_bytes}
 use Rattle.buckets.specs.TileWalk.{Drawing, format_in, tile_count}
+use Rattle.buckets.specs.Rows.{all_by}
 
 -- what a part says of a picture with these options: it has the pixels of the crop
 abbrev pub header_with : OptionValues → ℕ → ℕ → Header
@@ -51,6 +52,10 @@ entry_of a f side tag part name = record { name = name; bytes = part_bytes a f s
 -- the text before the buckets of a share that is drawn
 abbrev pub share_header : Drawing → ℕ → List ℕ
 share_header d tag = with_header (header_with d.frame.options d.side tag) (length (numbers_in d.share (tile_count d))) []
+
+-- and all of its text
+abbrev pub share_text : Drawing → ℕ → List ℕ
+share_text d tag = share_header d tag ++ all_by d.share d
 
 -- the bytes are the text of the part that is drawn
 abbrev pub IsPartText : Drawing → ℕ → List ℕ → Type 0

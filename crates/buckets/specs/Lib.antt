@@ -7,6 +7,7 @@ pub mod Shares
 pub mod TileWalk
 pub mod Standing
 pub mod Rows
+pub mod LeafSteps
 pub mod Progress
 pub mod FrameParts
 pub mod Shopped

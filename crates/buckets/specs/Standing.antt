@@ -1,13 +1,15 @@
 -- Where the drawing of a frame stands: what its tile shows, and what is left of the walk through its tiles.
-use Rattle.std.specs.Prelude.{◌≡◌, ◌≢◌, ℤ, ℕ, ◌+◌, ◌-◌, ◌^◌, ◌≤◌, ◌<◌, max, Bool, true, false, nat_le, filter, List, [], ◌∷◌, ◌++◌, length, map, drop, All, Option, Some, None, slice_get}
+use Rattle.std.specs.Prelude.{◌≡◌, ◌≢◌, ℤ, ℕ, ◌+◌, ◌-◌, ◌^◌, ◌≤◌, ◌<◌, max, Bool, true, false, nat_le, filter, List, [], ◌∷◌, ◌++◌, length, map, drop, All, Option, Some, None, slice_get, slice_index_or}
 use Rattle.patches.specs.Parts.{Part}
 use Rattle.bound_split.specs.declared.walk.Leaf.{Leaf}
 use Rattle.bound_split.specs.declared.splits.Decision.TheVariants.{Dice}
 use Rattle.bound_split.specs.Leaves.{pending}
 use Rattle.dice.specs.declared.diced.GridRef.{GridRef}
 use Rattle.scene.specs.Settings.{AreOptions}
-use Rattle.scene.specs.Scene.{PrimValue, FrameValue}
-use Rattle.shader_binding.specs.Sets.{Fits}
+use Rattle.scene.specs.Scene.{PrimValue, FrameValue, SceneValue, IsPrim, HasUses}
+use Rattle.shader_binding.specs.Sets.{Fits, SetValue}
+use Rattle.transforms.specs.Field.{IsView}
+use Rattle.fixed_math.specs.Buckets.{bucket_count}
 use Rattle.shader_binding.specs.Bindings.{FitsPrim}
 use Rattle.grid_variables.specs.Closings.{closing_of, places_in}
 use Rattle.displace_shade.specs.Diced.{grid_value}
@@ -16,16 +18,18 @@ use Rattle.displace_shade.specs.Shop.{leaf_of}
 use Rattle.hider.specs.declared.seen_grid.SeenGrid.{SeenGrid}
 use Rattle.hider.specs.Flat.{IsSeenBy}
 use Rattle.hider.specs.Tiles.{TileValue, Shows}
-use Rattle.filter_ppm.specs.Sampled.{IsFormat}
+use Rattle.filter_ppm.specs.Sampled.{FilmFormat, IsFormat}
 use Rattle.grid_epoch.specs.Kept.{has, pieces_in, points_in}
 use Rattle.outside.specs.Sink.{Written}
+use Rattle.buckets.specs.declared.limits.Limits.{Limits}
+use Rattle.buckets.specs.declared.share.Share.{Share}
 use Rattle.buckets.specs.declared.shown.Shown.{Shown}
 use Rattle.fixed_math.specs.Spots.{PixelRect}
 use Rattle.buckets.specs.Shares.{IsShare}
 use Rattle.buckets.specs.Culled.{IsShadedPrim, part_shows}
-use Rattle.buckets.specs.Pictures.{decide, FrameLeaf, leaf_in, leaves_from, frame_leaves, leaf_micropolygons}
+use Rattle.buckets.specs.Pictures.{HasFrame, decide, FrameLeaf, leaf_in, leaves_from, frame_leaves, leaf_micropolygons}
 use Rattle.buckets.specs.Sampled.{ShowsMore, TellsBehind}
-use Rattle.buckets.specs.TileWalk.{Drawing, Counts, walked, format_in, draws, tile_count, tile_rect, tile_grid, meets_tile, fragments_of, leaf_points, with_needed, past_leaves, past_tiles, tile_walk}
+use Rattle.buckets.specs.TileWalk.{Drawing, Counts, walked, format_in, picture_rect, draws, tile_count, tile_rect, tile_grid, meets_tile, fragments_of, leaf_points, with_needed, past_leaves, past_tiles, tile_walk}
 
 -- a drawing, and what stood before it: the shop's count, the report's numbers, and what the sink told behind the header
 pub record Begun : Type 0 where
@@ -60,6 +64,59 @@ pub record IsDrawn (b : Begun) (s : Shown) : Type 0 where
   pub tiles : s.tiles ≡ tile_count b.drawing
   pub count : b.count ≤ 2 ^ 62
   pub epochs : b.epochs ≤ 2 ^ 62
+
+-- this tile of it
+pub record IsTile (b : Begun) (s : Shown) (n : ℕ) : Type 0 where
+  pub drawn : IsDrawn b s
+  pub at' : n < tile_count b.drawing
+
+-- this tile, which is drawn, shows all of the frame, in the filter's format
+pub record ShowsTile (b : Begun) (s : Shown) (n : ℕ) (tile : TileValue) (format : FilmFormat) : Type 0 where
+  pub of : IsTile b s n
+  pub drawn : draws b.drawing n ≡ true
+  pub film : format ≡ format_in b.drawing.frame
+  pub grid : tile.grid ≡ tile_grid b.drawing n
+  pub shows : Shows tile (fragments_of b.drawing (frame_leaves b.drawing.frame))
+
+-- ---- frames
+-- what the types of a frame and of its parts say of it
+pub record IsFrame (f : FrameValue) : Type 0 where
+  pub view : IsView f.camera
+  pub format : IsFormat (format_in f)
+  pub options : AreOptions f.options
+  pub few : length f.prims ≤ 65536
+  pub prims : All IsPrim f.prims
+
+-- the pixels of a frame's picture: some, by their left, top, right and bottom
+pub record IsCropOf (f : FrameValue) (crop : List ℕ) : Type 0 where
+  pub value : crop ≡ f.options.crop
+  pub across : slice_index_or crop 0 0 < slice_index_or crop 2 0
+  pub right : slice_index_or crop 2 0 ≤ 4096
+  pub down : slice_index_or crop 1 0 < slice_index_or crop 3 0
+  pub bottom : slice_index_or crop 3 0 ≤ 4096
+
+-- limits within their ranges
+pub record AreLimits (limits : Limits) : Type 0 where
+  pub bucket_low : 4 ≤ limits.bucket
+  pub bucket_high : limits.bucket ≤ 64
+  pub points_low : 289 ≤ limits.grid_points
+  pub points_high : limits.grid_points ≤ 1000000
+
+-- the frame of a scene at a place, of which a share is to be drawn within limits
+pub record IsShownOf (scene : SceneValue) (index : ℕ) (limits : Limits) (share : Share) (s : Shown) : Type 0 where
+  pub scene' : s.scene.now ≡ scene
+  pub index' : s.index ≡ index
+  pub limits' : s.limits ≡ limits
+  pub share' : s.share ≡ share
+  pub tiles : s.tiles ≡ bucket_count limits.bucket (picture_rect s.frame.now)
+  pub some : 1 ≤ s.tiles
+  pub frame : IsFrame s.frame.now
+  pub uses : All (HasUses scene.uses) s.frame.now.prims
+
+-- a set of shaders fits a scene and the primitives of one of its frames
+pub record FitsFrame (set : SetValue) (scene : SceneValue) (index : ℕ) : Type 0 where
+  pub fits : Fits set scene.uses
+  pub variables : (f : FrameValue) → HasFrame scene index f → All (FitsPrim set scene.uses) f.prims
 
 -- ---- tiles to come
 -- the first tile from number n on that is drawn; behind the last tile where none is

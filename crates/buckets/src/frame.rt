@@ -1,26 +1,16 @@
 // A frame, tile by tile and epoch by epoch, to a sink.
-ghost use Rattle.std.specs.Prelude.{◌≡◌, ◌≢◌, ◌≤◌, ◌<◌, ◌+◌, ◌^◌, ◌∷◌, [], None, Some, ℕ, List, true, false, max, All, length, IfOk, OnOk, OnErr, IsErrOf, slice_get};
-ghost use Rattle.outside.specs.Causes.{Rose};
-ghost use Rattle.outside.specs.Frames.{Adds, AddsPart, PutsAll, PutsFront, whole};
-ghost use Rattle.patches.specs.Parts.{Part};
-ghost use Rattle.hider.specs.declared.seen_grid.SeenGrid.{SeenGrid};
-ghost use Rattle.shader_binding.specs.Sets.{Fits};
-ghost use Rattle.shader_binding.specs.Bindings.{FitsPrim};
+ghost use Rattle.std.specs.Prelude.{◌≡◌, ◌≤◌, ◌<◌, ◌+◌, ◌^◌, ◌∷◌, [], Some, true, false, All, length, IfOk, OnOk, IsErrOf, slice_get};
+ghost use Rattle.outside.specs.Frames.{Adds, AddsPart, PutsAll, whole};
+ghost use Rattle.outside.specs.Steps.{HoldsOpen, PutsBytes, PutsOn, Writes};
 ghost use Rattle.scene.specs.Scene.{FrameValue, IsPrim, HasUses};
-ghost use Rattle.scene.specs.Settings.{AreOptions};
-ghost use Rattle.fixed_math.specs.Buckets.{bucket_count};
-ghost use Rattle.transforms.specs.Field.{IsView};
-ghost use Rattle.filter_ppm.specs.Sampled.{IsFormat};
 ghost use Rattle.displace_shade.specs.Shop.{shop_set};
-ghost use Rattle.hider.specs.Tiles.{Shows, IsSampleGrid};
-ghost use Rattle.filter_ppm.specs.Bands.{rect_with};
-ghost use Rattle.grid_epoch.specs.Kept.{points_in};
+ghost use Rattle.hider.specs.Tiles.{Shows};
 ghost use Rattle.buckets.specs.Pictures.{picture_of, header_of, frame_leaves, HasFrame};
 ghost use Rattle.buckets.specs.Shopped.{shaded_by};
-ghost use Rattle.buckets.specs.TileWalk.{bucket_of, draws, picture_rect, tile_grid, tile_count, format_in, fragments_of};
-ghost use Rattle.buckets.specs.Standing.{Begun, InEpoch, IsFirstDrawn, IsDrawn, IsDrawable, Before, Goes, ShadesInPart, next_epoch};
-ghost use Rattle.buckets.specs.Rows.{HasRow, PutsTo, PutsInPart, TellsSamples, all_by};
-ghost use Rattle.buckets.specs.Progress.{Stands, Done, DoneInPart, next_of, drawing_of, report_before};
+ghost use Rattle.buckets.specs.TileWalk.{bucket_of, fragments_of};
+ghost use Rattle.buckets.specs.Standing.{Begun, InEpoch, AreLimits, FitsFrame, IsDrawn, IsFirstDrawn, IsFrame, IsShownOf, IsTile};
+ghost use Rattle.buckets.specs.Rows.{PutsTo, PutsInPart, all_by};
+ghost use Rattle.buckets.specs.Progress.{Advances, DrawsAll, GoesFurther, IsShopOf, IsThere, RunsEpoch, ShadesFew, Stands, Starts, next_of, drawing_of, report_before};
 ghost use Rattle.buckets.specs.declared.limits.DrawFault.TheVariants.{WriteFault};
 
 use crate::leaf_walk::{LeafWalk, prims_of};
@@ -40,26 +30,21 @@ use outside::{FrameSink, put_all};
 use scene::{Frame, Prim, Scene};
 use std::alloc::Global;
 
-/// Where the drawing of a frame stands: in a tile, with the pixels of its row of buckets so far.
+/// Where the drawing of a frame stands: in a tile, with the pixels of its row of buckets so far, and what is told by now.
 #[derive(Drop)]
 pub(crate) struct Progress<'a> {
     pub(crate) drawing: TileDrawing<'a>,
     pub(crate) filter: PixelFilter,
     pub(crate) row: Vec<[u32; 3]>,
+    pub(crate) report: Report,
 }
 
 // Goes to the next tile that is drawn, where there is one.
 fn next_tile(alloc: Global, shown: &Shown<'_>, progress: &mut Progress<'_>) -> Result<(), NoMemory>
     ghost at_epoch: { InEpoch }
     requires drawn { IsDrawn at_epoch.begun shown.now }
-    requires at { progress.old.drawing.at < tile_count at_epoch.begun.drawing }
-    requires here { draws at_epoch.begun.drawing progress.old.drawing.at ≡ true }
-    requires format { progress.old.filter ≡ format_in at_epoch.begun.drawing.frame }
-    requires grid { progress.old.drawing.tile.grid ≡ tile_grid at_epoch.begun.drawing progress.old.drawing.at }
-    requires row { HasRow at_epoch.begun.drawing progress.old.drawing.at (bucket_of at_epoch.begun.drawing progress.old.drawing.at).right progress.old.row.items }
-    requires sights { progress.old.drawing.leaves.sights ≡ at_epoch.begun.drawing.frame }
-    ensures at { OnOk result (IsFirstDrawn at_epoch.begun.drawing (progress.old.drawing.at + 1) progress.new.drawing.at) }
-    ensures stands { OnOk result ((kept : List (Part × SeenGrid)) (count : ℕ) → Before at_epoch (progress.old.drawing.at + 1) kept count → Stands at_epoch progress.new kept count) }
+    requires there { let n = progress.old.drawing.at in IsThere at_epoch.begun progress.old (bucket_of at_epoch.begun.drawing n).right (n + 1) }
+    ensures { GoesFurther at_epoch progress.old progress.new result }
 {
     let at = progress.drawing.at;
     let next = tile_behind(shown, at);
@@ -77,36 +62,19 @@ fn finish_tile<O: FrameSink>(
     alloc: Global,
     shown: &Shown<'_>,
     progress: &mut Progress<'_>,
-    report: &mut Report,
     sink: &mut O,
 ) -> Result<(), DrawFault>
     ghost at_epoch: { InEpoch }
     requires drawn { IsDrawn at_epoch.begun shown.now }
-    requires at { progress.old.drawing.at < tile_count at_epoch.begun.drawing }
-    requires here { draws at_epoch.begun.drawing progress.old.drawing.at ≡ true }
-    requires format { progress.old.filter ≡ format_in at_epoch.begun.drawing.frame }
-    requires grid { progress.old.drawing.tile.grid ≡ tile_grid at_epoch.begun.drawing progress.old.drawing.at }
+    requires there { let n = progress.old.drawing.at in IsThere at_epoch.begun progress.old (bucket_of at_epoch.begun.drawing n).left n }
     requires shows { Shows progress.old.drawing.tile (fragments_of at_epoch.begun.drawing (frame_leaves at_epoch.begun.drawing.frame)) }
-    requires row { HasRow at_epoch.begun.drawing progress.old.drawing.at (bucket_of at_epoch.begun.drawing progress.old.drawing.at).left progress.old.row.items }
-    requires open { O.is_open sink.old ≡ true }
-    requires put { PutsTo at_epoch.begun progress.old.drawing.at (O.written sink.old) }
-    requires samples { TellsSamples at_epoch.begun progress.old.drawing.at report.old.most_samples }
-    requires sights { progress.old.drawing.leaves.sights ≡ at_epoch.begun.drawing.frame }
-    ensures at { OnOk result (progress.old.drawing.at < progress.new.drawing.at) }
-    ensures stands { OnOk result ((kept : List (Part × SeenGrid)) (count : ℕ) → Before at_epoch (progress.old.drawing.at + 1) kept count → Stands at_epoch progress.new kept count) }
-    ensures epochs { report.new.epochs ≡ report.old.epochs }
-    ensures points { report.new.most_points ≡ report.old.most_points }
-    ensures samples { OnOk result (TellsSamples at_epoch.begun progress.new.drawing.at report.new.most_samples) }
-    ensures open { O.is_open sink.new ≡ true }
-    ensures put { OnOk result (PutsTo at_epoch.begun progress.new.drawing.at (O.written sink.new)) }
-    ensures part { OnErr result (PutsInPart at_epoch.begun (O.written sink.new)) }
-    ensures later { O.faults sink.old ≤ O.faults sink.new }
-    ensures failed { IsErrOf result WriteFault → Rose (O.faults sink.old) (O.faults sink.new) }
+    requires sink { HoldsOpen O.written O.is_open sink.old (PutsTo at_epoch.begun progress.old.drawing.at) }
+    ensures goes { GoesFurther at_epoch progress.old progress.new result }
+    ensures sink { PutsOn O.written O.is_open O.faults sink.old sink.new (PutsTo at_epoch.begun progress.new.drawing.at) (PutsInPart at_epoch.begun) result (IsErrOf result WriteFault) }
 {
     let at = progress.drawing.at;
-    report.most_samples = report
-        .most_samples
-        .max(progress.drawing.tile.samples() as u64);
+    let samples = progress.drawing.tile.samples() as u64;
+    progress.report.most_samples = progress.report.most_samples.max(samples);
     put_pixels(
         alloc,
         shown,
@@ -128,7 +96,6 @@ fn go_on<'a, O: FrameSink>(
     arena: &'a Bump,
     epoch: &mut Epoch<'a>,
     shop: &mut Shop,
-    report: &mut Report,
     sink: &mut O,
 ) -> Result<(), DrawFault>
     ghost at_epoch: { InEpoch }
@@ -136,30 +103,16 @@ fn go_on<'a, O: FrameSink>(
     requires set { shop_set shop.old ≡ at_epoch.begun.drawing.accepted.set }
     requires limit { epoch.old.limit ≡ at_epoch.begun.drawing.limit }
     requires stands { Stands at_epoch progress.old epoch.old.kept shop.old.count }
-    requires open { O.is_open sink.old ≡ true }
-    requires put { PutsTo at_epoch.begun progress.old.drawing.at (O.written sink.old) }
-    requires samples { TellsSamples at_epoch.begun progress.old.drawing.at report.old.most_samples }
-    ensures within { OnOk result (progress.new.drawing.at ≤ tile_count at_epoch.begun.drawing) }
-    ensures full { OnOk result (progress.new.drawing.at < tile_count at_epoch.begun.drawing → Stands (next_epoch (points_in epoch.new.kept) at_epoch) progress.new [] shop.new.count) }
-    ensures ended { OnOk result (progress.new.drawing.at ≡ tile_count at_epoch.begun.drawing → Before at_epoch progress.new.drawing.at epoch.new.kept shop.new.count) }
-    ensures shaded { OnErr result (ShadesInPart at_epoch.begun shop.new.count) }
-    ensures set { shop.new.set ≡ shop.old.set }
-    ensures textures { shop.new.cache.textures ≡ shop.old.cache.textures }
-    ensures epochs { report.new.epochs ≡ report.old.epochs }
-    ensures points { report.new.most_points ≡ report.old.most_points }
-    ensures samples { OnOk result (TellsSamples at_epoch.begun progress.new.drawing.at report.new.most_samples) }
-    ensures open { O.is_open sink.new ≡ true }
-    ensures put { OnOk result (PutsTo at_epoch.begun progress.new.drawing.at (O.written sink.new)) }
-    ensures part { OnErr result (PutsInPart at_epoch.begun (O.written sink.new)) }
-    ensures later { O.faults sink.old ≤ O.faults sink.new }
-    ensures failed { IsErrOf result WriteFault → Rose (O.faults sink.old) (O.faults sink.new) }
+    requires sink { HoldsOpen O.written O.is_open sink.old (PutsTo at_epoch.begun progress.old.drawing.at) }
+    ensures advances { Advances at_epoch progress.old progress.new epoch.new shop.old shop.new result }
+    ensures sink { PutsOn O.written O.is_open O.faults sink.old sink.new (PutsTo at_epoch.begun progress.new.drawing.at) (PutsInPart at_epoch.begun) result (IsErrOf result WriteFault) }
 {
     while progress.drawing.at < shown.tiles {
         progress.drawing.fill(shown, arena, epoch, shop)?;
         if progress.drawing.next.is_some() {
             return Ok(());
         }
-        finish_tile(alloc, shown, progress, report, sink)?;
+        finish_tile(alloc, shown, progress, sink)?;
     }
     Ok(())
 }
@@ -170,50 +123,37 @@ fn run_epoch<O: FrameSink>(
     shown: &Shown<'_>,
     progress: &mut Progress<'_>,
     shop: &mut Shop,
-    report: &mut Report,
     sink: &mut O,
 ) -> Result<(), DrawFault>
     ghost begun: { Begun }
     requires drawn { IsDrawn begun shown.now }
     requires set { shop_set shop.old ≡ begun.drawing.accepted.set }
-    requires epochs { report.old.epochs + 1 < 2 ^ 64 }
-    requires stands { Stands (next_of begun report.old) progress.old [] shop.old.count }
-    requires open { O.is_open sink.old ≡ true }
-    requires put { PutsTo begun progress.old.drawing.at (O.written sink.old) }
-    requires samples { TellsSamples begun progress.old.drawing.at report.old.most_samples }
-    ensures within { OnOk result (progress.new.drawing.at ≤ tile_count begun.drawing) }
-    ensures epochs { report.new.epochs ≡ report.old.epochs + 1 }
-    ensures full { OnOk result (progress.new.drawing.at < tile_count begun.drawing → Stands (next_of begun report.new) progress.new [] shop.new.count) }
-    ensures ended { OnOk result (progress.new.drawing.at ≡ tile_count begun.drawing → Done begun.drawing begun.count shop.new.count (report_before begun) report.new) }
-    ensures shaded { OnErr result (ShadesInPart begun shop.new.count) }
-    ensures set { shop.new.set ≡ shop.old.set }
-    ensures textures { shop.new.cache.textures ≡ shop.old.cache.textures }
-    ensures samples { OnOk result (TellsSamples begun progress.new.drawing.at report.new.most_samples) }
-    ensures open { O.is_open sink.new ≡ true }
-    ensures put { OnOk result (PutsTo begun progress.new.drawing.at (O.written sink.new)) }
-    ensures part { OnErr result (PutsInPart begun (O.written sink.new)) }
-    ensures later { O.faults sink.old ≤ O.faults sink.new }
-    ensures failed { IsErrOf result WriteFault → Rose (O.faults sink.old) (O.faults sink.new) }
+    requires epochs { progress.old.report.epochs + 1 < 2 ^ 64 }
+    requires stands { Stands (next_of begun progress.old.report) progress.old [] shop.old.count }
+    requires sink { HoldsOpen O.written O.is_open sink.old (PutsTo begun progress.old.drawing.at) }
+    ensures runs { RunsEpoch begun progress.old progress.new shop.old shop.new result }
+    ensures sink { PutsOn O.written O.is_open O.faults sink.old sink.new (PutsTo begun progress.new.drawing.at) (PutsInPart begun) result (IsErrOf result WriteFault) }
 {
-    report.epochs += 1;
+    progress.report.epochs += 1;
     let arena = Bump::new(alloc);
     let mut epoch = Epoch::new(alloc, shown.limits.grid_points);
-    go_on(
-        alloc, shown, progress, &arena, &mut epoch, shop, report, sink,
-    )?;
-    report.most_points = report.most_points.max(epoch.live() as u64);
+    go_on(alloc, shown, progress, &arena, &mut epoch, shop, sink)?;
+    progress.report.most_points = progress.report.most_points.max(epoch.live() as u64);
     Ok(())
 }
 
 // A drawing that is to begin with the first tile that is drawn.
-fn started<'a>(alloc: Global, shown: &Shown<'a>, first: usize) -> Result<Progress<'a>, NoMemory>
+fn started<'a>(
+    alloc: Global,
+    shown: &Shown<'a>,
+    first: usize,
+    report: Report,
+) -> Result<Progress<'a>, NoMemory>
     ghost begun: { Begun }
-    requires drawn { IsDrawn begun shown.now }
-    requires epochs { begun.epochs < 2 ^ 63 }
+    requires tile { IsTile begun shown.now first }
     requires first { IsFirstDrawn begun.drawing 0 first }
-    requires some { first < tile_count begun.drawing }
-    ensures at { IfOk result (λ p. p.drawing.at ≡ first) }
-    ensures stands { IfOk result (λ p. (e : InEpoch) → e ≡ next_of begun (report_before begun) → Stands e p [] begun.count) }
+    requires report { report ≡ report_before begun }
+    ensures { IfOk result (Starts begun first) }
 {
     let frame = shown.frame;
     let view = frame.camera.view();
@@ -239,6 +179,7 @@ fn started<'a>(alloc: Global, shown: &Shown<'a>, first: usize) -> Result<Progres
         },
         filter: PixelFilter::new(alloc, &film)?,
         row: first_row(alloc, shown, first)?,
+        report,
     })
 }
 
@@ -253,29 +194,21 @@ pub(crate) fn draw_tiles<O: FrameSink>(
     sink: &mut O,
 ) -> Result<(), DrawFault>
     ghost begun: { Begun }
-    requires drawn { IsDrawn begun shown.now }
+    requires tile { IsTile begun shown.now first }
     requires first { IsFirstDrawn begun.drawing 0 first }
-    requires some { first < tile_count begun.drawing }
-    requires set { shop_set shop.old ≡ begun.drawing.accepted.set }
-    requires count { shop.old.count ≡ begun.count }
+    requires shop { IsShopOf begun shop.old }
     requires report { report.old ≡ report_before begun }
-    requires written { O.written sink.old ≡ begun.written }
-    requires open { O.is_open sink.old ≡ true }
-    ensures drawn { OnOk result (Done begun.drawing begun.count shop.new.count (report_before begun) report.new) }
-    ensures drawn_part { OnErr result (DoneInPart begun.drawing begun.count shop.new.count (report_before begun) report.new) }
-    ensures few_shadings { OnOk result (shop.new.count ≤ shop.old.count + 2 ^ 52) }
+    requires sink { HoldsOpen O.written O.is_open sink.old (λ ws. ws ≡ begun.written) }
+    ensures draws { DrawsAll begun.drawing begun.count shop.new.count (report_before begun) report.new result }
+    ensures shop { ShadesFew shop.old shop.new result }
     ensures few_epochs { OnOk result (report.new.epochs ≤ report.old.epochs + 2 ^ 52 + 1) }
-    ensures set { shop.new.set ≡ shop.old.set }
-    ensures textures { shop.new.cache.textures ≡ shop.old.cache.textures }
-    ensures open { O.is_open sink.new ≡ true }
-    ensures put { OnOk result (PutsAll (all_by begun.drawing.share begun.drawing) begun.written (O.written sink.new)) }
-    ensures part { OnErr result (PutsInPart begun (O.written sink.new)) }
-    ensures later { O.faults sink.old ≤ O.faults sink.new }
-    ensures failed { IsErrOf result WriteFault → Rose (O.faults sink.old) (O.faults sink.new) }
+    ensures sink { PutsOn O.written O.is_open O.faults sink.old sink.new (PutsAll (all_by begun.drawing.share begun.drawing) begun.written) (PutsInPart begun) result (IsErrOf result WriteFault) }
 {
-    let mut progress = started(alloc, shown, first)?;
+    let mut progress = started(alloc, shown, first, *report)?;
     while progress.drawing.at < shown.tiles {
-        run_epoch(alloc, shown, &mut progress, shop, report, sink)?;
+        let run = run_epoch(alloc, shown, &mut progress, shop, sink);
+        *report = progress.report;
+        run?;
     }
     Ok(())
 }
@@ -283,11 +216,7 @@ pub(crate) fn draw_tiles<O: FrameSink>(
 // Puts the header of a frame's picture.
 fn put_header<O: FrameSink>(alloc: Global, frame: &Frame, sink: &mut O) -> Result<(), DrawFault>
     requires { O.is_open sink.old ≡ true }
-    ensures open { O.is_open sink.new ≡ true }
-    ensures ok { OnOk result (PutsAll (header_of frame.now) (O.written sink.old) (O.written sink.new)) }
-    ensures err { OnErr result (PutsFront (header_of frame.now) (O.written sink.old) (O.written sink.new)) }
-    ensures later { O.faults sink.old ≤ O.faults sink.new }
-    ensures failed { IsErrOf result WriteFault → Rose (O.faults sink.old) (O.faults sink.new) }
+    ensures { PutsBytes O.written O.is_open O.faults sink.old sink.new (header_of frame.now) result (IsErrOf result WriteFault) }
 {
     let crop = crop_of(frame);
     let bytes = header(alloc, crop[2] - crop[0], crop[3] - crop[1], &frame.options)?;
@@ -316,11 +245,7 @@ fn prims_known(prims: &[Prim])
 
 // Does nothing: a call tells a proof what holds of every frame.
 fn recall(frame: &Frame)
-    ensures view { IsView frame.now.camera }
-    ensures format { IsFormat (format_in frame.now) }
-    ensures options { AreOptions frame.now.options }
-    ensures few { length frame.now.prims ≤ 65536 }
-    ensures prims { All IsPrim frame.now.prims }
+    ensures { IsFrame frame.now }
 {
     let _view = frame.camera.view();
     frame.options.ranges_known();
@@ -335,20 +260,8 @@ pub(crate) fn shown_in<'a>(
     share: Share,
 ) -> Shown<'a>
     requires frame { index < length scene.now.frames }
-    requires low { 4 ≤ limits.bucket }
-    requires high { limits.bucket ≤ 64 }
-    ensures scene { result.scene.now ≡ scene.now }
-    ensures index { result.index ≡ index }
-    ensures limits { result.limits ≡ limits }
-    ensures share { result.share ≡ share }
-    ensures tiles { result.tiles ≡ bucket_count limits.bucket (picture_rect result.frame.now) }
-    ensures some { 1 ≤ result.tiles }
-    ensures view { IsView result.frame.now.camera }
-    ensures format { IsFormat (format_in result.frame.now) }
-    ensures options { AreOptions result.frame.now.options }
-    ensures few { length result.frame.now.prims ≤ 65536 }
-    ensures prims { All IsPrim result.frame.now.prims }
-    ensures uses { All (HasUses scene.now.uses) result.frame.now.prims }
+    requires limits { AreLimits limits }
+    ensures { IsShownOf scene.now index limits share result }
 {
     let frame = frame_at(scene, index);
     recall(frame);
@@ -388,26 +301,16 @@ pub fn render_frame<O: FrameSink>(
     sink: &mut O,
 ) -> Result<(), DrawFault>
     requires frame { frame < length scene.now.frames }
-    requires fits { Fits (shop_set shop.old) scene.now.uses }
-    requires variables { (f : FrameValue) → HasFrame scene.now frame f → All (FitsPrim (shop_set shop.old) scene.now.uses) f.prims }
+    requires fits { FitsFrame (shop_set shop.old) scene.now frame }
     requires closed { O.is_open sink.old ≡ false }
-    requires bucket_low { 4 ≤ limits.bucket }
-    requires bucket_high { limits.bucket ≤ 64 }
-    requires points_low { 289 ≤ limits.grid_points }
-    requires points_high { limits.grid_points ≤ 1000000 }
-    requires count { shop.old.count ≤ 2 ^ 62 }
-    requires epochs { report.old.epochs ≤ 2 ^ 62 }
-    ensures closed { OnOk result (O.is_open sink.new ≡ false) }
-    ensures ok { OnOk result ((f : FrameValue) → HasFrame scene.now frame f → Adds (whole (picture_of (shaded_by scene.now shop.old) f) ∷ []) (O.written sink.old) (O.written sink.new)) }
-    ensures err { OnErr result ((f : FrameValue) → HasFrame scene.now frame f → AddsPart (picture_of (shaded_by scene.now shop.old) f) (O.written sink.old) (O.written sink.new)) }
-    ensures drawn { OnOk result ((f : FrameValue) → HasFrame scene.now frame f → Done (drawing_of scene.now (shop_set shop.old) f limits) shop.old.count shop.new.count report.old report.new) }
-    ensures drawn_part { OnErr result ((f : FrameValue) → HasFrame scene.now frame f → DoneInPart (drawing_of scene.now (shop_set shop.old) f limits) shop.old.count shop.new.count report.old report.new) }
-    ensures few_shadings { OnOk result (shop.new.count ≤ shop.old.count + 2 ^ 52) }
+    requires limits { AreLimits limits }
+    requires room { (shop.old.count ≤ 2 ^ 62) × (report.old.epochs ≤ 2 ^ 62) }
+    ensures sink { Writes O.written O.is_open O.faults sink.old sink.new
+        (λ ws. (f : FrameValue) → HasFrame scene.now frame f → Adds (whole (picture_of (shaded_by scene.now shop.old) f) ∷ []) (O.written sink.old) ws)
+        (λ ws. (f : FrameValue) → HasFrame scene.now frame f → AddsPart (picture_of (shaded_by scene.now shop.old) f) (O.written sink.old) ws) result (IsErrOf result WriteFault) }
+    ensures draws { (f : FrameValue) → HasFrame scene.now frame f → DrawsAll (drawing_of scene.now (shop_set shop.old) f limits) shop.old.count shop.new.count report.old report.new result }
+    ensures shop { ShadesFew shop.old shop.new result }
     ensures few_epochs { OnOk result (report.new.epochs ≤ report.old.epochs + 2 ^ 52 + 1) }
-    ensures set { shop.new.set ≡ shop.old.set }
-    ensures textures { shop.new.cache.textures ≡ shop.old.cache.textures }
-    ensures later { O.faults sink.old ≤ O.faults sink.new }
-    ensures failed { IsErrOf result WriteFault → Rose (O.faults sink.old) (O.faults sink.new) }
 {
     let shown = shown_in(scene, frame, limits, Share::Whole);
     sink.begin(name_of(shown.frame))?;

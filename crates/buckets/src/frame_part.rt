@@ -1,17 +1,15 @@
 // A part of a frame's picture, to a sink.
-ghost use Rattle.std.specs.Prelude.{◌≡◌, ◌≤◌, ◌<◌, ◌+◌, ◌^◌, ◌∷◌, ◌++◌, [], true, false, All, length, IfOk, OnOk, OnErr, IsErrOf, slice_index_or};
-ghost use Rattle.outside.specs.Causes.{Rose};
-ghost use Rattle.outside.specs.Frames.{Adds, AddsPart, PutsAll, PutsFront, whole};
-ghost use Rattle.shader_binding.specs.Sets.{Fits};
-ghost use Rattle.shader_binding.specs.Bindings.{FitsPrim};
-ghost use Rattle.scene.specs.Scene.{FrameValue, HasUses};
+ghost use Rattle.std.specs.Prelude.{◌≡◌, ◌≤◌, ◌<◌, ◌^◌, ◌∷◌, [], true, false, length, IfOk, IsErrOf, slice_index_or};
+ghost use Rattle.outside.specs.Frames.{Adds, AddsPart, PutsAll, whole};
+ghost use Rattle.outside.specs.Steps.{HoldsOpen, PutsBytes, PutsOn, Writes};
+ghost use Rattle.scene.specs.Scene.{FrameValue};
 ghost use Rattle.displace_shade.specs.Shop.{shop_set};
 ghost use Rattle.buckets.specs.Shopped.{shaded_by};
 ghost use Rattle.buckets.specs.Pictures.{HasFrame};
-ghost use Rattle.buckets.specs.FrameParts.{IsPartText, entry_of, share_header};
-ghost use Rattle.buckets.specs.Standing.{Begun, IsDrawn};
+ghost use Rattle.buckets.specs.FrameParts.{IsPartText, entry_of, share_header, share_text};
+ghost use Rattle.buckets.specs.Standing.{AreLimits, Begun, FitsFrame, IsDrawn};
 ghost use Rattle.buckets.specs.Rows.{PutsInPart, all_by};
-ghost use Rattle.buckets.specs.Progress.{ShadesAtMost, part_of as part_drawing, report_before};
+ghost use Rattle.buckets.specs.Progress.{IsShopOf, ShadesAtMost, ShadesFew, part_of as part_drawing, report_before};
 ghost use Rattle.buckets.specs.declared.limits.DrawFault.TheVariants.{WriteFault};
 
 use crate::frame::{draw_tiles, shown_in};
@@ -29,7 +27,7 @@ use std::alloc::Global;
 // The bytes of a part before its buckets.
 fn header_of(alloc: Global, shown: &Shown<'_>, tag: u32) -> Result<Vec<u8>, NoMemory>
     ghost begun: { Begun }
-    requires drawn { IsDrawn begun shown.now }
+    requires { IsDrawn begun shown.now }
     ensures { IfOk result (λ bytes. bytes.items ≡ share_header begun.drawing tag) }
 {
     let frame = shown.frame;
@@ -55,11 +53,7 @@ fn put_header<O: FrameSink>(
     ghost begun: { Begun }
     requires drawn { IsDrawn begun shown.now }
     requires open { O.is_open sink.old ≡ true }
-    ensures open { O.is_open sink.new ≡ true }
-    ensures ok { OnOk result (PutsAll (share_header begun.drawing tag) (O.written sink.old) (O.written sink.new)) }
-    ensures err { OnErr result (PutsFront (share_header begun.drawing tag) (O.written sink.old) (O.written sink.new)) }
-    ensures later { O.faults sink.old ≤ O.faults sink.new }
-    ensures failed { IsErrOf result WriteFault → Rose (O.faults sink.old) (O.faults sink.new) }
+    ensures { PutsBytes O.written O.is_open O.faults sink.old sink.new (share_header begun.drawing tag) result (IsErrOf result WriteFault) }
 {
     let bytes = header_of(alloc, shown, tag)?;
     put_all(sink, &bytes)?;
@@ -75,20 +69,12 @@ fn put_buckets<O: FrameSink>(
 ) -> Result<(), DrawFault>
     ghost begun: { Begun }
     requires drawn { IsDrawn begun shown.now }
-    requires set { shop_set shop.old ≡ begun.drawing.accepted.set }
-    requires count { shop.old.count ≡ begun.count }
+    requires shop { IsShopOf begun shop.old }
     requires report { report_before begun ≡ record { epochs = 0; most_points = 0; most_samples = 0 } }
-    requires written { O.written sink.old ≡ begun.written }
-    requires open { O.is_open sink.old ≡ true }
+    requires sink { HoldsOpen O.written O.is_open sink.old (λ ws. ws ≡ begun.written) }
     ensures shaded { ShadesAtMost begun.drawing shop.old.count shop.new.count }
-    ensures few_shadings { OnOk result (shop.new.count ≤ shop.old.count + 2 ^ 52) }
-    ensures set { shop.new.set ≡ shop.old.set }
-    ensures textures { shop.new.cache.textures ≡ shop.old.cache.textures }
-    ensures open { O.is_open sink.new ≡ true }
-    ensures put { OnOk result (PutsAll (all_by begun.drawing.share begun.drawing) begun.written (O.written sink.new)) }
-    ensures part { OnErr result (PutsInPart begun (O.written sink.new)) }
-    ensures later { O.faults sink.old ≤ O.faults sink.new }
-    ensures failed { IsErrOf result WriteFault → Rose (O.faults sink.old) (O.faults sink.new) }
+    ensures shop { ShadesFew shop.old shop.new result }
+    ensures sink { PutsOn O.written O.is_open O.faults sink.old sink.new (PutsAll (all_by begun.drawing.share begun.drawing) begun.written) (PutsInPart begun) result (IsErrOf result WriteFault) }
 {
     let first = first_tile(shown);
     if first == shown.tiles {
@@ -113,20 +99,13 @@ fn put_part<O: FrameSink>(
 ) -> Result<(), DrawFault>
     ghost begun: { Begun }
     requires drawn { IsDrawn begun shown.now }
-    requires set { shop_set shop.old ≡ begun.drawing.accepted.set }
-    requires count { shop.old.count ≡ begun.count }
+    requires shop { IsShopOf begun shop.old }
     requires report { report_before begun ≡ record { epochs = 0; most_points = 0; most_samples = 0 } }
     requires open { O.is_open sink.old ≡ true }
     ensures shaded { ShadesAtMost begun.drawing shop.old.count shop.new.count }
-    ensures few_shadings { OnOk result (shop.new.count ≤ shop.old.count + 2 ^ 52) }
-    ensures set { shop.new.set ≡ shop.old.set }
-    ensures textures { shop.new.cache.textures ≡ shop.old.cache.textures }
-    ensures open { O.is_open sink.new ≡ true }
-    ensures text { IsPartText begun.drawing tag (share_header begun.drawing tag ++ all_by begun.drawing.share begun.drawing) }
-    ensures ok { OnOk result (PutsAll (share_header begun.drawing tag ++ all_by begun.drawing.share begun.drawing) (O.written sink.old) (O.written sink.new)) }
-    ensures err { OnErr result (PutsFront (share_header begun.drawing tag ++ all_by begun.drawing.share begun.drawing) (O.written sink.old) (O.written sink.new)) }
-    ensures later { O.faults sink.old ≤ O.faults sink.new }
-    ensures failed { IsErrOf result WriteFault → Rose (O.faults sink.old) (O.faults sink.new) }
+    ensures shop { ShadesFew shop.old shop.new result }
+    ensures text { IsPartText begun.drawing tag (share_text begun.drawing tag) }
+    ensures sink { PutsBytes O.written O.is_open O.faults sink.old sink.new (share_text begun.drawing tag) result (IsErrOf result WriteFault) }
 {
     put_header(alloc, shown, tag, sink)?;
     put_buckets(alloc, shown, shop, sink)?;
@@ -152,24 +131,17 @@ pub fn render_part<O: FrameSink>(
     sink: &mut O,
 ) -> Result<(), DrawFault>
     requires frame { frame < length scene.now.frames }
-    requires fits { Fits (shop_set shop.old) scene.now.uses }
-    requires variables { (f : FrameValue) → HasFrame scene.now frame f → All (FitsPrim (shop_set shop.old) scene.now.uses) f.prims }
+    requires fits { FitsFrame (shop_set shop.old) scene.now frame }
     requires closed { O.is_open sink.old ≡ false }
-    requires bucket_low { 4 ≤ limits.bucket }
-    requires bucket_high { limits.bucket ≤ 64 }
-    requires points_low { 289 ≤ limits.grid_points }
-    requires points_high { limits.grid_points ≤ 1000000 }
+    requires limits { AreLimits limits }
     requires part { slice_index_or part 0 0 < slice_index_or part 1 0 }
     requires count { shop.old.count ≤ 2 ^ 62 }
-    ensures closed { OnOk result (O.is_open sink.new ≡ false) }
-    ensures ok { OnOk result ((f : FrameValue) → HasFrame scene.now frame f → Adds (whole (entry_of (shaded_by scene.now shop.old) f limits.bucket tag part name.now) ∷ []) (O.written sink.old) (O.written sink.new)) }
-    ensures err { OnErr result ((f : FrameValue) → HasFrame scene.now frame f → AddsPart (entry_of (shaded_by scene.now shop.old) f limits.bucket tag part name.now) (O.written sink.old) (O.written sink.new)) }
+    ensures sink { Writes O.written O.is_open O.faults sink.old sink.new
+        (λ ws. (f : FrameValue) → HasFrame scene.now frame f → Adds (whole (entry_of (shaded_by scene.now shop.old) f limits.bucket tag part name.now) ∷ []) (O.written sink.old) ws)
+        (λ ws. (f : FrameValue) → HasFrame scene.now frame f → AddsPart (entry_of (shaded_by scene.now shop.old) f limits.bucket tag part name.now) (O.written sink.old) ws)
+        result (IsErrOf result WriteFault) }
     ensures shaded { (f : FrameValue) → HasFrame scene.now frame f → ShadesAtMost (part_drawing scene.now (shop_set shop.old) f limits part) shop.old.count shop.new.count }
-    ensures few_shadings { OnOk result (shop.new.count ≤ shop.old.count + 2 ^ 52) }
-    ensures set { shop.new.set ≡ shop.old.set }
-    ensures textures { shop.new.cache.textures ≡ shop.old.cache.textures }
-    ensures later { O.faults sink.old ≤ O.faults sink.new }
-    ensures failed { IsErrOf result WriteFault → Rose (O.faults sink.old) (O.faults sink.new) }
+    ensures shop { ShadesFew shop.old shop.new result }
 {
     let share = Share::Nth {
         part: part[0],

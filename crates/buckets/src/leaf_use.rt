@@ -1,12 +1,7 @@
 // A leaf in a tile: passed over behind what shows there, or hidden by a grid that is kept or shaded.
-ghost use Rattle.std.specs.Prelude.{◌≡◌, ◌≤◌, ◌<◌, ◌+◌, ◌*◌, ◌↔◌, ◌∷◌, [], ◌++◌, ℕ, List, Some, All, false, true, nat_le, IsTrue, length, IfOk, OnOk, OnErr, slice_get};
-ghost use Rattle.patches.specs.Parts.{Part};
+ghost use Rattle.std.specs.Prelude.{◌≡◌, ◌≤◌, ◌+◌, ◌*◌, ◌↔◌, List, Some, false, IsTrue, IfOk, OnOk, slice_get};
 ghost use Rattle.transforms.specs.declared.view.View.{View};
-ghost use Rattle.bound_split.specs.declared.splits.Decision.TheVariants.{Dice};
 ghost use Rattle.dice.specs.Grids.{line_count};
-ghost use Rattle.shader_binding.specs.Sets.{Fits};
-ghost use Rattle.shader_binding.specs.Bindings.{FitsPrim};
-ghost use Rattle.displace_shade.specs.Shop.{shop_set};
 ghost use Rattle.hider.specs.declared.fragment.Fragment.{Fragment};
 ghost use Rattle.hider.specs.declared.sample.Sample.{Sample};
 ghost use Rattle.hider.specs.CellValues.{values_of, micropolygons_of};
@@ -14,10 +9,11 @@ ghost use Rattle.moving_cells.specs.MovingGrids.{values_when};
 ghost use Rattle.hider.specs.Flat.{IsSeenBy};
 ghost use Rattle.hider.specs.Tiles.{Shows, BlocksAll};
 ghost use Rattle.grid_epoch.specs.Kept.{has, pieces_in, points_in};
-ghost use Rattle.buckets.specs.Pictures.{decide, leaf_in, leaf_micropolygons};
+ghost use Rattle.buckets.specs.LeafSteps.{CanShade, IsDiced, KeepsGrid, KeepsGrids, PassesOne, ShadesOne, UsesLeaf};
+ghost use Rattle.buckets.specs.Pictures.{leaf_in, leaf_micropolygons};
 ghost use Rattle.buckets.specs.Sampled.{ShowsMore};
 ghost use Rattle.buckets.specs.TileWalk.{Drawing, nearest};
-ghost use Rattle.buckets.specs.Standing.{Begun, InEpoch, IsDrawn, IsGridOf, IsShadedOf, AreGrids, Uses, UsesInPart, PassesLeaf, PassesInPart};
+ghost use Rattle.buckets.specs.Standing.{Begun, InEpoch, IsDrawn, IsGridOf, IsShadedOf};
 
 use crate::shown::Shown;
 use crate::sights::Sights;
@@ -69,8 +65,7 @@ fn hide_leaf(
 ) -> Result<(), NoMemory>
     ghost drawing: { Drawing }
     requires camera { camera.now ≡ drawing.frame.camera }
-    requires there { slice_get drawing.frame.prims leaf.now.piece.prim ≡ Some prim.now }
-    requires sizes { decide drawing.frame.camera prim.now leaf.now.piece ≡ Dice leaf.now.p leaf.now.q }
+    requires leaf { IsDiced drawing prim.now leaf.now }
     requires grid { IsGridOf drawing leaf.now.piece seen.now }
     ensures grid { tile.new.grid ≡ tile.old.grid }
     ensures shows { OnOk result (ShowsMore drawing.frame.camera (leaf_micropolygons drawing.accepted drawing.frame prim.now leaf.now.piece) tile.old tile.new) }
@@ -101,19 +96,11 @@ fn shade_grid<'a>(
 ) -> Result<GridRef<'a>, NoMemory>
     ghost begun: { Begun }
     requires drawn { IsDrawn begun shown.now }
-    requires set { shop_set shop.old ≡ begun.drawing.accepted.set }
-    requires there { slice_get begun.drawing.frame.prims leaf.now.piece.prim ≡ Some prim.now }
-    requires sizes { decide begun.drawing.frame.camera prim.now leaf.now.piece ≡ Dice leaf.now.p leaf.now.q }
-    requires p { leaf.now.p ≤ 4 }
-    requires q { leaf.now.q ≤ 4 }
-    requires count { shop.old.count < 18446744073709551615 }
+    requires shop { CanShade begun.drawing shop.old }
+    requires leaf { IsDiced begun.drawing prim.now leaf.now }
     ensures grid { IfOk result (IsShadedOf begun.drawing leaf.now.piece) }
     ensures points { IfOk result (λ g. g.columns * g.rows ≡ line_count leaf.now.p * line_count leaf.now.q) }
-    ensures set { shop.new.set ≡ shop.old.set }
-    ensures textures { shop.new.cache.textures ≡ shop.old.cache.textures }
-    ensures least { shop.old.count ≤ shop.new.count }
-    ensures most { shop.new.count ≤ shop.old.count + 1 }
-    ensures count { OnOk result (shop.new.count ≡ shop.old.count + 1) }
+    ensures shop { ShadesOne shop.old shop.new result }
 {
     let grid = shop.shade(arena, shown.scene, shown.index, &leaf.piece, leaf.p, leaf.q)?;
     Ok(grid)
@@ -130,23 +117,13 @@ fn shade_leaf<'a>(
 ) -> Result<SeenGrid<'a>, NoMemory>
     ghost begun: { Begun }
     requires drawn { IsDrawn begun shown.now }
-    requires set { shop_set shop.old ≡ begun.drawing.accepted.set }
-    requires there { slice_get begun.drawing.frame.prims leaf.now.piece.prim ≡ Some prim.now }
-    requires sizes { decide begun.drawing.frame.camera prim.now leaf.now.piece ≡ Dice leaf.now.p leaf.now.q }
-    requires p { leaf.now.p ≤ 4 }
-    requires q { leaf.now.q ≤ 4 }
-    requires count { shop.old.count < 18446744073709551615 }
+    requires shop { CanShade begun.drawing shop.old }
+    requires leaf { IsDiced begun.drawing prim.now leaf.now }
     requires room { points_in epoch.old.kept + line_count leaf.now.p * line_count leaf.now.q ≤ epoch.old.limit }
     requires fresh { has leaf.now.piece (pieces_in epoch.old.kept) ≡ false }
     ensures limit { epoch.new.limit ≡ epoch.old.limit }
-    ensures grid { IfOk result (IsGridOf begun.drawing leaf.now.piece) }
-    ensures points { IfOk result (λ s. s.grid.columns * s.grid.rows ≡ line_count leaf.now.p * line_count leaf.now.q) }
-    ensures kept { IfOk result (λ s. epoch.new.kept ≡ epoch.old.kept ++ (leaf.now.piece, s) ∷ []) }
-    ensures set { shop.new.set ≡ shop.old.set }
-    ensures textures { shop.new.cache.textures ≡ shop.old.cache.textures }
-    ensures least { shop.old.count ≤ shop.new.count }
-    ensures most { shop.new.count ≤ shop.old.count + 1 }
-    ensures count { OnOk result (shop.new.count ≡ shop.old.count + 1) }
+    ensures kept { IfOk result (KeepsGrid begun.drawing leaf.now epoch.old epoch.new) }
+    ensures shop { ShadesOne shop.old shop.new result }
 {
     let grid = shade_grid(shown, prim, leaf, arena, shop)?;
     let frame = shown.frame;
@@ -168,20 +145,10 @@ fn use_leaf<'a>(
 ) -> Result<bool, NoMemory>
     ghost begun: { Begun }
     requires drawn { IsDrawn begun shown.now }
-    requires set { shop_set shop.old ≡ begun.drawing.accepted.set }
-    requires there { slice_get begun.drawing.frame.prims leaf.now.piece.prim ≡ Some prim.now }
-    requires sizes { decide begun.drawing.frame.camera prim.now leaf.now.piece ≡ Dice leaf.now.p leaf.now.q }
-    requires p { leaf.now.p ≤ 4 }
-    requires q { leaf.now.q ≤ 4 }
-    requires count { shop.old.count < 18446744073709551615 }
-    requires limit { epoch.old.limit ≡ begun.drawing.limit }
-    requires grids { AreGrids begun.drawing epoch.old.kept }
-    ensures limit { epoch.new.limit ≡ epoch.old.limit }
-    ensures grid { tile.new.grid ≡ tile.old.grid }
-    ensures set { shop.new.set ≡ shop.old.set }
-    ensures textures { shop.new.cache.textures ≡ shop.old.cache.textures }
-    ensures used { IfOk result (λ b. Uses b begun.drawing (leaf_in prim.now leaf.now.piece) epoch.old.kept shop.old.count tile.old epoch.new.kept shop.new.count tile.new) }
-    ensures part { OnErr result (UsesInPart begun.drawing (leaf_in prim.now leaf.now.piece) epoch.old.kept shop.old.count shop.new.count) }
+    requires shop { CanShade begun.drawing shop.old }
+    requires leaf { IsDiced begun.drawing prim.now leaf.now }
+    requires epoch { KeepsGrids begun.drawing epoch.old }
+    ensures { UsesLeaf begun.drawing (leaf_in prim.now leaf.now.piece) tile.old tile.new epoch.old epoch.new shop.old shop.new result }
 {
     let frame = shown.frame;
     if let Some(at) = epoch.find(&leaf.piece) {
@@ -220,21 +187,12 @@ pub(crate) fn pass_leaf<'a>(
 ) -> Result<bool, NoMemory>
     ghost at_epoch: { InEpoch }
     requires drawn { IsDrawn at_epoch.begun shown.now }
-    requires set { shop_set shop.old ≡ at_epoch.begun.drawing.accepted.set }
-    requires there { slice_get at_epoch.begun.drawing.frame.prims leaf.now.piece.prim ≡ Some prim.now }
-    requires sizes { decide at_epoch.begun.drawing.frame.camera prim.now leaf.now.piece ≡ Dice leaf.now.p leaf.now.q }
-    requires p { leaf.now.p ≤ 4 }
-    requires q { leaf.now.q ≤ 4 }
-    requires count { shop.old.count < 18446744073709551615 }
-    requires limit { epoch.old.limit ≡ at_epoch.begun.drawing.limit }
-    requires grids { AreGrids at_epoch.begun.drawing epoch.old.kept }
+    requires shop { CanShade at_epoch.begun.drawing shop.old }
+    requires leaf { IsDiced at_epoch.begun.drawing prim.now leaf.now }
+    requires epoch { KeepsGrids at_epoch.begun.drawing epoch.old }
     requires sights { sights.old ≡ at_epoch.begun.drawing.frame }
     ensures sights { sights.new ≡ sights.old }
-    ensures limit { epoch.new.limit ≡ epoch.old.limit }
-    ensures set { shop.new.set ≡ shop.old.set }
-    ensures textures { shop.new.cache.textures ≡ shop.old.cache.textures }
-    ensures passed { IfOk result (λ b. PassesLeaf b at_epoch (leaf_in prim.now leaf.now.piece) tile.old epoch.old.kept shop.old.count tile.new epoch.new.kept shop.new.count) }
-    ensures part { OnErr result (PassesInPart at_epoch (leaf_in prim.now leaf.now.piece) tile.old epoch.old.kept shop.old.count shop.new.count) }
+    ensures passes { PassesOne at_epoch (leaf_in prim.now leaf.now.piece) tile.old tile.new epoch.old epoch.new shop.old shop.new result }
 {
     if is_behind(sights, prim, leaf, tile) {
         return Ok(true);

@@ -1,12 +1,9 @@
 // The pixels of a bucket, on their way to the sink.
-ghost use Rattle.std.specs.Prelude.{◌≡◌, ◌≤◌, ◌<◌, ◌+◌, ◌++◌, ℕ, List, true, All, IfOk, OnOk, OnErr, IsErrOf};
-ghost use Rattle.hider.specs.Tiles.{Shows};
-ghost use Rattle.outside.specs.Causes.{Rose};
-ghost use Rattle.filter_ppm.specs.Film.{pixels};
-ghost use Rattle.buckets.specs.Pictures.{frame_leaves};
-ghost use Rattle.buckets.specs.TileWalk.{bucket_of, draws, tile_grid, tile_count, format_in, picture_rect, fragments_of};
-ghost use Rattle.buckets.specs.Standing.{Begun, IsDrawn, IsFirstDrawn};
-ghost use Rattle.buckets.specs.Rows.{HasRow, PutsTo, PutsInPart, bucket_bytes, film};
+ghost use Rattle.std.specs.Prelude.{◌≡◌, ◌+◌, ℕ, IfOk, OnOk, IsErrOf};
+ghost use Rattle.outside.specs.Steps.{HoldsOpen, PutsOn};
+ghost use Rattle.buckets.specs.TileWalk.{bucket_of, picture_rect};
+ghost use Rattle.buckets.specs.Standing.{Begun, IsTile, ShowsTile};
+ghost use Rattle.buckets.specs.Rows.{HasRow, PutsTo, PutsInPart, bucket_bytes};
 ghost use Rattle.buckets.specs.declared.share.Share.TheVariants.{Whole, Nth};
 ghost use Rattle.buckets.specs.declared.limits.DrawFault.TheVariants.{WriteFault};
 
@@ -28,8 +25,7 @@ pub(crate) fn first_row(
     at: usize,
 ) -> Result<Vec<[u32; 3]>, NoMemory>
     ghost begun: { Begun }
-    requires drawn { IsDrawn begun shown.now }
-    requires at { at < tile_count begun.drawing }
+    requires { IsTile begun shown.now at }
     ensures { IfOk result (λ row. HasRow begun.drawing at (picture_rect begun.drawing.frame).left row.items) }
 {
     match shown.share {
@@ -46,8 +42,7 @@ pub(crate) fn next_row(
     row: &mut Vec<[u32; 3]>,
 ) -> Result<(), NoMemory>
     ghost begun: { Begun }
-    requires drawn { IsDrawn begun shown.now }
-    requires at { at + 1 < tile_count begun.drawing }
+    requires tile { IsTile begun shown.now (at + 1) }
     requires row { HasRow begun.drawing at (bucket_of begun.drawing at).right row.old.items }
     ensures { OnOk result (HasRow begun.drawing (at + 1) (bucket_of begun.drawing (at + 1)).left row.new.items) }
 {
@@ -67,11 +62,7 @@ fn bytes_of(
     filter: &mut PixelFilter,
 ) -> Result<Vec<u8>, NoMemory>
     ghost begun: { Begun }
-    requires drawn { IsDrawn begun shown.now }
-    requires at { at < tile_count begun.drawing }
-    requires format { filter.old ≡ format_in begun.drawing.frame }
-    requires grid { tile.now.grid ≡ tile_grid begun.drawing at }
-    requires shows { Shows tile.now (fragments_of begun.drawing (frame_leaves begun.drawing.frame)) }
+    requires { ShowsTile begun shown.now at tile.now filter.old }
     ensures format { filter.new ≡ filter.old }
     ensures bytes { IfOk result (λ bytes. bytes.items ≡ bucket_bytes begun.drawing at) }
 {
@@ -93,21 +84,11 @@ fn put_alone<O: FrameSink>(
     sink: &mut O,
 ) -> Result<(), DrawFault>
     ghost begun: { Begun }
-    requires drawn { IsDrawn begun shown.now }
     requires part { (part parts : ℕ) × (begun.drawing.share ≡ Nth part parts) }
-    requires at { at < tile_count begun.drawing }
-    requires here { draws begun.drawing at ≡ true }
-    requires format { filter.old ≡ format_in begun.drawing.frame }
-    requires grid { tile.now.grid ≡ tile_grid begun.drawing at }
-    requires shows { Shows tile.now (fragments_of begun.drawing (frame_leaves begun.drawing.frame)) }
-    requires open { O.is_open sink.old ≡ true }
-    requires put { PutsTo begun at (O.written sink.old) }
+    requires tile { ShowsTile begun shown.now at tile.now filter.old }
+    requires sink { HoldsOpen O.written O.is_open sink.old (PutsTo begun at) }
     ensures format { filter.new ≡ filter.old }
-    ensures open { O.is_open sink.new ≡ true }
-    ensures put { OnOk result (PutsTo begun (at + 1) (O.written sink.new)) }
-    ensures part { OnErr result (PutsInPart begun (O.written sink.new)) }
-    ensures later { O.faults sink.old ≤ O.faults sink.new }
-    ensures failed { IsErrOf result WriteFault → Rose (O.faults sink.old) (O.faults sink.new) }
+    ensures sink { PutsOn O.written O.is_open O.faults sink.old sink.new (PutsTo begun (at + 1)) (PutsInPart begun) result (IsErrOf result WriteFault) }
 {
     let bytes = bytes_of(alloc, shown, at, tile, filter)?;
     put_all(sink, &bytes)?;
@@ -125,22 +106,13 @@ fn put_in_row<O: FrameSink>(
     sink: &mut O,
 ) -> Result<(), DrawFault>
     ghost begun: { Begun }
-    requires drawn { IsDrawn begun shown.now }
     requires whole { begun.drawing.share ≡ Whole }
-    requires at { at < tile_count begun.drawing }
-    requires format { filter.old ≡ format_in begun.drawing.frame }
-    requires grid { tile.now.grid ≡ tile_grid begun.drawing at }
-    requires shows { Shows tile.now (fragments_of begun.drawing (frame_leaves begun.drawing.frame)) }
+    requires tile { ShowsTile begun shown.now at tile.now filter.old }
     requires row { HasRow begun.drawing at (bucket_of begun.drawing at).left row.old.items }
-    requires open { O.is_open sink.old ≡ true }
-    requires put { PutsTo begun at (O.written sink.old) }
+    requires sink { HoldsOpen O.written O.is_open sink.old (PutsTo begun at) }
     ensures format { filter.new ≡ filter.old }
     ensures row { OnOk result (HasRow begun.drawing at (bucket_of begun.drawing at).right row.new.items) }
-    ensures open { O.is_open sink.new ≡ true }
-    ensures put { OnOk result (PutsTo begun (at + 1) (O.written sink.new)) }
-    ensures part { OnErr result (PutsInPart begun (O.written sink.new)) }
-    ensures later { O.faults sink.old ≤ O.faults sink.new }
-    ensures failed { IsErrOf result WriteFault → Rose (O.faults sink.old) (O.faults sink.new) }
+    ensures sink { PutsOn O.written O.is_open O.faults sink.old sink.new (PutsTo begun (at + 1)) (PutsInPart begun) result (IsErrOf result WriteFault) }
 {
     put_bucket(shown, at, tile, filter, row)?;
     put_row(alloc, shown, at, row.as_slice(), sink)?;
@@ -159,22 +131,12 @@ pub(crate) fn put_pixels<O: FrameSink>(
     sink: &mut O,
 ) -> Result<(), DrawFault>
     ghost begun: { Begun }
-    requires drawn { IsDrawn begun shown.now }
-    requires at { at < tile_count begun.drawing }
-    requires here { draws begun.drawing at ≡ true }
-    requires format { filter.old ≡ format_in begun.drawing.frame }
-    requires grid { tile.now.grid ≡ tile_grid begun.drawing at }
-    requires shows { Shows tile.now (fragments_of begun.drawing (frame_leaves begun.drawing.frame)) }
+    requires tile { ShowsTile begun shown.now at tile.now filter.old }
     requires row { HasRow begun.drawing at (bucket_of begun.drawing at).left row.old.items }
-    requires open { O.is_open sink.old ≡ true }
-    requires put { PutsTo begun at (O.written sink.old) }
+    requires sink { HoldsOpen O.written O.is_open sink.old (PutsTo begun at) }
     ensures format { filter.new ≡ filter.old }
     ensures row { OnOk result (HasRow begun.drawing at (bucket_of begun.drawing at).right row.new.items) }
-    ensures open { O.is_open sink.new ≡ true }
-    ensures put { OnOk result (PutsTo begun (at + 1) (O.written sink.new)) }
-    ensures part { OnErr result (PutsInPart begun (O.written sink.new)) }
-    ensures later { O.faults sink.old ≤ O.faults sink.new }
-    ensures failed { IsErrOf result WriteFault → Rose (O.faults sink.old) (O.faults sink.new) }
+    ensures sink { PutsOn O.written O.is_open O.faults sink.old sink.new (PutsTo begun (at + 1)) (PutsInPart begun) result (IsErrOf result WriteFault) }
 {
     match shown.share {
         Share::Whole => put_in_row(alloc, shown, at, tile, filter, row, sink),

@@ -1,13 +1,10 @@
 // The pixels of a row of buckets.
-ghost use Rattle.std.specs.Prelude.{◌≡◌, ◌≤◌, ◌<◌, ◌+◌, ◌-◌, ◌*◌, ◌/◌, ◌%◌, [], true, All, length, IfOk, OnOk, OnErr, IsErrOf, slice_index_or};
+ghost use Rattle.std.specs.Prelude.{◌≡◌, ◌≤◌, ◌<◌, ◌+◌, ◌-◌, ◌*◌, ◌/◌, ◌%◌, true, All, length, IfOk, OnOk, IsErrOf, slice_index_or};
 ghost use Rattle.fixed_math.specs.Buckets.{bucket_columns, bucket_rows};
-ghost use Rattle.hider.specs.Tiles.{Shows};
-ghost use Rattle.outside.specs.Causes.{Rose};
+ghost use Rattle.outside.specs.Steps.{HoldsOpen, PutsOn};
 ghost use Rattle.filter_ppm.specs.Bands.{rect_with};
-ghost use Rattle.scene.specs.Scene.{FrameValue};
-ghost use Rattle.buckets.specs.Pictures.{frame_leaves};
-ghost use Rattle.buckets.specs.TileWalk.{bucket_of, tile_grid, tile_rect, tile_count, format_in, picture_rect, fragments_of};
-ghost use Rattle.buckets.specs.Standing.{Begun, IsDrawn};
+ghost use Rattle.buckets.specs.TileWalk.{bucket_of, tile_rect, picture_rect};
+ghost use Rattle.buckets.specs.Standing.{Begun, IsCropOf, IsTile, ShowsTile};
 ghost use Rattle.buckets.specs.Rows.{IsRowTo, PutsRowsTo, PutsRowsInPart};
 ghost use Rattle.buckets.specs.declared.limits.DrawFault.TheVariants.{WriteFault};
 
@@ -22,11 +19,7 @@ use std::alloc::Global;
 
 /// The pixels of a frame's picture: their left, top, right and bottom.
 pub(crate) fn crop_of(frame: &Frame) -> [u32; 4]
-    ensures value { result ≡ frame.now.options.crop }
-    ensures across { slice_index_or result 0 0 < slice_index_or result 2 0 }
-    ensures right { slice_index_or result 2 0 ≤ 4096 }
-    ensures down { slice_index_or result 1 0 < slice_index_or result 3 0 }
-    ensures bottom { slice_index_or result 3 0 ≤ 4096 }
+    ensures { IsCropOf frame.now result }
 {
     // here is told that a camera sees at most 4,096 pixels each way
     let _view = frame.camera.view();
@@ -60,8 +53,7 @@ pub(crate) fn rows_of(frame: &Frame, side: u32) -> u32
 /// The bucket of a number: its left, top, right and bottom.
 pub(crate) fn bucket_at(shown: &Shown<'_>, at: usize) -> [u32; 4]
     ghost begun: { Begun }
-    requires drawn { IsDrawn begun shown.now }
-    requires at { at < tile_count begun.drawing }
+    requires { IsTile begun shown.now at }
     ensures { rect_with result ≡ bucket_of begun.drawing at }
 {
     let frame = shown.frame;
@@ -81,8 +73,7 @@ pub(crate) fn bucket_at(shown: &Shown<'_>, at: usize) -> [u32; 4]
 /// The tile of a number: its left, top, right and bottom.
 pub(crate) fn tile_at(shown: &Shown<'_>, at: usize) -> [u32; 4]
     ghost begun: { Begun }
-    requires drawn { IsDrawn begun shown.now }
-    requires at { at < tile_count begun.drawing }
+    requires { IsTile begun shown.now at }
     ensures { rect_with result ≡ tile_rect begun.drawing at }
 {
     let [left, top, right, bottom] = bucket_at(shown, at);
@@ -106,8 +97,7 @@ pub(crate) fn new_row(
     at: usize,
 ) -> Result<Vec<[u32; 3]>, NoMemory>
     ghost begun: { Begun }
-    requires drawn { IsDrawn begun shown.now }
-    requires at { at < tile_count begun.drawing }
+    requires { IsTile begun shown.now at }
     ensures { IfOk result (λ row. IsRowTo begun.drawing at (picture_rect begun.drawing.frame).left row.items) }
 {
     let [_, top, _, bottom] = bucket_at(shown, at);
@@ -125,8 +115,7 @@ pub(crate) fn turn_row(
     row: &mut Vec<[u32; 3]>,
 ) -> Result<(), NoMemory>
     ghost begun: { Begun }
-    requires drawn { IsDrawn begun shown.now }
-    requires at { at + 1 < tile_count begun.drawing }
+    requires tile { IsTile begun shown.now (at + 1) }
     requires row { IsRowTo begun.drawing at (bucket_of begun.drawing at).right row.old.items }
     ensures { OnOk result (IsRowTo begun.drawing (at + 1) (bucket_of begun.drawing (at + 1)).left row.new.items) }
 {
@@ -148,11 +137,7 @@ pub(crate) fn put_bucket(
     row: &mut Vec<[u32; 3]>,
 ) -> Result<(), NoMemory>
     ghost begun: { Begun }
-    requires drawn { IsDrawn begun shown.now }
-    requires at { at < tile_count begun.drawing }
-    requires format { filter.old ≡ format_in begun.drawing.frame }
-    requires grid { tile.now.grid ≡ tile_grid begun.drawing at }
-    requires shows { Shows tile.now (fragments_of begun.drawing (frame_leaves begun.drawing.frame)) }
+    requires tile { ShowsTile begun shown.now at tile.now filter.old }
     requires row { IsRowTo begun.drawing at (bucket_of begun.drawing at).left row.old.items }
     ensures format { filter.new ≡ filter.old }
     ensures row { OnOk result (IsRowTo begun.drawing at (bucket_of begun.drawing at).right row.new.items) }
@@ -170,16 +155,10 @@ pub(crate) fn put_row<O: FrameSink>(
     sink: &mut O,
 ) -> Result<(), DrawFault>
     ghost begun: { Begun }
-    requires drawn { IsDrawn begun shown.now }
-    requires at { at < tile_count begun.drawing }
+    requires tile { IsTile begun shown.now at }
     requires row { IsRowTo begun.drawing at (bucket_of begun.drawing at).right row.now }
-    requires open { O.is_open sink.old ≡ true }
-    requires put { PutsRowsTo begun at (O.written sink.old) }
-    ensures open { O.is_open sink.new ≡ true }
-    ensures put { OnOk result (PutsRowsTo begun (at + 1) (O.written sink.new)) }
-    ensures part { OnErr result (PutsRowsInPart begun (O.written sink.new)) }
-    ensures later { O.faults sink.old ≤ O.faults sink.new }
-    ensures failed { IsErrOf result WriteFault → Rose (O.faults sink.old) (O.faults sink.new) }
+    requires sink { HoldsOpen O.written O.is_open sink.old (PutsRowsTo begun at) }
+    ensures { PutsOn O.written O.is_open O.faults sink.old sink.new (PutsRowsTo begun (at + 1)) (PutsRowsInPart begun) result (IsErrOf result WriteFault) }
 {
     let frame = shown.frame;
     let columns = columns_of(frame, shown.limits.bucket) as usize;

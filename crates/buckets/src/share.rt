@@ -1,8 +1,8 @@
 // Which buckets of a frame are drawn.
-ghost use Rattle.std.specs.Prelude.{◌≡◌, ◌≤◌, ◌<◌, ◌+◌, true, length};
+ghost use Rattle.std.specs.Prelude.{◌≡◌, ◌+◌, true, length};
 ghost use Rattle.buckets.specs.Shares.{first_in, numbers_in, step_in};
 ghost use Rattle.buckets.specs.TileWalk.{tile_count, draws};
-ghost use Rattle.buckets.specs.Standing.{Begun, IsDrawn, IsFirstDrawn};
+ghost use Rattle.buckets.specs.Standing.{Begun, IsDrawn, IsFirstDrawn, IsTile};
 
 use crate::shown::Shown;
 
@@ -40,7 +40,7 @@ impl Share {
 /// The number of the first tile that is drawn; behind the last tile where none is.
 pub(crate) fn first_tile(shown: &Shown<'_>) -> usize
     ghost begun: { Begun }
-    requires drawn { IsDrawn begun shown.now }
+    requires { IsDrawn begun shown.now }
     ensures { IsFirstDrawn begun.drawing 0 result }
 {
     shown.share.first().min(shown.tiles)
@@ -49,8 +49,7 @@ pub(crate) fn first_tile(shown: &Shown<'_>) -> usize
 /// The number of the next tile that is drawn behind tile `at`, which is; behind the last tile where none is.
 pub(crate) fn tile_behind(shown: &Shown<'_>, at: usize) -> usize
     ghost begun: { Begun }
-    requires drawn { IsDrawn begun shown.now }
-    requires at { at < tile_count begun.drawing }
+    requires tile { IsTile begun shown.now at }
     requires here { draws begun.drawing at ≡ true }
     ensures { IsFirstDrawn begun.drawing (at + 1) result }
 {

@@ -1,6 +1,6 @@
 use Rattle.std.proofs.Common.{◌≡◌, ◌≤◌, ◌-◌, true}
 use Rattle.buckets.specs.Progress.{Stands}
-use Rattle.buckets.specs.Rows.{PutsTo, TellsSamples}
+use Rattle.buckets.specs.Rows.{PutsTo}
 use Rattle.buckets.proofs.frame.go_on.Given as goal
 
 abbrev pub invariant-loop-progress : goal.invariant-loop-progress
@@ -9,9 +9,8 @@ invariant-loop-progress g l = record {
   limit : l.epoch.limit ≡ l.initial.epoch.limit;
   set : l.shop.set ≡ l.initial.shop.set;
   textures : l.shop.cache.textures ≡ l.initial.shop.cache.textures;
-  epochs : l.report.epochs ≡ l.initial.report.epochs;
-  points : l.report.most_points ≡ l.initial.report.most_points;
-  samples : TellsSamples g.at_epoch.begun l.progress.drawing.at l.report.most_samples;
+  epochs : l.progress.report.epochs ≡ l.initial.progress.report.epochs;
+  points : l.progress.report.most_points ≡ l.initial.progress.report.most_points;
   open' : g.O.FrameSink.is_open l.sink ≡ true;
   put : PutsTo g.at_epoch.begun l.progress.drawing.at (g.O.FrameSink.written l.sink);
   later : g.O.FrameSink.faults l.initial.sink ≤ g.O.FrameSink.faults l.sink;

@@ -20,7 +20,7 @@ pub tile_behind-at-requires : goal.tile_behind-at-requires
 tile_behind-at-requires g c =
     let q = c.requires in
     let low : c.loop-at.at < tile_count g.begun.drawing = (let t = c.loop-at-test.true in let n = q.tiles in omega (arith, t, n)) in
-    (q, (low, c.loop-at.invariant.drawn low))
+    (record { drawn = q; at' = low }, c.loop-at.invariant.drawn low)
 
 pub loop-at-preserved : goal.loop-at-preserved
 loop-at-preserved g c =
