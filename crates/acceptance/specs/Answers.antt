@@ -1,5 +1,6 @@
 -- What the code's answers say of what is accepted.
-use Rattle.std.specs.Prelude.{◌≡◌, ℕ, Option, Some, None, Result, Ok, Err}
+use Rattle.std.specs.Prelude.{◌≡◌, ◌≤◌, ℕ, Option, Some, None, Result, Ok, Err, IsErrOf, IfOk, length}
+use Rattle.scene.specs.Scene.{SceneValue}
 use Rattle.acceptance.specs.declared.refusal.Refusal.{Refusal}
 use Rattle.acceptance.specs.declared.refusal.Refusal.TheVariants as refusals
 use Rattle.acceptance.specs.Causes as causes
@@ -25,6 +26,21 @@ Gives view (Err refusal) read = Because refusal (causes.cause_in read)
 abbrev pub Clears : {A : Type 0} → Result A Refusal → Option Cause → Type 0
 Clears (Ok x) cause = cause ≡ None
 Clears (Err refusal) cause = Because refusal cause
+
+-- the same of what is read and judged without the library, which can't have failed there
+pub record GivesAlone {A B : Type 0} (view : A → B) (result : Result A Refusal) (read : Reads B) : Type 0 where
+  pub gives : Gives view result read
+  pub alone : IsErrOf result refusals.ReadFault → ⊥
+
+pub record ClearsAlone {A : Type 0} (result : Result A Refusal) (cause : Option Cause) : Type 0 where
+  pub clears : Clears result cause
+  pub alone : IsErrOf result refusals.ReadFault → ⊥
+
+-- a scene is read, which has at most 1,000 frames, or refused
+pub record GivesScene (result : Result SceneValue Refusal) (read : Reads SceneValue) : Type 0 where
+  pub gives : Gives as_it_is result read
+  pub few : IfOk result (λ s. length s.frames ≤ 1000)
+  pub alone : IsErrOf result refusals.ReadFault → ⊥
 
 abbrev pub status_of_refusal : Refusal → ℕ
 status_of_refusal (refusals.At file line code) = status_of_code code

@@ -1,17 +1,17 @@
 -- How the variables of primitives fit the parameters of their shaders (RenderMan Interface 3.2, section 5, primitive variables, and
 -- section 11.3.3).
-use Rattle.std.specs.Prelude.{◌≡◌, refl, ℕ, Bool, true, false, not, ◌&&◌, ◌||◌, List, [], ◌∷◌, map, slice_get, Option, Some, None, All, codes, if◌then◌else◌}
+use Rattle.std.specs.Prelude.{◌≡◌, ◌≤◌, refl, ℕ, Bool, length, true, false, not, ◌&&◌, ◌||◌, List, [], ◌∷◌, map, slice_get, Option, Some, None, All, codes, if◌then◌else◌}
 use Rattle.std.specs.List.{list_any}
 use Rattle.std.specs.Str.{bytes_eq}
 use Rattle.scene.specs.declared.params.Kind.{Kind}
 use Rattle.scene.specs.declared.params.Kind.TheVariants as kinds
 use Rattle.scene.specs.declared.params.Values.TheVariants.{Numbers}
-use Rattle.scene.specs.Scene.{VariableValue, PrimValue, FrameValue}
+use Rattle.scene.specs.Scene.{VariableValue, PrimValue, FrameValue, SceneValue}
 use Rattle.scene.specs.declared.uses.ShaderUse.{ShaderUse}
 use Rattle.sl_ast.specs.declared.kinds.SlType.TheVariants as types
 use Rattle.sl_ast.specs.Typed.{Local, Tree}
 use Rattle.sl_look_ups.specs.Naming.{binding_params}
-use Rattle.shader_binding.specs.Sets.{SetValue}
+use Rattle.shader_binding.specs.Sets.{SetValue, Fits}
 use Rattle.shader_binding.specs.Predefined.{sets_predefined}
 use Rattle.shader_binding.specs.Bindings.{FitsPrim}
 use Rattle.acceptance.specs.declared.code.FaultCode.TheVariants.{B2}
@@ -52,6 +52,12 @@ is_unfit_prim trees of_use p =
 -- the variables of all primitives of these frames fit their shaders
 abbrev pub FitPrims : SetValue → List ShaderUse → List FrameValue → Type 0
 FitPrims s uses fs = All (λ f. All (FitsPrim s uses) f.prims) fs
+
+-- the set fits the scene, and so do the variables of its primitives; it has at most 1,000 frames
+pub record FitsScene (s : SetValue) (scene : SceneValue) : Type 0 where
+  pub uses : Fits s scene.uses
+  pub variables : FitPrims s scene.uses scene.frames
+  pub few : length scene.frames ≤ 1000
 
 -- the first primitive whose variables don't fit, as a cause at its line
 abbrev pub prim_refused : List Tree → List ℕ → PrimValue → Option Cause

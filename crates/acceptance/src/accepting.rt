@@ -1,17 +1,17 @@
 // The accepted scene of a text, with its shaders.
 ghost use Rattle.std.specs.Prelude.{◌≡◌, ◌≤◌, IsErrOf, IfOk, OnOk, All, length, map};
-ghost use Rattle.outside.specs.Causes.{Rose, Told};
-ghost use Rattle.outside.specs.Asked.{AsksAll, AsksFront};
+ghost use Rattle.outside.specs.Causes.{Told};
+ghost use Rattle.outside.specs.Asked.{AsksAll};
+ghost use Rattle.outside.specs.Steps.{Consults};
 ghost use Rattle.rib_reader.specs.Reading.{plain, requests_of};
 ghost use Rattle.scene_state.specs.Steps.{scene_of};
 ghost use Rattle.acceptance.specs.Accepting.{scene_of_state, scene_of_requests, scene_of_text, accepted, asked_for_scene};
 ghost use Rattle.outside.specs.Library.{Files};
 ghost use Rattle.acceptance.specs.Shaders.{shader_names, shaders_asked};
 ghost use Rattle.acceptance.specs.UseFit.{uses_refused};
-ghost use Rattle.acceptance.specs.PrimFit.{FitPrims};
-ghost use Rattle.shader_binding.specs.Sets.{Fits, FitUses};
-ghost use Rattle.acceptance.specs.Reading.{IsReadOf, ReadsShaders, ArePlaced, name_of, tree_read, all_values};
-ghost use Rattle.acceptance.specs.Answers.{Clears, Gives, as_it_is};
+ghost use Rattle.acceptance.specs.PrimFit.{FitsScene};
+ghost use Rattle.acceptance.specs.Reading.{IsReadOf, ReadsShaders, ArePlaced, AreUsed, BindsUses};
+ghost use Rattle.acceptance.specs.Answers.{Clears, Gives, GivesScene};
 ghost use Rattle.acceptance.specs.Reading.{set_in, accepted_in};
 ghost use Rattle.acceptance.specs.declared.refusal.Refusal.TheVariants.{ReadFault};
 
@@ -32,9 +32,7 @@ use std::alloc::Global;
 // The scene of requests.
 #[tactic(auto, using(scene_state::proofs::FrameCount::few_frames))]
 fn of_requests(alloc: Global, requests: &[Request]) -> Result<Scene, Refusal>
-    ensures gives { Gives as_it_is result (scene_of_state (scene_of (map plain requests.now))) }
-    ensures few { IfOk result (λ s. length s.frames ≤ 1000) }
-    ensures read { IsErrOf result ReadFault → ⊥ }
+    ensures { GivesScene result (scene_of_state (scene_of (map plain requests.now))) }
 {
     match scene(alloc, requests) {
         Ok(scene) => Ok(scene),
@@ -45,9 +43,7 @@ fn of_requests(alloc: Global, requests: &[Request]) -> Result<Scene, Refusal>
 
 // The scene of tokens.
 fn of_tokens(alloc: Global, tokens: &[Token]) -> Result<Scene, Refusal>
-    ensures gives { Gives as_it_is result (scene_of_requests (requests_of tokens.now)) }
-    ensures few { IfOk result (λ s. length s.frames ≤ 1000) }
-    ensures read { IsErrOf result ReadFault → ⊥ }
+    ensures { GivesScene result (scene_of_requests (requests_of tokens.now)) }
 {
     match requests(alloc, tokens) {
         Ok(requests) => of_requests(alloc, &requests),
@@ -60,9 +56,7 @@ fn of_tokens(alloc: Global, tokens: &[Token]) -> Result<Scene, Refusal>
 #[tactic(auto, unfolding(crate::specs::Accepting::scene_of_text))]
 fn read_scene(alloc: Global, text: &[u8]) -> Result<Scene, Refusal>
     requires { length text.now ≤ 16777216 }
-    ensures gives { Gives as_it_is result (scene_of_text text.now) }
-    ensures few { IfOk result (λ s. length s.frames ≤ 1000) }
-    ensures read { IsErrOf result ReadFault → ⊥ }
+    ensures { GivesScene result (scene_of_text text.now) }
 {
     match tokens(alloc, text) {
         Ok(tokens) => of_tokens(alloc, &tokens),
@@ -77,14 +71,10 @@ fn read_used<L: Library>(
     library: &mut L,
     scene: &Scene,
 ) -> Result<UsedShaders, Refusal>
-    ensures held { L.held library.new ≡ L.held library.old }
-    ensures asked { Told (L.held library.old) (λ files. AsksFront (shaders_asked files (shader_names scene.now.uses)) (L.asked library.old) (L.asked library.new)) }
+    ensures library { Consults L.held L.asked L.faults library.old library.new (λ files. shaders_asked files (shader_names scene.now.uses)) (IsErrOf result ReadFault) }
     ensures asked_all { OnOk result (Told (L.held library.old) (λ files. AsksAll (shaders_asked files (shader_names scene.now.uses)) (L.asked library.old) (L.asked library.new))) }
-    ensures names { IfOk result (λ s. map name_of s.read ≡ shader_names scene.now.uses) }
-    ensures placed { IfOk result (λ s. ArePlaced scene.now.uses s) }
+    ensures used { IfOk result (AreUsed scene.now.uses) }
     ensures reads { Told (L.held library.old) (λ files. ReadsShaders files (shader_names scene.now.uses) result) }
-    ensures later { L.faults library.old ≤ L.faults library.new }
-    ensures read { IsErrOf result ReadFault → Rose (L.faults library.old) (L.faults library.new) }
 {
     read_shaders(alloc, library, scene.uses.as_slice())
 }
@@ -97,9 +87,7 @@ fn bind_used(
 ) -> Result<Vec<List<Value>>, Refusal>
     requires { ArePlaced scene.now.uses shaders.now }
     ensures clears { (files : Files) → All (IsReadOf files) shaders.now.read → Clears result (uses_refused files scene.now.uses) }
-    ensures values { IfOk result (λ vss. vss.items ≡ all_values shaders.now.read scene.now.uses shaders.now.of_use) }
-    ensures fit { IfOk result (λ vss. FitUses (map tree_read shaders.now.read) scene.now.uses shaders.now.of_use vss.items) }
-    ensures read { IsErrOf result ReadFault → ⊥ }
+    ensures binds { BindsUses scene.now.uses shaders.now result }
 {
     bind_all(alloc, scene.uses.as_slice(), shaders)
 }
@@ -115,14 +103,9 @@ pub fn accept<L: Library>(
     library: &mut L,
 ) -> Result<AcceptedScene, Refusal>
     requires { length text.now ≤ 16777216 }
-    ensures held { L.held library.new ≡ L.held library.old }
-    ensures asked { Told (L.held library.old) (λ files. AsksFront (asked_for_scene files (scene_of_text text.now)) (L.asked library.old) (L.asked library.new)) }
+    ensures library { Consults L.held L.asked L.faults library.old library.new (λ files. asked_for_scene files (scene_of_text text.now)) (IsErrOf result ReadFault) }
     ensures gives { Told (L.held library.old) (λ files. Gives accepted_in result (accepted files text.now)) }
-    ensures fits { IfOk result (λ a. Fits (set_in a) a.scene.uses) }
-    ensures variables { IfOk result (λ a. FitPrims (set_in a) a.scene.uses a.scene.frames) }
-    ensures few { IfOk result (λ a. length a.scene.frames ≤ 1000) }
-    ensures later { L.faults library.old ≤ L.faults library.new }
-    ensures read { IsErrOf result ReadFault → Rose (L.faults library.old) (L.faults library.new) }
+    ensures fits { IfOk result (λ a. FitsScene (set_in a) a.scene) }
 {
     let scene = read_scene(alloc, text)?;
     let shaders = read_used(alloc, library, &scene)?;

@@ -1,13 +1,13 @@
 // How the parameters of a shader request fit its shader.
-ghost use Rattle.std.specs.Prelude.{◌≡◌, IsErrOf, IfOk, map, Some};
+ghost use Rattle.std.specs.Prelude.{◌≡◌, IfOk, map, Some};
 ghost use Rattle.std.specs.List.{list_any};
 ghost use Rattle.sl_ast.specs.TreeView.{tree_of};
 ghost use Rattle.sl_ast.specs.Settled.{IsSettled};
 ghost use Rattle.acceptance.specs.RequestFit as spec;
-ghost use Rattle.shader_binding.specs.Sets.{is_of_kind, FitsUse};
+ghost use Rattle.shader_binding.specs.Sets.{is_of_kind};
 ghost use Rattle.acceptance.specs.Bound.{bound_values};
+ghost use Rattle.acceptance.specs.Reading.{BindsUse};
 ghost use Rattle.acceptance.specs.Answers.{Clears};
-ghost use Rattle.acceptance.specs.declared.refusal.Refusal.TheVariants.{ReadFault};
 
 use crate::code::FaultCode;
 use crate::refusal::{Refusal, in_scene};
@@ -142,9 +142,7 @@ pub fn bind(
     requires declared { declared.now ≡ spec.declared_names (tree_of tree.now) }
     requires settled { IsSettled (tree_of tree.now) }
     ensures clears { Clears result (spec.cause_at request.now (spec.binding_fault (tree_of tree.now) request.now)) }
-    ensures values { IfOk result (λ vs. vs ≡ bound_values (tree_of tree.now) request.now) }
-    ensures fits { IfOk result (λ vs. FitsUse request.now vs (Some (tree_of tree.now))) }
-    ensures read { IsErrOf result ReadFault → ⊥ }
+    ensures binds { BindsUse request.now (Some (tree_of tree.now)) (bound_values (tree_of tree.now) request.now) result }
 {
     match binding_fault(alloc, tree, declared, request)? {
         None => Ok(bound_values(alloc, tree, request)?),

@@ -1,8 +1,9 @@
 // The shaders of a scene, from a library or the stock.
 ghost use Rattle.std.specs.Prelude.{◌≡◌, ◌≤◌, ◌∷◌, ◌++◌, [], IsErrOf, OnOk, OnErr, IfOk, Some, None, map, length, option_map, true, false, slice_get};
-ghost use Rattle.outside.specs.Causes.{Rose, Told};
+ghost use Rattle.outside.specs.Causes.{Told};
 ghost use Rattle.outside.specs.Library.{held_as};
-ghost use Rattle.outside.specs.Asked.{AsksAll, AsksFront};
+ghost use Rattle.outside.specs.Asked.{AsksAll};
+ghost use Rattle.outside.specs.Steps.{AsksFor, Consults};
 ghost use Rattle.sl_ast.specs.ShaderView.{shader_of};
 ghost use Rattle.sl_ast.specs.Settled.{IsSettled};
 ghost use Rattle.sl_ast.specs.TreeView.{tree_of};
@@ -10,9 +11,8 @@ ghost use Rattle.sl_parser.specs.Files.{parsed};
 ghost use Rattle.sl_types.specs.Checked.{checked};
 ghost use Rattle.sl_types.specs.Distinct.{are_distinct};
 ghost use Rattle.acceptance.specs.RequestFit.{declared_names};
-ghost use Rattle.acceptance.specs.Shaders.{IsCompilable, file_of, stock_text, tree_in_rows, tree_of_checked, tree_of_parsed, tree_of_bytes, shader_names, shaders_asked};
-ghost use Rattle.acceptance.specs.Answers.{Gives};
-ghost use Rattle.acceptance.specs.Reading.{GivesShaderText, ReadsShader, ReadsNext, ReadsShaders, ArePlaced, is_among, file_once, with_once, name_of};
+ghost use Rattle.acceptance.specs.Shaders.{file_of, stock_text, tree_in_rows, tree_of_checked, tree_of_parsed, tree_of_bytes, shader_names, shaders_asked};
+ghost use Rattle.acceptance.specs.Reading.{GivesShaderText, GivesTree, ReadsShader, ReadsNext, ReadsShaders, AreUsed, is_among, file_once, with_once, name_of};
 ghost use Rattle.acceptance.specs.declared.refusal.Refusal.TheVariants.{ReadFault};
 
 use crate::read::ReadShader;
@@ -45,10 +45,7 @@ pub struct UsedShaders {
 fn in_rows(alloc: Global, name: &Text, tree: Tree) -> Result<Tree, Refusal>
     requires settled { IsSettled (tree_of tree) }
     requires distinct { are_distinct (declared_names (tree_of tree)) ≡ true }
-    ensures gives { Gives tree_of result (tree_in_rows name.now (tree_of tree)) }
-    ensures compilable { IfOk result (λ t. IsCompilable (tree_of t)) }
-    ensures distinct { IfOk result (λ t. are_distinct (declared_names (tree_of t)) ≡ true) }
-    ensures read { IsErrOf result ReadFault → ⊥ }
+    ensures { GivesTree result (tree_in_rows name.now (tree_of tree)) }
 {
     if MOST_ROWS < rows(alloc, &tree)? {
         return Err(in_shader(alloc, name, FaultCode::M9, tree.place.line));
@@ -58,10 +55,7 @@ fn in_rows(alloc: Global, name: &Text, tree: Tree) -> Result<Tree, Refusal>
 
 // The typed tree of an untyped one.
 fn typed(alloc: Global, name: &Text, shader: &sl_ast::Shader) -> Result<Tree, Refusal>
-    ensures gives { Gives tree_of result (tree_of_checked name.now (checked (shader_of shader.now))) }
-    ensures compilable { IfOk result (λ t. IsCompilable (tree_of t)) }
-    ensures distinct { IfOk result (λ t. are_distinct (declared_names (tree_of t)) ≡ true) }
-    ensures read { IsErrOf result ReadFault → ⊥ }
+    ensures { GivesTree result (tree_of_checked name.now (checked (shader_of shader.now))) }
 {
     match check(alloc, shader) {
         Ok(tree) => in_rows(alloc, name, tree),
@@ -73,10 +67,7 @@ fn typed(alloc: Global, name: &Text, shader: &sl_ast::Shader) -> Result<Tree, Re
 // The typed tree of a text that isn't too long.
 fn of_text(alloc: Global, name: &Text, text: &[u8]) -> Result<Tree, Refusal>
     requires { length text.now ≤ 1048576 }
-    ensures gives { Gives tree_of result (tree_of_parsed name.now (parsed text.now)) }
-    ensures compilable { IfOk result (λ t. IsCompilable (tree_of t)) }
-    ensures distinct { IfOk result (λ t. are_distinct (declared_names (tree_of t)) ≡ true) }
-    ensures read { IsErrOf result ReadFault → ⊥ }
+    ensures { GivesTree result (tree_of_parsed name.now (parsed text.now)) }
 {
     match parse(alloc, text) {
         Ok(shader) => typed(alloc, name, &shader),
@@ -87,10 +78,7 @@ fn of_text(alloc: Global, name: &Text, text: &[u8]) -> Result<Tree, Refusal>
 
 // The typed tree of a text.
 fn of_bytes(alloc: Global, name: &Text, bytes: &[u8]) -> Result<Tree, Refusal>
-    ensures gives { Gives tree_of result (tree_of_bytes name.now bytes.now) }
-    ensures compilable { IfOk result (λ t. IsCompilable (tree_of t)) }
-    ensures distinct { IfOk result (λ t. are_distinct (declared_names (tree_of t)) ≡ true) }
-    ensures read { IsErrOf result ReadFault → ⊥ }
+    ensures { GivesTree result (tree_of_bytes name.now bytes.now) }
 {
     if MOST_BYTES < bytes.len() as u64 {
         return Err(in_shader(alloc, name, FaultCode::M10, 1));
@@ -129,12 +117,8 @@ fn file_of(alloc: Global, name: &Text) -> Result<Text, NoMemory>
 
 // The text of a shader: its file's, or the stock's.
 fn fetch_text<L: Library>(alloc: Global, library: &mut L, name: &Text) -> Result<Vec<u8>, Refusal>
-    ensures held { L.held library.new ≡ L.held library.old }
-    ensures asked { AsksFront (file_of name.now ∷ []) (L.asked library.old) (L.asked library.new) }
-    ensures asked_all { OnOk result (AsksAll (file_of name.now ∷ []) (L.asked library.old) (L.asked library.new)) }
+    ensures library { AsksFor L.held L.asked L.faults library.old library.new (file_of name.now ∷ []) result (IsErrOf result ReadFault) }
     ensures gives { Told (L.held library.old) (λ files. GivesShaderText name.now (held_as files (file_of name.now)) result) }
-    ensures later { L.faults library.old ≤ L.faults library.new }
-    ensures read { IsErrOf result ReadFault → Rose (L.faults library.old) (L.faults library.new) }
 {
     let file = file_of(alloc, name)?;
     let mut bytes = Vec::new(alloc);
@@ -153,13 +137,9 @@ fn read_shader<L: Library>(
     library: &mut L,
     name: &Text,
 ) -> Result<ReadShader, Refusal>
-    ensures held { L.held library.new ≡ L.held library.old }
-    ensures asked { AsksFront (file_of name.now ∷ []) (L.asked library.old) (L.asked library.new) }
-    ensures asked_all { OnOk result (AsksAll (file_of name.now ∷ []) (L.asked library.old) (L.asked library.new)) }
+    ensures library { AsksFor L.held L.asked L.faults library.old library.new (file_of name.now ∷ []) result (IsErrOf result ReadFault) }
     ensures name { IfOk result (λ s. s.name ≡ name.now) }
     ensures reads { Told (L.held library.old) (λ files. ReadsShader files name.now result) }
-    ensures later { L.faults library.old ≤ L.faults library.new }
-    ensures read { IsErrOf result ReadFault → Rose (L.faults library.old) (L.faults library.new) }
 {
     let named = name.copied(alloc)?;
     let text = fetch_text(alloc, library, name)?;
@@ -182,13 +162,9 @@ fn read_next<'a, L: Library>(
 ) -> Result<(), Refusal>
     requires { names.old ≡ map name_of shaders.old.items }
     ensures table { OnOk result (names.new ≡ map name_of shaders.new.items) }
-    ensures held { L.held library.new ≡ L.held library.old }
-    ensures asked { AsksFront (file_of name.now ∷ []) (L.asked library.old) (L.asked library.new) }
-    ensures asked_all { OnOk result (AsksAll (file_of name.now ∷ []) (L.asked library.old) (L.asked library.new)) }
+    ensures library { AsksFor L.held L.asked L.faults library.old library.new (file_of name.now ∷ []) result (IsErrOf result ReadFault) }
     ensures name { OnOk result (map name_of shaders.new.items ≡ map name_of shaders.old.items ++ name.now ∷ []) }
     ensures reads { Told (L.held library.old) (λ files. ReadsNext files name.now shaders.old.items shaders.new.items result) }
-    ensures later { L.faults library.old ≤ L.faults library.new }
-    ensures read { IsErrOf result ReadFault → Rose (L.faults library.old) (L.faults library.new) }
 {
     names.push(name)?;
     let read = read_shader(alloc, library, name)?;
@@ -207,14 +183,10 @@ fn read_once<'a, L: Library>(
     requires { names.old ≡ map name_of shaders.old.items }
     ensures table { OnOk result (names.new ≡ map name_of shaders.new.items) }
     ensures place { IfOk result (λ p. slice_get (map name_of shaders.new.items) p ≡ Some name.now) }
-    ensures held { L.held library.new ≡ L.held library.old }
-    ensures asked { AsksFront (file_once (map name_of shaders.old.items) name.now) (L.asked library.old) (L.asked library.new) }
-    ensures asked_all { OnOk result (AsksAll (file_once (map name_of shaders.old.items) name.now) (L.asked library.old) (L.asked library.new)) }
+    ensures library { AsksFor L.held L.asked L.faults library.old library.new (file_once (map name_of shaders.old.items) name.now) result (IsErrOf result ReadFault) }
     ensures name { OnOk result (map name_of shaders.new.items ≡ with_once (map name_of shaders.old.items) name.now) }
     ensures unread { OnErr result (is_among name.now (map name_of shaders.old.items) ≡ false) }
     ensures reads { Told (L.held library.old) (λ files. ReadsNext files name.now shaders.old.items shaders.new.items result) }
-    ensures later { L.faults library.old ≤ L.faults library.new }
-    ensures read { IsErrOf result ReadFault → Rose (L.faults library.old) (L.faults library.new) }
 {
     match names.place_of(name) {
         Some(place) => Ok(place),
@@ -251,14 +223,10 @@ pub(crate) fn read_shaders<L: Library>(
     library: &mut L,
     uses: &[ShaderUse],
 ) -> Result<UsedShaders, Refusal>
-    ensures held { L.held library.new ≡ L.held library.old }
-    ensures asked { Told (L.held library.old) (λ files. AsksFront (shaders_asked files (shader_names uses.now)) (L.asked library.old) (L.asked library.new)) }
+    ensures library { Consults L.held L.asked L.faults library.old library.new (λ files. shaders_asked files (shader_names uses.now)) (IsErrOf result ReadFault) }
     ensures asked_all { OnOk result (Told (L.held library.old) (λ files. AsksAll (shaders_asked files (shader_names uses.now)) (L.asked library.old) (L.asked library.new))) }
-    ensures names { IfOk result (λ s. map name_of s.read ≡ shader_names uses.now) }
-    ensures placed { IfOk result (λ s. ArePlaced uses.now s) }
+    ensures used { IfOk result (AreUsed uses.now) }
     ensures reads { Told (L.held library.old) (λ files. ReadsShaders files (shader_names uses.now) result) }
-    ensures later { L.faults library.old ≤ L.faults library.new }
-    ensures read { IsErrOf result ReadFault → Rose (L.faults library.old) (L.faults library.new) }
 {
     let mut names = Names::new(alloc);
     let mut shaders = Vec::new(alloc);

@@ -1,13 +1,13 @@
 // The textures of a scene, from a library.
 ghost use Rattle.std.specs.Prelude.{◌≡◌, ◌≤◌, ◌<◌, ◌+◌, ◌&&◌, ◌∷◌, [], nat_lt, nat_le, map, option_map, slice_get, length, IsErrOf, IfOk, OnOk, Ok, Some};
-ghost use Rattle.outside.specs.Causes.{Rose, Told};
-ghost use Rattle.outside.specs.Asked.{AsksAll, AsksFront};
+ghost use Rattle.outside.specs.Causes.{Told};
 ghost use Rattle.outside.specs.Library.{held_as};
+ghost use Rattle.outside.specs.Steps.{AsksFor, Consults};
 ghost use Rattle.sl_ast.specs.TreeView.{tree_of};
 ghost use Rattle.sl_ast.specs.TypedView.{tree_expr};
-ghost use Rattle.acceptance.specs.Answers.{Gives, as_it_is};
+ghost use Rattle.acceptance.specs.Answers.{Gives, GivesAlone, as_it_is};
 ghost use Rattle.acceptance.specs.Reading.{images_read, names_read, tree_read, with_once};
-ghost use Rattle.acceptance.specs.Listed.{AreAt, IsAt, listed_with, with_some};
+ghost use Rattle.acceptance.specs.Listed.{HasTable, ListsAll, ListsSome};
 ghost use Rattle.acceptance.specs.Textures as spec;
 ghost use Rattle.acceptance.specs.declared.refusal.Refusal.TheVariants.{ReadFault};
 
@@ -81,8 +81,8 @@ struct Listed<'a> {
 
 // The place of a name, which is listed where it isn't there yet.
 fn place_of<'a>(listed: &mut Listed<'a>, name: &'a Text) -> Result<u32, NoMemory>
-    requires { listed.old.table ≡ map (λ t. t.now) listed.old.names.items }
-    ensures table { OnOk result (listed.new.table ≡ map (λ t. t.now) listed.new.names.items) }
+    requires { HasTable listed.old }
+    ensures table { OnOk result (HasTable listed.new) }
     ensures names { OnOk result (listed.new.table ≡ with_once listed.old.table name.now) }
     ensures place { IfOk result (λ place. slice_get listed.new.table place ≡ Some name.now) }
 {
@@ -97,10 +97,8 @@ fn place_of<'a>(listed: &mut Listed<'a>, name: &'a Text) -> Result<u32, NoMemory
 
 // What a look-up names, by its place.
 fn entry_of<'a>(listed: &mut Listed<'a>, name: Option<&'a Text>) -> Result<Option<u32>, NoMemory>
-    requires { listed.old.table ≡ map (λ t. t.now) listed.old.names.items }
-    ensures table { OnOk result (listed.new.table ≡ map (λ t. t.now) listed.new.names.items) }
-    ensures names { OnOk result (listed.new.table ≡ with_some listed.old.table (option_map (λ t. t.now) name.entry)) }
-    ensures entry { IfOk result (λ entry. IsAt listed.new.table (option_map (λ t. t.now) name.entry) entry) }
+    requires { HasTable listed.old }
+    ensures { ListsSome listed.old listed.new (option_map (λ t. t.now) name.entry) result }
 {
     match name {
         Some(name) => Ok(Some(place_of(listed, name)?)),
@@ -115,10 +113,8 @@ fn entries_found<'a>(
     found: &[LookUp<'a>],
     values: &'a [Value],
 ) -> Result<List<Option<u32>>, NoMemory>
-    requires { listed.old.table ≡ map (λ t. t.now) listed.old.names.items }
-    ensures table { OnOk result (listed.new.table ≡ map (λ t. t.now) listed.new.names.items) }
-    ensures names { OnOk result (listed.new.table ≡ listed_with listed.old.table (map (λ l. spec.name_with values.now (tree_expr l.name.now)) found.now)) }
-    ensures entries { IfOk result (λ es. AreAt listed.new.table (map (λ l. spec.name_with values.now (tree_expr l.name.now)) found.now) es) }
+    requires { HasTable listed.old }
+    ensures { ListsAll listed.old listed.new (map (λ l. spec.name_with values.now (tree_expr l.name.now)) found.now) result }
 {
     let mut entries = Vec::new(alloc);
     for look_up in found {
@@ -135,10 +131,8 @@ fn entries_of<'a>(
     tree: &'a Tree,
     values: &'a [Value],
 ) -> Result<List<Option<u32>>, NoMemory>
-    requires { listed.old.table ≡ map (λ t. t.now) listed.old.names.items }
-    ensures table { OnOk result (listed.new.table ≡ map (λ t. t.now) listed.new.names.items) }
-    ensures names { OnOk result (listed.new.table ≡ listed_with listed.old.table (spec.names_with (tree_of tree.now) values.now)) }
-    ensures entries { IfOk result (λ es. AreAt listed.new.table (spec.names_with (tree_of tree.now) values.now) es) }
+    requires { HasTable listed.old }
+    ensures { ListsAll listed.old listed.new (spec.names_with (tree_of tree.now) values.now) result }
 {
     let found = look_ups(alloc, tree)?;
     entries_found(alloc, listed, &found, values)
@@ -153,10 +147,8 @@ fn entries_at<'a>(
     values: &'a [Value],
 ) -> Result<List<Option<u32>>, NoMemory>
     requires place { place < length read.now }
-    requires table { listed.old.table ≡ map (λ t. t.now) listed.old.names.items }
-    ensures table { OnOk result (listed.new.table ≡ map (λ t. t.now) listed.new.names.items) }
-    ensures names { OnOk result (listed.new.table ≡ listed_with listed.old.table (spec.names_at (slice_get (map tree_read read.now) place) values.now)) }
-    ensures entries { IfOk result (λ es. AreAt listed.new.table (spec.names_at (slice_get (map tree_read read.now) place) values.now) es) }
+    requires table { HasTable listed.old }
+    ensures { ListsAll listed.old listed.new (spec.names_at (slice_get (map tree_read read.now) place) values.now) result }
 {
     entries_of(alloc, listed, &read[place].tree, values)
 }
@@ -171,7 +163,7 @@ fn all_entries<'a>(
     requires placed { spec.ArePlaces shaders.now.of_use (length shaders.now.read) }
     requires bound { length bound.now ≡ length shaders.now.of_use }
     requires none { listed.old.table ≡ [] }
-    requires table { listed.old.table ≡ map (λ t. t.now) listed.old.names.items }
+    requires table { HasTable listed.old }
     ensures names { IfOk result (λ _. map (λ t. t.now) listed.new.names.items ≡ spec.texture_names (names_read shaders.now bound.now)) }
     ensures entries { IfOk result (λ ess. ess.items ≡ spec.entries_in (spec.texture_names (names_read shaders.now bound.now)) (names_read shaders.now bound.now)) }
 {
@@ -189,8 +181,7 @@ fn all_entries<'a>(
 // The texture of a file that isn't too long.
 fn of_bytes(alloc: Global, name: &Text, bytes: &[u8]) -> Result<Texture, Refusal>
     requires { length bytes.now ≤ 16777216 }
-    ensures gives { Gives as_it_is result (spec.image_of_held name.now (Some bytes.now)) }
-    ensures read { IsErrOf result ReadFault → ⊥ }
+    ensures { GivesAlone as_it_is result (spec.image_of_held name.now (Some bytes.now)) }
 {
     match read(alloc, bytes) {
         Ok(texture) => Ok(texture),
@@ -206,12 +197,8 @@ fn fetch_texture<L: Library>(
     library: &mut L,
     name: &Text,
 ) -> Result<Texture, Refusal>
-    ensures held { L.held library.new ≡ L.held library.old }
-    ensures asked { AsksFront (name.now ∷ []) (L.asked library.old) (L.asked library.new) }
-    ensures asked_all { OnOk result (AsksAll (name.now ∷ []) (L.asked library.old) (L.asked library.new)) }
+    ensures library { AsksFor L.held L.asked L.faults library.old library.new (name.now ∷ []) result (IsErrOf result ReadFault) }
     ensures gives { Told (L.held library.old) (λ files. Gives as_it_is result (spec.image_of_held name.now (held_as files name.now))) }
-    ensures later { L.faults library.old ≤ L.faults library.new }
-    ensures read { IsErrOf result ReadFault → Rose (L.faults library.old) (L.faults library.new) }
 {
     let mut bytes = Vec::new(alloc);
     match library.fetch(name.as_str(), MOST_BYTES, &mut bytes) {
@@ -228,11 +215,12 @@ fn fetch_texture<L: Library>(
 struct Fetched {
     textures: Vec<Texture>,
     bytes: u64,
+    ghost counted: { bytes ≡ spec.samples_of textures.items },
+    ghost few: { bytes ≤ 268435456 },
 }
 
 // Whether one texture more, whose samples have so many bytes, makes the textures neither too many nor too large.
 fn has_room(all: &Fetched, bytes: u64) -> bool
-    requires { all.now.bytes ≤ 268435456 }
     ensures { result ≡ (nat_lt (length all.now.textures.items) 64 && nat_le (all.now.bytes + bytes) 268435456) }
 {
     all.textures.len() < MOST_TEXTURES && bytes <= MOST_SAMPLES - all.bytes
@@ -245,12 +233,7 @@ fn put_behind(
     all: &mut Fetched,
     texture: Texture,
 ) -> Result<(), Refusal>
-    requires bytes { all.old.bytes ≡ spec.samples_of all.old.textures.items }
-    requires few { all.old.bytes ≤ 268435456 }
-    ensures gives { Gives (λ _. all.new.textures.items) result (spec.with_image name.now all.old.textures.items (Ok texture)) }
-    ensures bytes { OnOk result (all.new.bytes ≡ spec.samples_of all.new.textures.items) }
-    ensures few { OnOk result (all.new.bytes ≤ 268435456) }
-    ensures read { IsErrOf result ReadFault → ⊥ }
+    ensures { GivesAlone (λ _. all.new.textures.items) result (spec.with_image name.now all.old.textures.items (Ok texture)) }
 {
     let bytes = texture.sample_bytes();
     if !has_room(all, bytes) {
@@ -268,16 +251,8 @@ fn fetch_next<L: Library>(
     name: &Text,
     all: &mut Fetched,
 ) -> Result<(), Refusal>
-    requires bytes { all.old.bytes ≡ spec.samples_of all.old.textures.items }
-    requires few { all.old.bytes ≤ 268435456 }
-    ensures held { L.held library.new ≡ L.held library.old }
-    ensures asked { AsksFront (name.now ∷ []) (L.asked library.old) (L.asked library.new) }
-    ensures asked_all { OnOk result (AsksAll (name.now ∷ []) (L.asked library.old) (L.asked library.new)) }
+    ensures library { AsksFor L.held L.asked L.faults library.old library.new (name.now ∷ []) result (IsErrOf result ReadFault) }
     ensures gives { Told (L.held library.old) (λ files. Gives (λ _. all.new.textures.items) result (spec.image_behind files all.old.textures.items name.now)) }
-    ensures bytes { OnOk result (all.new.bytes ≡ spec.samples_of all.new.textures.items) }
-    ensures few { OnOk result (all.new.bytes ≤ 268435456) }
-    ensures later { L.faults library.old ≤ L.faults library.new }
-    ensures read { IsErrOf result ReadFault → Rose (L.faults library.old) (L.faults library.new) }
 {
     let texture = fetch_texture(alloc, library, name)?;
     put_behind(alloc, name, all, texture)
@@ -289,11 +264,8 @@ fn fetch_all<L: Library>(
     library: &mut L,
     names: &[&Text],
 ) -> Result<Vec<Texture>, Refusal>
-    ensures held { L.held library.new ≡ L.held library.old }
-    ensures asked { Told (L.held library.old) (λ files. AsksFront (spec.textures_asked files (map (λ t. t.now) names.now)) (L.asked library.old) (L.asked library.new)) }
+    ensures library { Consults L.held L.asked L.faults library.old library.new (λ files. spec.textures_asked files (map (λ t. t.now) names.now)) (IsErrOf result ReadFault) }
     ensures gives { Told (L.held library.old) (λ files. Gives (λ ts. ts.items) result (spec.images_of files (map (λ t. t.now) names.now))) }
-    ensures later { L.faults library.old ≤ L.faults library.new }
-    ensures read { IsErrOf result ReadFault → Rose (L.faults library.old) (L.faults library.new) }
 {
     let mut all = Fetched {
         textures: Vec::new(alloc),
@@ -314,12 +286,9 @@ pub(crate) fn fetch_used<L: Library>(
 ) -> Result<UsedTextures, Refusal>
     requires placed { spec.ArePlaces shaders.now.of_use (length shaders.now.read) }
     requires bound { length bound.now ≡ length shaders.now.of_use }
-    ensures held { L.held library.new ≡ L.held library.old }
-    ensures asked { Told (L.held library.old) (λ files. AsksFront (spec.textures_asked files (spec.texture_names (names_read shaders.now bound.now))) (L.asked library.old) (L.asked library.new)) }
+    ensures library { Consults L.held L.asked L.faults library.old library.new (λ files. spec.textures_asked files (spec.texture_names (names_read shaders.now bound.now))) (IsErrOf result ReadFault) }
     ensures gives { Told (L.held library.old) (λ files. Gives images_read result (spec.images_of files (spec.texture_names (names_read shaders.now bound.now)))) }
     ensures entries { IfOk result (λ t. t.look_ups ≡ spec.entries_in (spec.texture_names (names_read shaders.now bound.now)) (names_read shaders.now bound.now)) }
-    ensures later { L.faults library.old ≤ L.faults library.new }
-    ensures read { IsErrOf result ReadFault → Rose (L.faults library.old) (L.faults library.new) }
 {
     let mut listed = Listed {
         table: Names::new(alloc),

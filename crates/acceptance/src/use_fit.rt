@@ -1,12 +1,10 @@
 // How the parameters of shader requests fit their shaders.
-ghost use Rattle.std.specs.Prelude.{◌≡◌, IsErrOf, IfOk, All, map, slice_get, Some};
+ghost use Rattle.std.specs.Prelude.{◌≡◌, IfOk, All, map, slice_get, Some};
 ghost use Rattle.outside.specs.Library.{Files};
 ghost use Rattle.acceptance.specs.UseFit as spec;
-ghost use Rattle.shader_binding.specs.Sets.{FitsUse, FitUses};
 ghost use Rattle.acceptance.specs.Shaders.{shader_tree};
-ghost use Rattle.acceptance.specs.Reading.{IsReadOf, ArePlaced, declared_by, name_of, tree_read, values_at, all_values};
+ghost use Rattle.acceptance.specs.Reading.{IsReadOf, ArePlaced, BindsUse, BindsUses, declared_by, name_of, tree_read, values_at};
 ghost use Rattle.acceptance.specs.Answers.{Clears};
-ghost use Rattle.acceptance.specs.declared.refusal.Refusal.TheVariants.{ReadFault};
 
 use crate::read::ReadShader;
 use crate::shaders::UsedShaders;
@@ -41,9 +39,7 @@ fn bind_at(
     requires place { slice_get (map name_of shaders.now) place ≡ Some request.now.name }
     requires declared { declared.now ≡ map declared_by shaders.now }
     ensures clears { (files : Files) → All (IsReadOf files) shaders.now → Clears result (spec.use_refused request.now (shader_tree files request.now.name)) }
-    ensures values { IfOk result (λ vs. vs ≡ values_at shaders.now request.now place) }
-    ensures fits { IfOk result (λ vs. FitsUse request.now vs (slice_get (map tree_read shaders.now) place)) }
-    ensures read { IsErrOf result ReadFault → ⊥ }
+    ensures binds { BindsUse request.now (slice_get (map tree_read shaders.now) place) (values_at shaders.now request.now place) result }
 {
     let shader = &shaders[place];
     bind(alloc, &shader.tree, &declared[place], request)
@@ -57,9 +53,7 @@ pub(crate) fn bind_all(
 ) -> Result<Vec<List<Value>>, Refusal>
     requires { ArePlaced uses.now shaders.now }
     ensures clears { (files : Files) → All (IsReadOf files) shaders.now.read → Clears result (spec.uses_refused files uses.now) }
-    ensures values { IfOk result (λ vss. vss.items ≡ all_values shaders.now.read uses.now shaders.now.of_use) }
-    ensures fit { IfOk result (λ vss. FitUses (map tree_read shaders.now.read) uses.now shaders.now.of_use vss.items) }
-    ensures read { IsErrOf result ReadFault → ⊥ }
+    ensures binds { BindsUses uses.now shaders.now result }
 {
     let read = shaders.read.as_slice();
     let of_use = shaders.of_use.as_slice();

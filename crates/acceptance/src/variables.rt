@@ -1,13 +1,12 @@
 // How the variables of primitives fit the parameters of their shaders.
-ghost use Rattle.std.specs.Prelude.{◌≡◌, ◌&&◌, not, false, IsErrOf, map, option_map, slice_get};
+ghost use Rattle.std.specs.Prelude.{◌≡◌, ◌&&◌, not, false, map, option_map, slice_get};
 ghost use Rattle.std.specs.List.{list_any};
 ghost use Rattle.shader_binding.specs.Predefined.{sets_predefined as sets_of};
 ghost use Rattle.sl_ast.specs.TypedView.{local_of};
 ghost use Rattle.sl_look_ups.specs.Naming.{binding_params};
 ghost use Rattle.acceptance.specs.PrimFit as spec;
 ghost use Rattle.acceptance.specs.Reading.{tree_read, declared_by};
-ghost use Rattle.acceptance.specs.Answers.{Clears};
-ghost use Rattle.acceptance.specs.declared.refusal.Refusal.TheVariants.{ReadFault};
+ghost use Rattle.acceptance.specs.Answers.{ClearsAlone};
 
 use crate::read::ReadShader;
 use crate::shaders::UsedShaders;
@@ -172,8 +171,7 @@ fn is_unfit_prim(shaders: &UsedShaders, declared: &[Names<'_>], prim: &Prim) -> 
 // Refuses the first primitive of a frame whose variables don't fit its shaders.
 fn check_frame(shaders: &UsedShaders, declared: &[Names<'_>], frame: &Frame) -> Result<(), Refusal>
     requires { declared.now ≡ map declared_by shaders.now.read }
-    ensures clears { Clears result (spec.frame_refused (map tree_read shaders.now.read) shaders.now.of_use frame.now) }
-    ensures read { IsErrOf result ReadFault → ⊥ }
+    ensures { ClearsAlone result (spec.frame_refused (map tree_read shaders.now.read) shaders.now.of_use frame.now) }
 {
     let prims = frame.prims.as_slice();
     for prim in prims {
@@ -190,8 +188,7 @@ pub(crate) fn check_variables(
     shaders: &UsedShaders,
     scene: &Scene,
 ) -> Result<(), Refusal>
-    ensures clears { Clears result (spec.frames_refused (map tree_read shaders.now.read) shaders.now.of_use scene.now.frames) }
-    ensures read { IsErrOf result ReadFault → ⊥ }
+    ensures { ClearsAlone result (spec.frames_refused (map tree_read shaders.now.read) shaders.now.of_use scene.now.frames) }
 {
     let declared = all_declared(alloc, shaders.read.as_slice())?;
     let frames = scene.frames.as_slice();

@@ -22,12 +22,11 @@ loop-look_up-preserved c =
           c.loop-look_up-test.true c.look_up-item.is grown at c.in_ok-push.ensures.items c.loop-look_up.invariant.entries;
     }
 
-pub returns-clause-names : goal.returns-clause-names
-returns-clause-names c =
-    found_done (λ f. name_with c.args.values.now (tree_expr f.name.now)) c.args.found.now c.loop-look_up.look_up-index c.loop-look_up.listed.table _
-    (omega (arith, c.loop-look_up-test.false)) c.loop-look_up.invariant.names
-
-pub returns-clause-entries : goal.returns-clause-entries
-returns-clause-entries c =
-    subst (λ l. AreAt c.loop-look_up.listed.table (map (λ f. name_with c.args.values.now (tree_expr f.name.now)) l) c.loop-look_up.entries.items)
-    (take_all c.loop-look_up.look_up-index c.args.found.now (omega (arith, c.loop-look_up-test.false))) c.loop-look_up.invariant.entries
+pub returns : goal.returns
+returns c = record {
+  table = c.loop-look_up.invariant.table;
+  names = found_done (λ f. name_with c.args.values.now (tree_expr f.name.now)) c.args.found.now c.loop-look_up.look_up-index c.loop-look_up.listed.table _
+      (omega (arith, c.loop-look_up-test.false)) c.loop-look_up.invariant.names;
+  entries = subst (λ l. AreAt c.loop-look_up.listed.table (map (λ f. name_with c.args.values.now (tree_expr f.name.now)) l) c.loop-look_up.entries.items)
+      (take_all c.loop-look_up.look_up-index c.args.found.now (omega (arith, c.loop-look_up-test.false))) c.loop-look_up.invariant.entries;
+}

@@ -1,9 +1,14 @@
-use Rattle.std.proofs.Common.{◌+◌, ◌∙◌, ap, sym}
+use Rattle.std.proofs.Common.{◌+◌, ◌∙◌, ap, sym, arith}
+use Rattle.std.proofs.lemmas.Grind.{common_steps}
 use Rattle.acceptance.specs.Textures.{samples_of}
-use Rattle.acceptance.proofs.Images.{samples_behind}
+use Rattle.acceptance.proofs.Images.{samples_behind, still_few}
 use Rattle.acceptance.proofs.textures.put_behind.Goals as goal
 
-pub returns-clause-bytes : goal.returns-clause-bytes
-returns-clause-bytes c =
-    ap (λ n. n + c.sample_bytes-bytes.result) c.requires.bytes ∙ ap (λ n. samples_of c.args.all.now.textures.items + n) c.sample_bytes-bytes.ensures
-    ∙ sym (samples_behind c.args.all.now.textures.items c.args.texture) ∙ ap samples_of (sym c.in_ok-push.ensures.items)
+pub invariant_of-all-2 : goal.invariant_of-all-2
+invariant_of-all-2 c =
+    let all = c.args.all.now in
+    record {
+      counted = ap (λ n. n + c.sample_bytes-bytes.result) all.counted ∙ ap (λ n. samples_of all.textures.items + n) c.sample_bytes-bytes.ensures
+          ∙ sym (samples_behind all.textures.items c.args.texture) ∙ ap samples_of (sym c.in_ok-push.ensures.items);
+      few = still_few all.textures.items all.bytes c.sample_bytes-bytes.result (sym c.has_room.ensures ∙ c.if-not-has_room.false);
+    }

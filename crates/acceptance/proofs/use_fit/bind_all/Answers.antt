@@ -1,4 +1,4 @@
-use Rattle.std.proofs.Common.{◌≡◌, ℕ, List, length, map, get_or, ap, ◌∙◌, sym, subst, Err, All, arith}
+use Rattle.std.proofs.Common.{◌≡◌, ℕ, List, length, map, get_or, ap, ◌∙◌, sym, subst, Err, All, arith, rules}
 use Rattle.std.proofs.lemmas.Result.{err_from_is_err_and}
 use Rattle.acceptance.specs.UseFit.{uses_refused}
 use Rattle.std.specs.Prelude.{slice_get}
@@ -30,8 +30,8 @@ loop-index-preserved c =
     let u = c.index-uses-index.result in
     let n : ℕ = get_or c.as_slice-of_use.result.now c.loop-index.index 0 in
     let at : n ≡ get_or c.args.shaders.now.of_use c.loop-index.index 0 = ap (λ (ps : List ℕ). get_or ps c.loop-index.index 0) c.as_slice-of_use.ensures in
-    let here = c.in_ok-bound.ensures.values ∙ ap (λ (rs : List ReadShader). values_at rs u n) c.as_slice-read.ensures in
-    let fits = subst (λ (rs : List ReadShader). FitsUse u c.in_ok-bound.bound (slice_get (map tree_read rs) n)) c.as_slice-read.ensures c.in_ok-bound.ensures.fits in
+    let here = c.in_ok-bound.ensures.binds.values ∙ ap (λ (rs : List ReadShader). values_at rs u n) c.as_slice-read.ensures in
+    let fits = subst (λ (rs : List ReadShader). FitsUse u c.in_ok-bound.bound (slice_get (map tree_read rs) n)) c.as_slice-read.ensures c.in_ok-bound.ensures.binds.fits in
     record {
       so_far = λ files all.
           bound_next files c.args.uses.now c.loop-index.index u (uses_refused files c.args.uses.now) c.loop-index-test.true c.index-uses-index.is
@@ -42,12 +42,11 @@ loop-index-preserved c =
           many c.loop-index-test.true c.index-uses-index.is at c.loop-index.invariant.fit fits c.in_ok-push.ensures.items;
     }
 
-pub returns-clause-values : goal.returns-clause-values
-returns-clause-values c =
+pub returns-clause-binds : goal.returns-clause-binds
+returns-clause-binds c =
     let many = as_many (map name_of c.args.shaders.now.read) c.args.shaders.now.of_use c.args.uses.now c.requires in
-    all_done c.args.shaders.now.read c.args.uses.now c.args.shaders.now.of_use c.loop-index.index _ many (omega (arith, c.loop-index-test.false)) c.loop-index.invariant.values
-
-pub returns-clause-fit : goal.returns-clause-fit
-returns-clause-fit c =
-    let many = as_many (map name_of c.args.shaders.now.read) c.args.shaders.now.of_use c.args.uses.now c.requires in
-    fit_done (map tree_read c.args.shaders.now.read) c.args.uses.now c.args.shaders.now.of_use c.loop-index.index _ many (omega (arith, c.loop-index-test.false)) c.loop-index.invariant.fit
+    record {
+      values = all_done c.args.shaders.now.read c.args.uses.now c.args.shaders.now.of_use c.loop-index.index _ many (omega (arith, c.loop-index-test.false)) c.loop-index.invariant.values;
+      fit = fit_done (map tree_read c.args.shaders.now.read) c.args.uses.now c.args.shaders.now.of_use c.loop-index.index _ many (omega (arith, c.loop-index-test.false)) c.loop-index.invariant.fit;
+      alone = search rules;
+    }

@@ -16,18 +16,16 @@ pub returns-clause-clears : goal.returns-clause-clears
 returns-clause-clears c = λ files all.
     bound_by files c.args.shaders.now c.args.place c.index-shaders-place.result c.args.request.now c.bind.result c.requires.place c.index-shaders-place.is all c.bind.ensures.clears
 
-pub returns-clause-values : goal.returns-clause-values
-returns-clause-values c =
+pub returns-clause-binds : goal.returns-clause-binds
+returns-clause-binds c =
     let read = c.args.shaders.now in
     let s = c.index-shaders-place.result in
-    let low = within read c.args.place c.args.request.now.name c.requires.place in
-    IfOk-weaker c.bind.result (λ vs. vs ≡ bound_values (tree_read s) c.args.request.now) (λ vs. vs ≡ values_at read c.args.request.now c.args.place)
-    (λ vs here. at_place read c.args.request.now c.args.place s vs low c.index-shaders-place.is here) c.bind.ensures.values
-
-pub returns-clause-fits : goal.returns-clause-fits
-returns-clause-fits c =
-    let read = c.args.shaders.now in
-    let s = c.index-shaders-place.result in
-    let low = within read c.args.place c.args.request.now.name c.requires.place in
-    IfOk-weaker c.bind.result (λ vs. FitsUse c.args.request.now vs (Some (tree_read s))) (λ vs. FitsUse c.args.request.now vs (slice_get (map tree_read read) c.args.place))
-    (λ vs here. fit_place read c.args.request.now c.args.place s vs low c.index-shaders-place.is here) c.bind.ensures.fits
+    let u = c.args.request.now in
+    let low = within read c.args.place u.name c.requires.place in
+    record {
+      values = IfOk-weaker c.bind.result (λ vs. vs ≡ bound_values (tree_read s) u) (λ vs. vs ≡ values_at read u c.args.place)
+          (λ vs here. at_place read u c.args.place s vs low c.index-shaders-place.is here) c.bind.ensures.binds.values;
+      fits = IfOk-weaker c.bind.result (λ vs. FitsUse u vs (Some (tree_read s))) (λ vs. FitsUse u vs (slice_get (map tree_read read) c.args.place))
+          (λ vs here. fit_place read u c.args.place s vs low c.index-shaders-place.is here) c.bind.ensures.binds.fits;
+      alone = c.bind.ensures.binds.alone;
+    }
