@@ -77,3 +77,8 @@ pub added_as : {T E : Type 0} (r : Result T E) (F : FrameValue → Picture) (fra
     → OnOk r ((g : FrameValue) → slice_get frames i ≡ Some g → Adds (whole (F g) ∷ []) x y) → OnOk r (Adds (whole p ∷ []) x y)
 added_as (Ok u) F frames i f p x y there same h = subst (λ e. Adds (whole e ∷ []) x y) same (h f there)
 added_as (Err e) F frames i f p x y there same h = tt
+
+pub in_part_as : {T E : Type 0} (r : Result T E) (F : FrameValue → Picture) (frames : List FrameValue) (i : ℕ) (f : FrameValue) (p : Picture) (x y : Option (List Written)) → slice_get frames i ≡ Some f → F f ≡ p
+    → OnErr r ((g : FrameValue) → slice_get frames i ≡ Some g → AddsPart (F g) x y) → OnErr r (AddsPart p x y)
+in_part_as (Ok u) F frames i f p x y there same h = tt
+in_part_as (Err e) F frames i f p x y there same h = subst (λ q. AddsPart q x y) same (h f there)

@@ -1,5 +1,5 @@
 -- What the code's answers say of the verdict and the sink.
-use Rattle.std.specs.Prelude.{◌≡◌, ◌≢◌, ◌+◌, ◌⊎◌, ℕ, List, [], ◌∷◌, length, codes, Option, Some, None, option_map, String, string_bytes, Vec, true, Result, Ok, Err}
+use Rattle.std.specs.Prelude.{◌≡◌, ◌≢◌, ◌+◌, ◌⊎◌, ℕ, List, [], ◌∷◌, length, codes, Option, Some, None, option_map, String, string_bytes, Vec, true, Result, Ok, Err, IfErr}
 use Rattle.std.specs.declared.alloc.Global.{Global}
 use Rattle.fixed_math.specs.declared.memory.NoMemory.{NoMemory as NoMemoryError}
 use Rattle.outside.specs.Causes.{Told}
@@ -154,6 +154,9 @@ pub record LeavesFrame (fault : DrawFault) (p : Picture) (old new : Option (List
   pub ends : Ends ended (p ∷ []) old new
   pub behind : (ended ≡ 0) ⊎ ((fault ≡ drawing.NoMemory) × (ended ≡ 1))
 
+abbrev pub LeavesBy : {T : Type 0} → Result T DrawFault → Picture → Option (List Written) → Option (List Written) → Type 0
+LeavesBy result p old new = IfErr result (λ e. LeavesFrame e p old new)
+
 -- some first ones of these pictures were added, and nothing or a part of the next
 pub record EndsSome (pictures : List Picture) (old new : Option (List Written)) : Type 0 where
   pub ended : ℕ
@@ -165,3 +168,6 @@ pub record DrawsInPart (o : RunOptions) (a : AcceptedValue) (fault : DrawFault) 
   pub told : ℕ
   pub draws : Draws o a ended told old new lines lines_then faults faults_then
   pub behind : (told ≡ ended) ⊎ ((fault ≡ drawing.NoMemory) × (told + 1 ≡ ended))
+
+abbrev pub DrawsBy : {T : Type 0} → RunOptions → AcceptedValue → Result T DrawFault → Option (List Written) → Option (List Written) → Option (List (List ℕ)) → Option (List (List ℕ)) → ℕ → ℕ → Type 0
+DrawsBy o a result old new lines lines_then faults faults_then = IfErr result (λ e. DrawsInPart o a e old new lines lines_then faults faults_then)

@@ -9,3 +9,4 @@ pub mod Lines
 pub mod Course
 pub mod Answers
 pub mod Coded
+pub mod Steps

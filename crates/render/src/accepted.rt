@@ -1,11 +1,10 @@
 // The accepted scene of a text, with the code of its shaders.
 ghost use Rattle.std.specs.Prelude.{◌≡◌, ◌≤◌, IsErrOf, IfOk, length, map};
-ghost use Rattle.outside.specs.Causes.{Rose, Told};
-ghost use Rattle.outside.specs.Asked.{AsksFront};
-ghost use Rattle.shader_binding.specs.Sets.{Fits};
+ghost use Rattle.outside.specs.Causes.{Told};
+ghost use Rattle.outside.specs.Steps.{Consults};
 ghost use Rattle.acceptance.specs.Accepting.{scene_of_text, accepted, asked_for_scene};
 ghost use Rattle.acceptance.specs.Answers.{Gives};
-ghost use Rattle.acceptance.specs.PrimFit.{FitPrims};
+ghost use Rattle.acceptance.specs.PrimFit.{FitsScene};
 ghost use Rattle.acceptance.specs.Reading.{tree_read};
 ghost use Rattle.acceptance.specs.declared.refusal.Refusal.TheVariants.{ReadFault};
 ghost use Rattle.displace_shade.specs.Shop.{set_value};
@@ -76,14 +75,9 @@ fn set_of(
 /// first use. The set of shaders fits the scene, which has at most 1,000 frames, and so do the variables fit it.
 pub fn accept<L: Library>(alloc: Global, text: &[u8], library: &mut L) -> Result<Accepted, Refusal>
     requires { length text.now ≤ 16777216 }
-    ensures held { L.held library.new ≡ L.held library.old }
-    ensures asked { Told (L.held library.old) (λ files. AsksFront (asked_for_scene files (scene_of_text text.now)) (L.asked library.old) (L.asked library.new)) }
+    ensures library { Consults L.held L.asked L.faults library.old library.new (λ files. asked_for_scene files (scene_of_text text.now)) (IsErrOf result ReadFault) }
     ensures gives { Told (L.held library.old) (λ files. Gives accepted_in result (accepted files text.now)) }
-    ensures fits { IfOk result (λ a. Fits (set_value a.set a.textures) a.scene.uses) }
-    ensures variables { IfOk result (λ a. FitPrims (set_value a.set a.textures) a.scene.uses a.scene.frames) }
-    ensures few { IfOk result (λ a. length a.scene.frames ≤ 1000) }
-    ensures later { L.faults library.old ≤ L.faults library.new }
-    ensures read { IsErrOf result ReadFault → Rose (L.faults library.old) (L.faults library.new) }
+    ensures fits { IfOk result (λ a. FitsScene (set_value a.set a.textures) a.scene) }
 {
     let read = acceptance::accept(alloc, text, library)?;
     let UsedTextures {

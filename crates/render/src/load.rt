@@ -1,11 +1,10 @@
 // The scene of a command, from a library.
-ghost use Rattle.std.specs.Prelude.{◌≡◌, ◌≤◌, ◌∷◌, [], IsErrOf, OnOk, IfOk, IfSome, Some, length};
-ghost use Rattle.outside.specs.Causes.{Rose, Told};
-ghost use Rattle.outside.specs.Library.{Files, held_as};
-ghost use Rattle.outside.specs.Asked.{AsksAll, AsksFront};
+ghost use Rattle.std.specs.Prelude.{◌≤◌, ◌∷◌, [], IsErrOf, IfOk, IfSome, Some, length};
+ghost use Rattle.outside.specs.Causes.{Told};
+ghost use Rattle.outside.specs.Library.{held_as};
+ghost use Rattle.outside.specs.Steps.{AsksFor, Consults};
 ghost use Rattle.render.specs.Verdict.{text_of_held, text_of_source, names_of_source, verdict_of_scene, asked_for_command};
-ghost use Rattle.shader_binding.specs.Sets.{Fits};
-ghost use Rattle.acceptance.specs.PrimFit.{FitPrims};
+ghost use Rattle.acceptance.specs.PrimFit.{FitsScene};
 ghost use Rattle.displace_shade.specs.Shop.{set_value};
 ghost use Rattle.command_line.specs.Command.{source_view, scene_view, OnScene};
 ghost use Rattle.render.specs.Notes.{scene_name};
@@ -29,12 +28,8 @@ fn fetch_text<L: Library>(
     name: &str,
 ) -> Result<Option<Vec<u8>>, Refusal>
     ensures size { IfOk result (λ t. IfSome t (λ text. length text.items ≤ 16777216)) }
-    ensures held { L.held library.new ≡ L.held library.old }
-    ensures asked { AsksFront (name.now ∷ []) (L.asked library.old) (L.asked library.new) }
-    ensures asked_all { OnOk result (AsksAll (name.now ∷ []) (L.asked library.old) (L.asked library.new)) }
+    ensures library { AsksFor L.held L.asked L.faults library.old library.new (name.now ∷ []) result (IsErrOf result ReadFault) }
     ensures gives { Told (L.held library.old) (λ files. GivesText name.now result (text_of_held name.now (held_as files name.now))) }
-    ensures later { L.faults library.old ≤ L.faults library.new }
-    ensures read { IsErrOf result ReadFault → Rose (L.faults library.old) (L.faults library.new) }
 {
     let mut bytes = Vec::new(alloc);
     match library.fetch(name, MOST_BYTES, &mut bytes) {
@@ -53,12 +48,8 @@ fn scene_text<L: Library>(
     source: &Source<'_>,
 ) -> Result<Option<Vec<u8>>, Refusal>
     ensures size { IfOk result (λ t. IfSome t (λ text. length text.items ≤ 16777216)) }
-    ensures held { L.held library.new ≡ L.held library.old }
-    ensures asked { AsksFront (names_of_source (source_view source.now)) (L.asked library.old) (L.asked library.new) }
-    ensures asked_all { OnOk result (AsksAll (names_of_source (source_view source.now)) (L.asked library.old) (L.asked library.new)) }
+    ensures library { AsksFor L.held L.asked L.faults library.old library.new (names_of_source (source_view source.now)) result (IsErrOf result ReadFault) }
     ensures gives { Told (L.held library.old) (λ files. GivesText (scene_name (source_view source.now)) result (text_of_source files (source_view source.now))) }
-    ensures later { L.faults library.old ≤ L.faults library.new }
-    ensures read { IsErrOf result ReadFault → Rose (L.faults library.old) (L.faults library.new) }
 {
     match source {
         Source::File(name) => fetch_text(alloc, library, name),
@@ -79,14 +70,9 @@ pub(crate) fn load<L: Library>(
     library: &mut L,
     command: &SceneCommand<'_>,
 ) -> Result<Option<Loaded>, Refusal>
-    ensures held { L.held library.new ≡ L.held library.old }
-    ensures asked { Told (L.held library.old) (λ files. AsksFront (asked_for_command (Some (OnScene (scene_view command.now))) files) (L.asked library.old) (L.asked library.new)) }
+    ensures library { Consults L.held L.asked L.faults library.old library.new (asked_for_command (Some (OnScene (scene_view command.now)))) (IsErrOf result ReadFault) }
     ensures loads { Told (L.held library.old) (λ files. LoadsNamed (scene_name (source_view command.now.source)) (scene_view command.now) result (verdict_of_scene (scene_view command.now) files)) }
-    ensures fits { IfOk result (λ o. IfSome o (λ l. Fits (set_value l.accepted.set l.accepted.textures) l.accepted.scene.uses)) }
-    ensures variables { IfOk result (λ o. IfSome o (λ l. FitPrims (set_value l.accepted.set l.accepted.textures) l.accepted.scene.uses l.accepted.scene.frames)) }
-    ensures few { IfOk result (λ o. IfSome o (λ l. length l.accepted.scene.frames ≤ 1000)) }
-    ensures later { L.faults library.old ≤ L.faults library.new }
-    ensures read { IsErrOf result ReadFault → Rose (L.faults library.old) (L.faults library.new) }
+    ensures fits { IfOk result (λ o. IfSome o (λ l. FitsScene (set_value l.accepted.set l.accepted.textures) l.accepted.scene)) }
 {
     match scene_text(alloc, library, &command.source)? {
         None => Ok(None),

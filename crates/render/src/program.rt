@@ -1,18 +1,19 @@
 // The whole program, as one call.
-ghost use Rattle.std.specs.Prelude.{◌≡◌, ◌≢◌, ◌≤◌, ◌⊎◌, ◌++◌, codes, ℕ, List, Option, true, false, Some, IfOk, OnOk, OnErr, option_map, string_bytes};
+ghost use Rattle.std.specs.Prelude.{◌≡◌, ◌≢◌, ◌≤◌, ◌⊎◌, ◌++◌, codes, ℕ, List, Option, true, false, Some, IfOk, OnErr, option_map, string_bytes};
 ghost use Rattle.outside.specs.Causes.{Rose, Told};
-ghost use Rattle.outside.specs.Asked.{AsksFront};
+ghost use Rattle.outside.specs.Steps.{Consults};
 ghost use Rattle.command_line.specs.Ranges.{IsInRange};
 ghost use Rattle.command_line.specs.Texts.{texts};
 ghost use Rattle.render.specs.Run.{IsUsage, draws, draws_action, draws_command, IsAccepted, HasStatus, AnswersVerdict, IsRefused, AddsFrames, AddsFirstFrames, AsksFirstNames};
 ghost use Rattle.command_line.specs.Command.{OnScene, Join, command_of, command_view, scene_view};
-ghost use Rattle.render.specs.Verdict.{asked_for_command};
+ghost use Rattle.render.specs.Verdict.{asked_for_command, asked_of};
 ghost use Rattle.outside.specs.NoteLines.{Says};
 ghost use Rattle.render.specs.Notes.{name_in_notes, fault_line, join_note};
-ghost use Rattle.render.specs.Answers.{ComesBefore, Obeys, ObeysTask, IsFaultAt, number_of, answer_lines, lines_in, note_lines};
+ghost use Rattle.render.specs.Answers.{Obeys, ObeysTask, answer_lines, lines_in, note_lines};
 ghost use Rattle.render.specs.Lines.{scene_of};
 ghost use Rattle.render.specs.Course.{Course};
-ghost use Rattle.render.specs.declared.program.Answer.TheVariants.{Done, Usage, Refused, WriteFault, NoMemory as OutOfMemory};
+ghost use Rattle.render.specs.Steps.{IsStatusOf, Leaves};
+ghost use Rattle.render.specs.declared.program.Answer.TheVariants.{Done, Usage, Refused, NoMemory as OutOfMemory};
 ghost use Rattle.acceptance.specs.declared.refusal.Refusal.TheVariants.{ReadFault};
 
 use crate::load::{Loaded, load};
@@ -52,17 +53,8 @@ fn obeyed<L: Library, O: FrameSink, N: Notes>(
     requires closed { O.is_open frames.old ≡ false }
     requires ranges { IsInRange (OnScene (scene_view command.now)) }
     ensures command { result ≢ Usage }
-    ensures before { ComesBefore result → O.written frames.new ≡ O.written frames.old }
-    ensures closed { result ≢ WriteFault → result ≢ OutOfMemory → O.is_open frames.new ≡ false }
-    ensures unwritten { draws_action command.now.action ≡ false → O.written frames.new ≡ O.written frames.old }
-    ensures unopened { draws_action command.now.action ≡ false → O.is_open frames.new ≡ false }
-    ensures drawn { result ≡ WriteFault → draws_action command.now.action ≡ true }
-    ensures held { L.held library.new ≡ L.held library.old }
-    ensures asked { Told (L.held library.old) (λ files. AsksFront (asked_for_command (Some (OnScene (scene_view command.now))) files) (L.asked library.old) (L.asked library.new)) }
-    ensures library_later { L.faults library.old ≤ L.faults library.new }
-    ensures sink_later { O.faults frames.old ≤ O.faults frames.new }
-    ensures read { result ≡ Refused ReadFault → Rose (L.faults library.old) (L.faults library.new) }
-    ensures write { result ≡ WriteFault → Rose (O.faults frames.old) (O.faults frames.new) }
+    ensures library { Consults L.held L.asked L.faults library.old library.new (asked_for_command (Some (OnScene (scene_view command.now)))) (result ≡ Refused ReadFault) }
+    ensures sink { Leaves O.written O.is_open O.faults frames.old frames.new (draws_action command.now.action) result }
     ensures course { ObeysTask (scene_view command.now) (L.held library.old) result (O.written frames.old) (O.written frames.new) (N.lines notes.old) (N.lines notes.new) (N.faults notes.old) (N.faults notes.new) }
 {
     let loaded = match load(alloc, library, command) {
@@ -101,14 +93,8 @@ fn joined<L: Library, O: FrameSink>(
     requires closed { O.is_open frames.old ≡ false }
     requires ranges { IsInRange (Join command.name.now command.count) }
     ensures command { result ≢ Usage }
-    ensures before { ComesBefore result → O.written frames.new ≡ O.written frames.old }
-    ensures closed { result ≢ WriteFault → result ≢ OutOfMemory → O.is_open frames.new ≡ false }
-    ensures held { L.held library.new ≡ L.held library.old }
-    ensures asked { Told (L.held library.old) (λ files. AsksFront (asked_for_command (Some (Join command.entry.name.now command.entry.count)) files) (L.asked library.old) (L.asked library.new)) }
-    ensures library_later { L.faults library.old ≤ L.faults library.new }
-    ensures sink_later { O.faults frames.old ≤ O.faults frames.new }
-    ensures read { result ≡ Refused ReadFault → Rose (L.faults library.old) (L.faults library.new) }
-    ensures write { result ≡ WriteFault → Rose (O.faults frames.old) (O.faults frames.new) }
+    ensures library { Consults L.held L.asked L.faults library.old library.new (asked_for_command (Some (Join command.entry.name.now command.entry.count))) (result ≡ Refused ReadFault) }
+    ensures sink { Leaves O.written O.is_open O.faults frames.old frames.new true result }
     ensures course { (lines : Option (List (List ℕ))) (n : ℕ) → Obeys (Some (Join command.entry.name.now command.entry.count)) (L.held library.old) result (O.written frames.old) (O.written frames.new) lines lines n n }
 {
     match joined_parts(alloc, library, command.name, command.count) {
@@ -146,17 +132,8 @@ fn carried_out<L: Library, O: FrameSink, N: Notes>(
     requires closed { O.is_open frames.old ≡ false }
     requires ranges { IsInRange (command_view command.now) }
     ensures command { result ≢ Usage }
-    ensures before { ComesBefore result → O.written frames.new ≡ O.written frames.old }
-    ensures closed { result ≢ WriteFault → result ≢ OutOfMemory → O.is_open frames.new ≡ false }
-    ensures unwritten { draws_command (Some (command_view command.now)) ≡ false → O.written frames.new ≡ O.written frames.old }
-    ensures unopened { draws_command (Some (command_view command.now)) ≡ false → O.is_open frames.new ≡ false }
-    ensures drawn { result ≡ WriteFault → draws_command (Some (command_view command.now)) ≡ true }
-    ensures held { L.held library.new ≡ L.held library.old }
-    ensures asked { Told (L.held library.old) (λ files. AsksFront (asked_for_command (Some (command_view command.now)) files) (L.asked library.old) (L.asked library.new)) }
-    ensures library_later { L.faults library.old ≤ L.faults library.new }
-    ensures sink_later { O.faults frames.old ≤ O.faults frames.new }
-    ensures read { result ≡ Refused ReadFault → Rose (L.faults library.old) (L.faults library.new) }
-    ensures write { result ≡ WriteFault → Rose (O.faults frames.old) (O.faults frames.new) }
+    ensures library { Consults L.held L.asked L.faults library.old library.new (asked_for_command (Some (command_view command.now))) (result ≡ Refused ReadFault) }
+    ensures sink { Leaves O.written O.is_open O.faults frames.old frames.new (draws_command (Some (command_view command.now))) result }
     ensures course { Obeys (Some (command_view command.now)) (L.held library.old) result (O.written frames.old) (O.written frames.new) (N.lines notes.old) (N.lines notes.new) (N.faults notes.old) (N.faults notes.new) }
 {
     match command {
@@ -176,17 +153,8 @@ fn answered<'a, L: Library, O: FrameSink, N: Notes>(
     requires { O.is_open frames.old ≡ false }
     ensures usage { result.0 ≡ Usage → IsUsage (texts words.now) }
     ensures usage_known { IsUsage (texts words.now) → (result.0 ≡ Usage) ⊎ (result.0 ≡ OutOfMemory) }
-    ensures before { ComesBefore result.0 → O.written frames.new ≡ O.written frames.old }
-    ensures closed { result.0 ≢ WriteFault → result.0 ≢ OutOfMemory → O.is_open frames.new ≡ false }
-    ensures unwritten { draws (texts words.now) ≡ false → O.written frames.new ≡ O.written frames.old }
-    ensures unopened { draws (texts words.now) ≡ false → O.is_open frames.new ≡ false }
-    ensures drawn { result.0 ≡ WriteFault → draws (texts words.now) ≡ true }
-    ensures held { L.held library.new ≡ L.held library.old }
-    ensures asked { Told (L.held library.old) (λ files. AsksFirstNames (texts words.now) files (L.asked library.old) (L.asked library.new)) }
-    ensures library_later { L.faults library.old ≤ L.faults library.new }
-    ensures sink_later { O.faults frames.old ≤ O.faults frames.new }
-    ensures read { result.0 ≡ Refused ReadFault → Rose (L.faults library.old) (L.faults library.new) }
-    ensures write { result.0 ≡ WriteFault → Rose (O.faults frames.old) (O.faults frames.new) }
+    ensures library { Consults L.held L.asked L.faults library.old library.new (asked_of (texts words.now)) (result.0 ≡ Refused ReadFault) }
+    ensures sink { Leaves O.written O.is_open O.faults frames.old frames.new (draws (texts words.now)) result.0 }
     ensures named { result.0 ≢ OutOfMemory → result.1.now ≡ scene_of (command_of (texts words.now)) }
     ensures course { Obeys (command_of (texts words.now)) (L.held library.old) result.0 (O.written frames.old) (O.written frames.new) (N.lines notes.old) (N.lines notes.new) (N.faults notes.old) (N.faults notes.new) }
 {
@@ -295,11 +263,7 @@ fn tell<N: Notes>(notes: &mut N, note: &Result<Option<String>, NoMemory>)
 
 // The status of an answer whose note is this.
 fn status(answer: &Answer, note: &Result<Option<String>, NoMemory>) -> u8
-    ensures number { (result ≡ number_of answer.now) ⊎ (result ≡ 9) }
-    ensures told { OnOk note.now (result ≡ number_of answer.now) }
-    ensures untold { OnErr note.now (result ≡ 9) }
-    ensures fault { IsFaultAt answer.now → OnOk note.now ((3 ≤ result) × (result ≤ 5)) }
-    ensures answers { (result ≡ 0) ⊎ ((2 ≤ result) × (result ≤ 9)) }
+    ensures { IsStatusOf answer.now note.now result }
 {
     match answer {
         _ if note.is_err() => 9,

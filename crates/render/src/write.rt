@@ -1,22 +1,19 @@
 // Frames to a sink.
-ghost use Rattle.std.specs.Prelude.{◌≡◌, ◌≤◌, ◌+◌, ◌^◌, ◌∷◌, [], Some, false, All, length, map, option_map, string_bytes, slice_get, IfOk, IfErr, OnOk, OnErr, IsErrOf};
-ghost use Rattle.outside.specs.Causes.{Rose};
-ghost use Rattle.outside.specs.Frames.{Adds, AddsPart, whole};
+ghost use Rattle.std.specs.Prelude.{◌≡◌, ◌≤◌, ◌+◌, ◌^◌, ◌∷◌, [], Some, false, length, map, option_map, string_bytes, slice_get, IfOk, OnOk, IsErrOf};
+ghost use Rattle.outside.specs.Frames.{Adds, whole};
 ghost use Rattle.outside.specs.NoteLines.{Says};
-ghost use Rattle.shader_binding.specs.Sets.{Fits};
-ghost use Rattle.shader_binding.specs.Bindings.{FitsPrim};
+ghost use Rattle.outside.specs.Steps.{Writes, WritesPicture};
 ghost use Rattle.displace_shade.specs.Shop.{set_value, shop_set};
-ghost use Rattle.acceptance.specs.PrimFit.{FitPrims};
-ghost use Rattle.buckets.specs.TileWalk.{tile_walk};
-ghost use Rattle.buckets.specs.Progress.{drawing_of};
+ghost use Rattle.acceptance.specs.PrimFit.{FitsScene};
 ghost use Rattle.buckets.specs.Shopped.{shaded_by};
 ghost use Rattle.buckets.specs.declared.limits.DrawFault.TheVariants.{WriteFault};
 ghost use Rattle.command_line.specs.Ranges.{LieInRanges};
 ghost use Rattle.buckets.specs.Pictures.{picture_of};
 ghost use Rattle.render.specs.Pictures.{frames_of};
-ghost use Rattle.render.specs.Summary.{limits_of, summary_line, summary_with, summary_of};
-ghost use Rattle.render.specs.Answers.{accepted_in, lines_in, DrawsInPart, LeavesFrame};
+ghost use Rattle.render.specs.Summary.{limits_of, summary_line, summary_with, summary_of, work_of};
+ghost use Rattle.render.specs.Answers.{accepted_in, lines_in, DrawsBy, LeavesBy};
 ghost use Rattle.render.specs.Lines.{first_summaries};
+ghost use Rattle.render.specs.Steps.{DrawsFrame};
 
 use crate::accepted::Accepted;
 use buckets::{DrawFault, Limits, Report, render_frame};
@@ -88,19 +85,12 @@ fn drawn<O: FrameSink>(
 ) -> Result<(u64, u64), DrawFault>
     requires closed { O.is_open sink.old ≡ false }
     requires ranges { LieInRanges options }
-    requires fits { Fits (shop_set shop.old) shown.now.scene.now.uses }
-    requires variables { All (FitsPrim (shop_set shop.old) shown.now.scene.now.uses) shown.now.frame.now.prims }
+    requires fits { FitsScene (shop_set shop.old) shown.now.scene.now }
     requires count { shop.old.count ≤ 2 ^ 62 }
     requires epochs { report.old.epochs ≤ 2 ^ 62 }
-    ensures closed { OnOk result (O.is_open sink.new ≡ false) }
-    ensures ok { OnOk result (Adds (whole (picture_of (shaded_by shown.now.scene.now shop.old) shown.now.frame.now) ∷ []) (O.written sink.old) (O.written sink.new)) }
-    ensures err { OnErr result (AddsPart (picture_of (shaded_by shown.now.scene.now shop.old) shown.now.frame.now) (O.written sink.old) (O.written sink.new)) }
-    ensures later { O.faults sink.old ≤ O.faults sink.new }
-    ensures failed { IsErrOf result WriteFault → Rose (O.faults sink.old) (O.faults sink.new) }
-    ensures shadings { IfOk result (λ d. d.0 ≡ (tile_walk (drawing_of shown.now.scene.now (shop_set shop.old) shown.now.frame.now (limits_of options))).shadings) }
-    ensures in_epochs { IfOk result (λ d. d.1 ≡ (tile_walk (drawing_of shown.now.scene.now (shop_set shop.old) shown.now.frame.now (limits_of options))).epochs) }
-    ensures set { shop_set shop.new ≡ shop_set shop.old }
-    ensures count { OnOk result (shop.new.count ≤ shop.old.count + 2 ^ 52) }
+    ensures sink { WritesPicture O.written O.is_open O.faults sink.old sink.new (picture_of (shaded_by shown.now.scene.now shop.old) shown.now.frame.now) result (IsErrOf result WriteFault) }
+    ensures work { let w = work_of options (shaded_by shown.now.scene.now shop.old) shown.now.frame.now in IfOk result (λ d. (d.0 ≡ w.shadings) × (d.1 ≡ w.epochs)) }
+    ensures shop { DrawsFrame shop.old shop.new result }
     ensures epochs { OnOk result (report.new.epochs ≤ report.old.epochs + 2 ^ 52 + 1) }
 {
     let (count, epochs) = (shop.count(), report.epochs);
@@ -120,18 +110,13 @@ fn finished<O: FrameSink>(
 ) -> Result<Option<String>, DrawFault>
     requires closed { O.is_open sink.old ≡ false }
     requires ranges { LieInRanges options }
-    requires fits { Fits (shop_set shop.old) shown.now.scene.now.uses }
-    requires variables { All (FitsPrim (shop_set shop.old) shown.now.scene.now.uses) shown.now.frame.now.prims }
+    requires fits { FitsScene (shop_set shop.old) shown.now.scene.now }
     requires count { shop.old.count ≤ 2 ^ 62 }
     requires epochs { report.old.epochs ≤ 2 ^ 62 }
-    ensures closed { OnOk result (O.is_open sink.new ≡ false) }
-    ensures ok { OnOk result (Adds (whole (picture_of (shaded_by shown.now.scene.now shop.old) shown.now.frame.now) ∷ []) (O.written sink.old) (O.written sink.new)) }
-    ensures err { IfErr result (λ e. LeavesFrame e (picture_of (shaded_by shown.now.scene.now shop.old) shown.now.frame.now) (O.written sink.old) (O.written sink.new)) }
-    ensures later { O.faults sink.old ≤ O.faults sink.new }
-    ensures failed { IsErrOf result WriteFault → Rose (O.faults sink.old) (O.faults sink.new) }
+    ensures sink { let p = picture_of (shaded_by shown.now.scene.now shop.old) shown.now.frame.now in
+        Writes O.written O.is_open O.faults sink.old sink.new (Adds (whole p ∷ []) (O.written sink.old)) (LeavesBy result p (O.written sink.old)) result (IsErrOf result WriteFault) }
     ensures summary { IfOk result (λ l. option_map string_bytes l ≡ summary_of options (shaded_by shown.now.scene.now shop.old) shown.now.frame.now) }
-    ensures set { OnOk result (shop_set shop.new ≡ shop_set shop.old) }
-    ensures count { OnOk result (shop.new.count ≤ shop.old.count + 2 ^ 52) }
+    ensures shop { DrawsFrame shop.old shop.new result }
     ensures epochs { OnOk result (report.new.epochs ≤ report.old.epochs + 2 ^ 52 + 1) }
 {
     let done = drawn(alloc, sink, shop, report, shown, options)?;
@@ -165,16 +150,12 @@ fn write_frames<O: FrameSink, N: Notes>(
 ) -> Result<(), DrawFault>
     requires closed { O.is_open sink.old ≡ false }
     requires ranges { LieInRanges options }
-    requires fits { Fits (shop_set shop.old) scene.now.uses }
-    requires variables { FitPrims (shop_set shop.old) scene.now.uses scene.now.frames }
-    requires few { length scene.now.frames ≤ 1000 }
+    requires fits { FitsScene (shop_set shop.old) scene.now }
     requires count { shop.old.count ≡ 0 }
-    ensures closed { OnOk result (O.is_open sink.new ≡ false) }
-    ensures ok { OnOk result (Adds (map whole (frames_of (shaded_by scene.now shop.old))) (O.written sink.old) (O.written sink.new)) }
+    ensures sink { let a = shaded_by scene.now shop.old in
+        Writes O.written O.is_open O.faults sink.old sink.new (Adds (map whole (frames_of a)) (O.written sink.old))
+        (λ ws. DrawsBy options a result (O.written sink.old) ws (N.lines notes.old) (N.lines notes.new) (N.faults notes.old) (N.faults notes.new)) result (IsErrOf result WriteFault) }
     ensures says { OnOk result (Says (first_summaries options (shaded_by scene.now shop.old) (length scene.now.frames)) (N.lines notes.old) (N.lines notes.new) (N.faults notes.old) (N.faults notes.new)) }
-    ensures err { IfErr result (λ e. DrawsInPart options (shaded_by scene.now shop.old) e (O.written sink.old) (O.written sink.new) (N.lines notes.old) (N.lines notes.new) (N.faults notes.old) (N.faults notes.new)) }
-    ensures later { O.faults sink.old ≤ O.faults sink.new }
-    ensures failed { IsErrOf result WriteFault → Rose (O.faults sink.old) (O.faults sink.new) }
 {
     let mut report = Report {
         epochs: 0,
@@ -205,15 +186,11 @@ pub(crate) fn write_pictures<O: FrameSink, N: Notes>(
 ) -> Result<(), DrawFault>
     requires closed { O.is_open sink.old ≡ false }
     requires ranges { LieInRanges options }
-    requires fits { Fits (set_value accepted.set accepted.textures) accepted.scene.uses }
-    requires variables { FitPrims (set_value accepted.set accepted.textures) accepted.scene.uses accepted.scene.frames }
-    requires few { length accepted.scene.frames ≤ 1000 }
-    ensures closed { OnOk result (O.is_open sink.new ≡ false) }
-    ensures ok { OnOk result (Adds (map whole (frames_of (accepted_in accepted))) (O.written sink.old) (O.written sink.new)) }
+    requires fits { FitsScene (set_value accepted.set accepted.textures) accepted.scene }
+    ensures sink { let a = accepted_in accepted in
+        Writes O.written O.is_open O.faults sink.old sink.new (Adds (map whole (frames_of a)) (O.written sink.old))
+        (λ ws. DrawsBy options a result (O.written sink.old) ws (N.lines notes.old) (N.lines notes.new) (N.faults notes.old) (N.faults notes.new)) result (IsErrOf result WriteFault) }
     ensures says { OnOk result (Says (first_summaries options (accepted_in accepted) (length accepted.scene.frames)) (N.lines notes.old) (N.lines notes.new) (N.faults notes.old) (N.faults notes.new)) }
-    ensures err { IfErr result (λ e. DrawsInPart options (accepted_in accepted) e (O.written sink.old) (O.written sink.new) (N.lines notes.old) (N.lines notes.new) (N.faults notes.old) (N.faults notes.new)) }
-    ensures later { O.faults sink.old ≤ O.faults sink.new }
-    ensures failed { IsErrOf result WriteFault → Rose (O.faults sink.old) (O.faults sink.new) }
 {
     let Accepted {
         scene,

@@ -1,17 +1,15 @@
 // Parts of frames to a sink.
-ghost use Rattle.std.specs.Prelude.{◌≡◌, ◌≤◌, ◌<◌, ◌+◌, ◌^◌, ◌∷◌, [], false, All, length, map, OnOk, OnErr, IsErrOf};
-ghost use Rattle.outside.specs.Causes.{Rose};
-ghost use Rattle.outside.specs.Frames.{Adds, AddsPart, whole};
-ghost use Rattle.shader_binding.specs.Sets.{Fits};
-ghost use Rattle.shader_binding.specs.Bindings.{FitsPrim};
+ghost use Rattle.std.specs.Prelude.{◌≡◌, ◌≤◌, ◌<◌, ◌^◌, false, map, IsErrOf};
+ghost use Rattle.outside.specs.Frames.{Adds, whole};
+ghost use Rattle.outside.specs.Steps.{Writes, WritesPicture};
 ghost use Rattle.displace_shade.specs.Shop.{set_value, shop_set};
-ghost use Rattle.acceptance.specs.PrimFit.{FitPrims};
+ghost use Rattle.acceptance.specs.PrimFit.{FitsScene};
 ghost use Rattle.buckets.specs.Shopped.{shaded_by};
 ghost use Rattle.buckets.specs.declared.limits.DrawFault.TheVariants.{WriteFault};
 ghost use Rattle.command_line.specs.Ranges.{LieInRanges};
-ghost use Rattle.fixed_math.specs.Hash.{hash32};
 ghost use Rattle.render.specs.Answers.{accepted_in, EndsSome};
 ghost use Rattle.render.specs.Parts.{part_picture, parts_of_frames, IsTask, task_of};
+ghost use Rattle.render.specs.Steps.{DrawsFrame};
 
 use crate::accepted::Accepted;
 use crate::part_task::{PartTask, hash_of};
@@ -36,17 +34,11 @@ fn drawn_part<O: FrameSink>(
     requires closed { O.is_open sink.old ≡ false }
     requires ranges { LieInRanges options }
     requires task { IsTask options task }
-    requires place { shown.now.index < 1000 }
-    requires fits { Fits (shop_set shop.old) shown.now.scene.now.uses }
-    requires variables { All (FitsPrim (shop_set shop.old) shown.now.scene.now.uses) shown.now.frame.now.prims }
+    requires fits { FitsScene (shop_set shop.old) shown.now.scene.now }
     requires count { shop.old.count ≤ 2 ^ 62 }
-    ensures closed { OnOk result (O.is_open sink.new ≡ false) }
-    ensures ok { OnOk result (Adds (whole (part_picture task (shaded_by shown.now.scene.now shop.old) (record { place = shown.now.index; frame = shown.now.frame.now })) ∷ []) (O.written sink.old) (O.written sink.new)) }
-    ensures err { OnErr result (AddsPart (part_picture task (shaded_by shown.now.scene.now shop.old) (record { place = shown.now.index; frame = shown.now.frame.now })) (O.written sink.old) (O.written sink.new)) }
-    ensures later { O.faults sink.old ≤ O.faults sink.new }
-    ensures failed { IsErrOf result WriteFault → Rose (O.faults sink.old) (O.faults sink.new) }
-    ensures set { shop_set shop.new ≡ shop_set shop.old }
-    ensures count { OnOk result (shop.new.count ≤ shop.old.count + 2 ^ 52) }
+    ensures sink { let p = part_picture task (shaded_by shown.now.scene.now shop.old) (record { place = shown.now.index; frame = shown.now.frame.now }) in
+        WritesPicture O.written O.is_open O.faults sink.old sink.new p result (IsErrOf result WriteFault) }
+    ensures shop { DrawsFrame shop.old shop.new result }
 {
     let name = part_name(alloc, name_of(shown.frame), task.part)?;
     let limits = limits_of(options);
@@ -77,15 +69,10 @@ fn write_each<O: FrameSink>(
     requires closed { O.is_open sink.old ≡ false }
     requires ranges { LieInRanges options }
     requires task { IsTask options task }
-    requires fits { Fits (shop_set shop.old) scene.now.uses }
-    requires variables { FitPrims (shop_set shop.old) scene.now.uses scene.now.frames }
-    requires few { length scene.now.frames ≤ 1000 }
+    requires fits { FitsScene (shop_set shop.old) scene.now }
     requires count { shop.old.count ≡ 0 }
-    ensures closed { OnOk result (O.is_open sink.new ≡ false) }
-    ensures ok { OnOk result (Adds (map whole (parts_of_frames task (shaded_by scene.now shop.old))) (O.written sink.old) (O.written sink.new)) }
-    ensures err { OnErr result (EndsSome (parts_of_frames task (shaded_by scene.now shop.old)) (O.written sink.old) (O.written sink.new)) }
-    ensures later { O.faults sink.old ≤ O.faults sink.new }
-    ensures failed { IsErrOf result WriteFault → Rose (O.faults sink.old) (O.faults sink.new) }
+    ensures { let ps = parts_of_frames task (shaded_by scene.now shop.old) in
+        Writes O.written O.is_open O.faults sink.old sink.new (Adds (map whole ps) (O.written sink.old)) (EndsSome ps (O.written sink.old)) result (IsErrOf result WriteFault) }
 {
     let frames = frames_in(scene);
     for index in 0..frames.len() {
@@ -113,14 +100,9 @@ pub(crate) fn write_parts<O: FrameSink>(
     requires closed { O.is_open sink.old ≡ false }
     requires ranges { LieInRanges options }
     requires below { part < count }
-    requires fits { Fits (set_value accepted.set accepted.textures) accepted.scene.uses }
-    requires variables { FitPrims (set_value accepted.set accepted.textures) accepted.scene.uses accepted.scene.frames }
-    requires few { length accepted.scene.frames ≤ 1000 }
-    ensures closed { OnOk result (O.is_open sink.new ≡ false) }
-    ensures ok { OnOk result (Adds (map whole (parts_of_frames (task_of part count options text.now) (accepted_in accepted))) (O.written sink.old) (O.written sink.new)) }
-    ensures err { OnErr result (EndsSome (parts_of_frames (task_of part count options text.now) (accepted_in accepted)) (O.written sink.old) (O.written sink.new)) }
-    ensures later { O.faults sink.old ≤ O.faults sink.new }
-    ensures failed { IsErrOf result WriteFault → Rose (O.faults sink.old) (O.faults sink.new) }
+    requires fits { FitsScene (set_value accepted.set accepted.textures) accepted.scene }
+    ensures { let ps = parts_of_frames (task_of part count options text.now) (accepted_in accepted) in
+        Writes O.written O.is_open O.faults sink.old sink.new (Adds (map whole ps) (O.written sink.old)) (EndsSome ps (O.written sink.old)) result (IsErrOf result WriteFault) }
 {
     let task = PartTask {
         part,

@@ -1,8 +1,8 @@
 use Rattle.std.proofs.Common.{◌≡◌, Ok, subst, sym}
 use Rattle.outside.specs.Causes.{Told}
-use Rattle.shader_binding.specs.Sets.{SetValue, Fits}
+use Rattle.shader_binding.specs.Sets.{SetValue}
 use Rattle.acceptance.specs.Accepting.{accepted}
-use Rattle.acceptance.specs.PrimFit.{FitPrims}
+use Rattle.acceptance.specs.PrimFit.{FitsScene}
 use Rattle.render.proofs.accepted.accept.Goals as goal
 
 pub returns-clause-gives : goal.returns-clause-gives
@@ -13,9 +13,4 @@ returns-clause-gives g c =
 pub returns-clause-fits : goal.returns-clause-fits
 returns-clause-fits g c =
     let read = c.in_ok-read.read in
-    subst (λ (s : SetValue). Fits s read.scene.uses) (sym (c.in_ok-set.ensures read.textures.read)) c.in_ok-read.ensures.fits
-
-pub returns-clause-variables : goal.returns-clause-variables
-returns-clause-variables g c =
-    let read = c.in_ok-read.read in
-    subst (λ (s : SetValue). FitPrims s read.scene.uses read.scene.frames) (sym (c.in_ok-set.ensures read.textures.read)) c.in_ok-read.ensures.variables
+    subst (λ (s : SetValue). FitsScene s read.scene) (sym (c.in_ok-set.ensures read.textures.read)) c.in_ok-read.ensures.fits

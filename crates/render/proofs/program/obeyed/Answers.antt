@@ -29,7 +29,7 @@ returns-in-Ok-clause-course g c =
     let a = accepted_in c.in-Ok-Some.loaded.accepted in
     obeys-drawn command held a _ _ _ _ _ _ c.in-Render.is
     (loaded command held Render c.in-Ok-Some.field-0 c.in-Ok-Some.loaded c.in-Ok-Some.field-0-is c.in-Render.is c.in-Ok-Some.ensures.loads)
-    c.in-Ok.ensures.ok c.in-Ok.ensures.says
+    c.in-Ok.ensures.sink.ok c.in-Ok.ensures.says
 
 pub returns-in-Err-WriteFault-clause-course : goal.returns-in-Err-WriteFault-clause-course
 returns-in-Err-WriteFault-clause-course g c =
@@ -38,7 +38,7 @@ returns-in-Err-WriteFault-clause-course g c =
     let a = accepted_in c.in-Ok-Some.loaded.accepted in
     obeys-unwritten command held a c.in-Err-WriteFault.field-0 _ _ _ _ _ _ c.in-Render.is c.in-Err-WriteFault.field-0-is
     (loaded command held Render c.in-Ok-Some.field-0 c.in-Ok-Some.loaded c.in-Ok-Some.field-0-is c.in-Render.is c.in-Ok-Some.ensures.loads)
-    c.in-Err-WriteFault.ensures.err
+    c.in-Err-WriteFault.ensures.sink.err
 
 pub returns-in-Render-clause-course : goal.returns-in-Render-clause-course
 returns-in-Render-clause-course g c =
@@ -47,7 +47,7 @@ returns-in-Render-clause-course g c =
     let a = accepted_in c.in-Ok-Some.loaded.accepted in
     obeys-out-of-memory command held a c.in-Err-NoMemory.field-0 _ _ _ _ _ _ c.in-Render.is
     (loaded command held Render c.in-Ok-Some.field-0 c.in-Ok-Some.loaded c.in-Ok-Some.field-0-is c.in-Render.is c.in-Ok-Some.ensures.loads)
-    c.in-Err-NoMemory.ensures.err
+    c.in-Err-NoMemory.ensures.sink.err
 
 pub returns-in-Ok-write_parts-clause-course : goal.returns-in-Ok-write_parts-clause-course
 returns-in-Ok-write_parts-clause-course g c =

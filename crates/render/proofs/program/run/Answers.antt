@@ -36,13 +36,13 @@ pub returns-clause-complete : goal.returns-clause-complete
 returns-clause-complete g c = λ read written.
     let o = c.answered-answer.ensures.course in
     completes-told (command_of (texts c.args.words.now)) (g.L.Library.held c.args.library.now) o.verdict _ c.answered-answer.result.0 c.status.result
-    o.known o.is_of c.status.ensures.number (λ e. read (c.answered-answer.ensures.read e)) (λ e. written (c.answered-answer.ensures.write e))
+    o.known o.is_of c.status.ensures.number (λ e. read (c.answered-answer.ensures.library.read e)) (λ e. written (c.answered-answer.ensures.sink.failed e))
 
 pub returns-clause-complete_refused : goal.returns-clause-complete_refused
 returns-clause-complete_refused g c = λ read.
     let o = c.answered-answer.ensures.course in
     refused-told (command_of (texts c.args.words.now)) (g.L.Library.held c.args.library.now) o.verdict _ c.answered-answer.result.0 c.status.result
-    o.known o.is_of c.status.ensures.number (λ e. read (c.answered-answer.ensures.read e))
+    o.known o.is_of c.status.ensures.number (λ e. read (c.answered-answer.ensures.library.read e))
 
 pub returns-clause-course : goal.returns-clause-course
 returns-clause-course g c =
