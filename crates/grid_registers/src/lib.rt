@@ -17,6 +17,7 @@ mod planes;
 mod reading;
 mod registers;
 mod room;
+mod sides;
 mod spaces;
 mod textures;
 

@@ -29,11 +29,11 @@ loop-place-preserved t c =
     let s = operand_number r c.args.of.s in
     let q = operand_number r c.args.of.t in
     let f = looked_up (lines_of r.frame.now) (image_named ps (Some c.args.which)) s q in
-    let sides : AreSides (get_or (t.T.Textures.images c.loop-place.textures) c.args.which no_image) (record { width = c.width.result; height = c.height.result }) = record {
-      width = ap (λ (p : Image). p.width) image ∙ sym (c.width.ensures.value c.requires.there);
-      height = ap (λ (p : Image). p.height) image ∙ sym (c.height.ensures.value c.requires.there);
+    let sides : AreSides (get_or (t.T.Textures.images c.loop-place.textures) c.args.which no_image) c.new-sides.result = record {
+      width = ap (λ (p : Image). p.width) image ∙ sym (c.width.ensures.value c.requires.there) ∙ sym c.new-sides.ensures.width;
+      height = ap (λ (p : Image). p.height) image ∙ sym (c.height.ensures.value c.requires.there) ∙ sym c.new-sides.ensures.height;
     } in
-    let is = c.look-colour.ensures.value s q sides c.coordinates-at.ensures.at ∙ ap (λ x. looked_up (lines_of r.frame.now) (image_named x (Some c.args.which)) s q c.loop-place.place) same in (
+    let is = c.look-colour.ensures.value s q sides (λ i l. record { s_is = c.spread.ensures.each i l; t_is = c.spread-2.ensures.each i l }) ∙ ap (λ x. looked_up (lines_of r.frame.now) (image_named x (Some c.args.which)) s q c.loop-place.place) same in (
       λ k. c.set.ensures.size k ∙ c.loop-place.invariant.0 k,
       (
         filled_next (texts_of r) c.loop-place.row c.set.new.self f c.loop-place.place (cells.Triple c.look-colour.result) c.loop-place.invariant.1.0 is c.set.ensures.value,
