@@ -5,7 +5,7 @@ import re
 TOP = os.path.dirname(os.path.dirname(os.path.abspath(__file__)))
 ORDER = ("the program", "the outside: files, frames and notes, asked through traits", "scene text and the scene", "shaders", "textures",
          "scenes with their shaders", "surfaces, camera, dicing", "the meaning of shaders", "shading", "pictures", "parts of a picture",
-         "rows of numbers", "the base: whole numbers, fixed point", "the programs", "tests of public calls")
+         "the account of a pixel", "rows of numbers", "the base: whole numbers, fixed point", "the programs", "tests of public calls")
 
 
 def stages():

@@ -118,3 +118,17 @@ def status_of(answer: bytes) -> str:
 
 def words_of(case: bytes) -> str:
     return field(rb"^words ?(.*)$", case)
+
+
+def files_of(case: bytes) -> dict[str, bytes]:
+    """The files of a case, by name."""
+    found, at = dict[str, bytes](), 0
+    while at < len(case):
+        end = case.index(b"\n", at)
+        words = case[at:end].split(b" ")
+        at = end + 1
+        if words[0] == b"file":
+            length = int(words[-1])
+            found[b" ".join(words[1:-1]).decode(errors="replace")] = case[at : at + length]
+            at += length + 1
+    return found

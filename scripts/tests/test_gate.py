@@ -19,7 +19,7 @@ def room(top: Path, tmp_path: Path) -> Path:
     for name in (".ci/run", "scripts/packages.txt"):
         (tmp_path / name).parent.mkdir(parents=True, exist_ok=True)
         shutil.copy(top / name, tmp_path / name)
-    put(tmp_path / "scripts/test", 'echo "$REYES $CONFORMANCE"\necho "7 passed, 0 failed"')
+    put(tmp_path / "scripts/test", 'echo "$REYES $WHY $CONFORMANCE"\necho "7 passed, 0 failed"')
     put(tmp_path / "tools/rt", 'echo "rt $* in $PWD"')
     put(tmp_path / "tools/id", "echo 0")
     put(tmp_path / "tools/dpkg", "exit 0")
@@ -34,7 +34,7 @@ def run(room: Path) -> tuple[int, list[str]]:
 
 
 def test_the_tests_follow_the_proofs(room: Path) -> None:
-    programs = f"{room}/crates/reyes/out/reyes {room}/crates/conformance/out/conformance"
+    programs = " ".join(f"{room}/crates/{it}/out/{it}" for it in ("reyes", "why", "conformance"))
     assert run(room) == (0, [f"rt ci in {room}", programs, "7 passed, 0 failed"])
 
 

@@ -6,7 +6,7 @@ from pathlib import Path
 import pytest
 
 TOP = Path(__file__).resolve().parent.parent.parent
-OTHERS = [TOP / "reyes", *sorted((TOP / "docs/benchmarks").glob("*.py"))]
+OTHERS = [TOP / "reyes", TOP / "why", *sorted((TOP / "docs/benchmarks").glob("*.py"))]
 SCRIPTS = [it for it in sorted((TOP / "scripts").rglob("*")) if it.is_file() and os.access(it, os.X_OK) and "tests" not in it.parts]
 # Commands that a script could do harm or lose time by: here they only tell that they were called.
 TOOLS = ("rt", "git", "parallel", "sbatch", "make", "xdg-open", "valgrind", "apt-get", "tar", "cc")

@@ -1,4 +1,4 @@
-"""Which program ./reyes runs, and what it says of it."""
+"""Which programs ./reyes and ./why run, and what they say of them."""
 import os
 import shutil
 import subprocess
@@ -19,11 +19,12 @@ def put(path: Path, text: str) -> None:
 @pytest.fixture
 def room(tmp_path: Path) -> Path:
     """A clone of one crate, whose scripts quick and build hand over programs that say their names."""
-    for name in ("reyes", "scripts/clone.py", "docs/usage.txt"):
+    for name in ("reyes", "why", "scripts/clone.py", "scripts/launching.py", "docs/usage.txt"):
         (tmp_path / name).parent.mkdir(parents=True, exist_ok=True)
         shutil.copy(TOP / name, tmp_path / name)
-    (tmp_path / "crates.txt").write_text("reyes: base\nbase:\n")
-    put(tmp_path / "crates/reyes/src/main.rt", "fn main() {}\n")
+    (tmp_path / "crates.txt").write_text("reyes: base\nwhy: base\nbase:\n")
+    for name in ("reyes", "why"):
+        put(tmp_path / f"crates/{name}/src/main.rt", "fn main() {}\n")
     put(tmp_path / "crates/base/src/lib.rt", "// nothing\n")
     put(tmp_path / "a.rib", "")
     (tmp_path / "CHANGELOG.md").write_text("# Changes\n\n## 0.9 (2026-12-01)\n\n## 0.8 (2026-11-01)\n")
@@ -115,3 +116,25 @@ def test_what_needs_no_program_is_told_before_one_is_built(room: Path, words: st
 @pytest.mark.parametrize("words", ["render -- nosuch.rib", "--bucket 16 render nosuch.rib", "part nosuch.rib", "render a.rib --bucket", "join a --of 2", "render .", "demo x", "render a.rib/b"])
 def test_all_other_words_go_to_the_program(room: Path, words: str) -> None:
     assert run(room, *words.split())[:2] == (0, f"unproved {words}\n")
+
+
+def why(room: Path, *words: str, **more: str) -> tuple[int, str, str]:
+    ran = subprocess.run([room / "why", *words], cwd=room, env={**os.environ, **more}, stdin=subprocess.DEVNULL, capture_output=True, text=True)
+    return ran.returncode, ran.stdout, ran.stderr
+
+
+def test_a_pixel_is_explained_by_the_quick_program_too(room: Path) -> None:
+    said = "reyes: this program is unproved; scripts/build why proves it\n"
+    assert why(room, "a.rib", "1", "2", "--points") == (0, "unproved a.rib 1 2 --points\n", said)
+    assert why(room, "--program") == (0, f"{room}/unproved\n", said)
+
+
+def test_the_proof_of_the_program_that_explains_can_be_insisted_on(room: Path) -> None:
+    put(room / "scripts/build", f"#!/bin/sh\nmkdir -p {room}/crates/$1/out\ncp {room}/proved {room}/crates/$1/out/$1\n")
+    assert why(room, "a.rib", "1", "2", REYES_BUILD="proved") == (0, "proved a.rib 1 2\n", "")
+
+
+def test_no_words_are_no_question(room: Path) -> None:
+    put(room / "scripts/quick", "#!/bin/sh\nexit 99\n")
+    status, out, said = why(room)
+    assert (status, out) == (2, "") and "./why NAME X Y" in said

@@ -15,9 +15,9 @@ def git(room: Path, *words: str) -> None:
 
 
 def made(top: Path, room: Path) -> Path:
-    """A repository with a proved program."""
+    """A repository with its proved programs."""
     texts = {
-        "crates.txt": "reyes:\n", "crates/reyes/src/main.rt": "fn main() {}\n", "CHANGELOG.md": "## 0.9 (2026-12-01)\n", ".gitignore": "out/\n/dist/\n__pycache__/\n",
+        "crates.txt": "reyes:\nwhy:\n", "crates/reyes/src/main.rt": "fn main() {}\n", "crates/why/src/main.rt": "fn main() {}\n", "CHANGELOG.md": "## 0.9 (2026-12-01)\n", ".gitignore": "out/\n/dist/\n__pycache__/\n",
         "LICENSE-MIT": "may\n", "docs/RIB.md": "requests\n", "examples/a.rib": "WorldBegin\n", "elsewhere.txt": "no\n",
     }
     for name, text in texts.items():
@@ -30,10 +30,11 @@ def made(top: Path, room: Path) -> Path:
     git(room, "init", "-q")
     git(room, "add", "-A")
     git(room, "commit", "-qm", "all")
-    program = room / "crates/reyes/out/reyes"
-    program.parent.mkdir()
-    program.write_text("program\n")
-    program.chmod(0o755)
+    for name in ("reyes", "why"):
+        program = room / f"crates/{name}/out/{name}"
+        program.parent.mkdir()
+        program.write_text(f"{name}\n")
+        program.chmod(0o755)
     return room
 
 
@@ -57,11 +58,12 @@ def test_an_archive_holds_the_program_with_the_sums_of_all(top: Path, tmp_path: 
     with tarfile.open(room / "dist/reyes-0.9-x86_64-linux.tar.gz") as archive:
         names = {it.name.partition("/")[2]: it for it in archive.getmembers()}
         texts = {name: archive.extractfile(it).read() for name, it in names.items()}  # type: ignore[union-attr]
-    assert set(names) == {"CHANGELOG.md", "LICENSE-MIT", "SHA256SUMS", "docs/RIB.md", "examples/a.rib", "reyes"}
-    assert names["reyes"].mode == 0o755 and names["docs/RIB.md"].mode == 0o644
+    assert set(names) == {"CHANGELOG.md", "LICENSE-MIT", "SHA256SUMS", "docs/RIB.md", "examples/a.rib", "reyes", "why"}
+    assert names["reyes"].mode == names["why"].mode == 0o755 and names["docs/RIB.md"].mode == 0o644
     assert {it.uid for it in names.values()} == {0}
     lines = texts["SHA256SUMS"].decode().splitlines()
-    assert lines[0] == f"{hashlib.sha256(b'program' + bytes([10])).hexdigest()}  reyes"
+    assert lines[0] == f"{hashlib.sha256(b'reyes' + bytes([10])).hexdigest()}  reyes"
+    assert lines[1].endswith("  why")
     assert len(lines) == len(names) - 1
 
 
@@ -73,8 +75,10 @@ def test_sources_that_are_not_committed_are_not_released(top: Path, tmp_path: Pa
     assert ran.stderr == "release: what differs from the last commit can't be released: M examples/a.rib\n"
 
 
-def test_an_unproved_program_is_not_released(top: Path, tmp_path: Path) -> None:
+@pytest.mark.parametrize("name", ["reyes", "why"])
+def test_an_unproved_program_is_not_released(top: Path, tmp_path: Path, name: str) -> None:
     room = made(top, tmp_path / "one")
-    (room / "crates/reyes/out/reyes").unlink()
+    (room / f"crates/{name}/out/{name}").unlink()
     ran = release(room)
-    assert (ran.returncode, ran.stderr) == (1, "release: there is no proved program of these sources: scripts/build proves it\n")
+    said = f"release: there is no proved program {name} of these sources: scripts/build {name} proves it\n"
+    assert (ran.returncode, ran.stderr) == (1, said)

@@ -53,10 +53,10 @@ def test_each_package_is_named_with_its_module(top: Path) -> None:
     assert all(re.fullmatch(r"python3-[a-z0-9]+ \w+", it) for it in lines)
 
 
-@pytest.mark.parametrize("name", ["reyes", *(f"scripts/{it}" for it in SCRIPTS)])
+@pytest.mark.parametrize("name", ["reyes", "why", *(f"scripts/{it}" for it in SCRIPTS)])
 def test_types(top: Path, tmp_path: Path, name: str) -> None:
     mypy = pytest.importorskip("mypy.api")
-    os.environ["MYPYPATH"] = str(top / "scripts")
+    os.environ["MYPYPATH"] = f"{top}/scripts:{top}/python"
     said, fault, status = mypy.run(["--strict", "--cache-dir", str(tmp_path.parent / "types"), str(top / name)])
     assert status == 0, said + fault
 

@@ -161,8 +161,8 @@ fn parser<'a>(alloc: Global) -> Result<clap::Command<'a>, AllocError>
         .arg(of_arg(alloc))
 }
 
-// The number that a text writes, where it is one in this range.
-fn number_in(low: u32, high: u32, text: &str) -> Option<u32>
+/// The number that a text writes, where it is one in this range.
+pub fn number_in(low: u32, high: u32, text: &str) -> Option<u32>
     ensures number { result ≡ number_in low high text.now }
     ensures within { IfSome result (λ n. (low ≤ n) × (n ≤ high)) }
 {
@@ -180,7 +180,8 @@ fn number_given(low: u32, high: u32, text: Option<&str>) -> Option<u32>
     number_in(low, high, text?)
 }
 
-fn is_set(text: Option<&str>) -> bool
+/// Whether a flag is set, by the text of its value.
+pub fn is_set(text: Option<&str>) -> bool
     ensures { result ≡ is_set (option_map (λ t. t.now) text.entry) }
 {
     match text {

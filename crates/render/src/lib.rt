@@ -12,4 +12,5 @@ mod write_parts;
 pub use acceptance::{FaultCode, FileId, Refusal};
 pub use accepted::{Accepted, accept};
 pub use laws::stock_constant_law;
-pub use program::run;
+pub use load::fetch_text;
+pub use program::{fault_note, missing_note, run};

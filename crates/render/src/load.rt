@@ -21,8 +21,8 @@ use stock::demo;
 /// The most bytes of a scene file.
 pub const MOST_BYTES: u64 = 16777216;
 
-// The text that is held under a name, or none.
-fn fetch_text<L: Library>(
+/// The text of the scene's file of that name, at most 16,777,216 bytes, or none where the library lacks it.
+pub fn fetch_text<L: Library>(
     alloc: Global,
     library: &mut L,
     name: &str,

@@ -168,8 +168,8 @@ fn answered<'a, L: Library, O: FrameSink, N: Notes>(
     }
 }
 
-// The note of a fault in a file.
-fn fault_note(
+/// The note of a fault at a line of a file, where the scene has this name: the file's name, the line, and the code.
+pub fn fault_note(
     alloc: Global,
     scene: &str,
     file: &FileId,
@@ -199,8 +199,8 @@ fn first_line_note(alloc: Global, file: &str, code: &str) -> Result<String, NoMe
     Ok(format!(in alloc; "{file}:{line}: {code}\n")?)
 }
 
-// The note of a file that is missing.
-fn missing_note(alloc: Global, file: &str) -> Result<String, NoMemory>
+/// The note of a file that is missing.
+pub fn missing_note(alloc: Global, file: &str) -> Result<String, NoMemory>
     ensures { IfOk result (λ n. string_bytes n ≡ file.now ++ codes ": missing\n") }
 {
     Ok(format!(in alloc; "{file}: missing\n")?)

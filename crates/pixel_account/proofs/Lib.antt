@@ -1,0 +1,9 @@
+pub mod Placing
+pub mod Puts
+pub mod Laying
+pub mod Summed
+pub mod Told
+pub mod Listed
+pub mod Going
+pub mod Seen
+pub mod Done

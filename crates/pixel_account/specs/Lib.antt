@@ -1,0 +1,9 @@
+pub mod Account
+pub mod Origins
+pub mod Requests
+pub mod Toning
+pub mod Summing
+pub mod Laying
+pub mod Grids
+pub mod Traces
+pub mod Stacks

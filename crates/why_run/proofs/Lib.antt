@@ -1,0 +1,4 @@
+mod Asking
+mod Giving
+mod Answering
+mod Running
