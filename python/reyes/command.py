@@ -22,6 +22,7 @@ COMMANDS: dict[str, tuple[str, str]] = {
     "passes": ("reyes.passes", "draws pictures beside the picture: alpha, depth, normals, u and v, objects, micropolygons"),
     "shadow": ("reyes.shadow.command", "draws a scene with shadows, by maps of depths from its lights"),
     "mirror": ("reyes.shadow.mirror", "draws a scene with a flat floor or wall, or a bent thing, that mirrors it"),
+    "why": ("reyes.why.command", "explains a pixel of a picture on a page: its samples, what each sees, the sum to the byte"),
     "check": ("reyes.check", "tells the faults of a scene, its shaders and textures, at their places"),
     "view": ("reyes.view", "opens pictures in the desktop's viewer, or turns them into another form"),
     "look_at": ("reyes.look_at", "prints the matrix of a camera that stands at one point and looks at another"),

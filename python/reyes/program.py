@@ -1,4 +1,4 @@
-"""The renderer itself: where its program is, and a run of it."""
+"""The renderer itself, and the program `why` beside it: where they are, and a run of the renderer."""
 from __future__ import annotations
 
 import functools
@@ -22,41 +22,42 @@ class Answer:
     notes: tuple[str, ...]
 
 
-def find() -> Path:
-    """The renderer's program: what REYES names, else that of the clone in which this package stands (its proved program, or the
-    launcher, which builds it), else `reyes` on the path. Raises Trouble where there is none.
+def find(name: str = "reyes") -> Path:
+    """The renderer's program, or another one by its name: what REYES names (WHY for `why`), else that of the clone in which this package
+    stands (its proved program, or the launcher, which builds it), else the one on the path. Raises Trouble where there is none.
     """
-    named = os.environ.get("REYES")
+    variable = name.upper()
+    named = os.environ.get(variable)
     if named:
         path = Path(named).absolute()
         if not os.access(path, os.X_OK) or path.is_dir():
-            raise Trouble(f"{named}: no program is there (REYES names it)", MISSING)
+            raise Trouble(f"{named}: no program is there ({variable} names it)", MISSING)
         return path
-    for path in (CLONE / "crates/reyes/out/reyes", CLONE / "reyes"):
+    for path in (CLONE / f"crates/{name}/out/{name}", CLONE / name):
         if path.is_file() and os.access(path, os.X_OK):
             return path
-    on_path = shutil.which("reyes")
+    on_path = shutil.which(name)
     if on_path is None:
-        raise Trouble("no program `reyes` is on the path: let REYES name it", MISSING)
+        raise Trouble(f"no program `{name}` is on the path: let {variable} name it", MISSING)
     return Path(on_path).absolute()
 
 
-def ready() -> Path:
+def ready(name: str = "reyes") -> Path:
     """The program to be run: what `find` finds; in a clone the proved program where it is of the sources there, else the quick one, which
     is built first where it has to, as the clone's launcher does. Raises Trouble where it can't be built.
     """
-    path = find()
+    path = find(name)
     # in a release's folder, too, a file `reyes` stands beside the package, but that is the program itself
     in_clone = CLONE in path.parents and (CLONE / "crates.txt").is_file()
-    return _of_clone() if in_clone and not os.environ.get("REYES") else path
+    return _of_clone(name) if in_clone and not os.environ.get(name.upper()) else path
 
 
 @functools.cache
-def _of_clone() -> Path:
+def _of_clone(name: str) -> Path:
     """The program that the clone's launcher would run, which says on standard error where it is unproved."""
-    told = subprocess.run([CLONE / "reyes", "--program"], stdin=subprocess.DEVNULL, stdout=subprocess.PIPE, text=True, check=False)
+    told = subprocess.run([CLONE / name, "--program"], stdin=subprocess.DEVNULL, stdout=subprocess.PIPE, text=True, check=False)
     if told.returncode != 0:
-        raise Trouble("the program isn't built: scripts/build proves and builds it, and REYES may name another", told.returncode)
+        raise Trouble(f"the program isn't built: scripts/build proves and builds it, and {name.upper()} may name another", told.returncode)
     return Path(told.stdout.strip())
 
 

@@ -32,6 +32,18 @@ def program() -> Path:
     return found
 
 
+@pytest.fixture(scope="session")
+def why(program: Path) -> Path:
+    """The program `why` (WHY, or that of the clone); tests that ask it are passed over where there is none."""
+    try:
+        found = renderer.find("why")
+    except Trouble as trouble:
+        pytest.skip(trouble.message)
+    if found == CLONE / "why":
+        pytest.skip("the program why isn't built: WHY may name another")
+    return found
+
+
 @pytest.fixture
 def examples() -> Path:
     """The folder of the repository's examples."""
