@@ -3,12 +3,12 @@
 
 use fixed_math::NoMemory;
 use outside::{FileLibrary, StderrNotes};
-use why_run::run;
 use std::alloc::Global;
 use std::env;
 use std::io::ErrorKind;
 use std::process::ExitCode;
 use std::rt::Env;
+use why_run::run;
 
 /// The words that the program was started with, or none where one of them isn't text: the command is then refused.
 fn words<R: Env + AllocGlobal>(rt: &R) -> Result<Vec<String>, NoMemory> {
