@@ -30,7 +30,7 @@ from reyes import scene as scenes
 PIXELS = 3
 HEADER = re.compile(rb"P6\n(\d+) (\d+)\n(\d+)\n")
 # How long a run of a program may take, in seconds.
-PATIENCE = 120
+PATIENCE = 1200
 
 
 @dataclass(frozen=True)
