@@ -19,4 +19,4 @@ shade-requires-clause-variables c =
     let is = shop_is c.in_ok-shop.shop accepted.set c.as_slice-2.result.now accepted.textures c.in_ok-shop.ensures.set c.in_ok-shop.ensures.textures c.as_slice-2.ensures in
     λ f prim at at_prim. subst (λ (s : SetValue). FitsPrim s accepted.scene.uses prim) (sym is)
     (item_of (FitsPrim (set_value accepted.set accepted.textures) accepted.scene.uses) f.prims c.args.piece.now.prim prim
-    (item_of (λ (g : FrameValue). All (FitsPrim (set_value accepted.set accepted.textures) accepted.scene.uses) g.prims) accepted.scene.frames 0 f c.in-Ok.ensures.variables at) at_prim)
+    (item_of (λ (g : FrameValue). All (FitsPrim (set_value accepted.set accepted.textures) accepted.scene.uses) g.prims) accepted.scene.frames 0 f c.in-Ok.ensures.fits.variables at) at_prim)
